@@ -1,0 +1,38 @@
+-- Packet numbers (PSN) and message numbers (MSN): counting modulo 2^24.
+-- Every definition takes any number: one over 24 bits counts as its remainder.
+use Prim.Native.Nat.{ℕ, _+_, _-_, _%_, _≤_}
+use mathlib.Core.Bool.{cond}
+use mathlib.Core.Path.{_≡_}
+use lib.Dec.{eqb, ltb, leb}
+use Rattle.sequence.specs.declared.Psn.{Psn}
+use Rattle.sequence.specs.declared.Msn.{Msn}
+use Rattle.sequence.specs.declared.Class.{Class}
+use Rattle.sequence.specs.declared.Class.the-variants.{Expected, Ahead, Duplicate}
+
+-- how many numbers there are, and how many of them are ahead of the expected one
+abbrev pub space : ℕ
+space = 16777216
+
+abbrev pub half : ℕ
+half = 8388608
+
+-- PSN minus expected, modulo 16,777,216
+abbrev pub distance : ℕ → ℕ → ℕ
+distance psn expected = (psn % space + space - expected % space) % space
+
+-- n more, modulo 16,777,216
+abbrev pub after : ℕ → ℕ → ℕ
+after number n = (number + n) % space
+
+abbrev pub psnAfter : Psn → ℕ → Psn
+psnAfter psn n = record { 0 = after (psn .0) n }
+
+abbrev pub msnAfter : Msn → Msn
+msnAfter msn = record { 0 = after (msn .0) 1 }
+
+-- by the distance: 0 is expected, 1 to 8,388,608 is ahead, the other 8,388,607 values are duplicates
+unfoldable pub classAt : ℕ → Class
+classAt d = cond (eqb d 0) Expected (cond (leb d half) Ahead Duplicate)
+
+unfoldable pub psnClass : ℕ → ℕ → Class
+psnClass psn expected = classAt (distance psn expected)
