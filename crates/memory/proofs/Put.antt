@@ -1,0 +1,70 @@
+-- Laws of bytes placed in memory.
+use Prim.Native.Nat.{ℕ, _+_, _-_, _≤_, _<_}
+use mathlib.Core.Path.{_≡_, refl, sym, ap, subst, _∙_}
+use mathlib.Core.Bool.{Bool, true, false, cond}
+use mathlib.Core.List.{List, [], _++_, append-nil, append-assoc}
+use native.Mathlib.Omega.{arith}
+use lib.Dec.{leb}
+use lib.ListN.{length, take, drop, getD, length-append, length-take, length-drop, drop-of-length-le, List·getD-append}
+use lib.Seq.{take-length, drop-drop, take-at, drop-at, getD-take, getD-drop, getD-append-add, take-append-le, drop-append-add}
+use borrow.Author.Tests.{le-leb, lt-leb, leb-true}
+use borrow.Rule.Slice.PartMut.{putMid, midOf}
+use Rattle.memory.specs.Memory.{put, placed}
+
+-- what fits is placed
+pub placed-put : (m : List ℕ) (at : ℕ) (d : List ℕ) → at + length d ≤ length m → placed m at d ≡ put m at d
+unfolding placed
+placed-put m at d h = rw (le-leb (at + length d) (length m) h)
+
+-- what does not fit is not
+pub placed-over : (m : List ℕ) (at : ℕ) (d : List ℕ) → length m < at + length d → placed m at d ≡ m
+unfolding placed
+placed-over m at d h = rw (lt-leb (at + length d) (length m) h)
+
+-- the length is kept
+pub length-put : (m : List ℕ) (at : ℕ) (d : List ℕ) → at + length d ≤ length m → length (put m at d) ≡ length m
+unfolding put
+length-put m at d h = simp (length-append, length-take, length-drop) (omega arith)
+
+pub length-placed : (m : List ℕ) (at : ℕ) (d : List ℕ) → length (placed m at d) ≡ length m
+unfolding placed
+length-placed m at d = go (leb (at + length d) (length m)) refl
+  where
+    go : (b : Bool) → leb (at + length d) (length m) ≡ b → length (cond b (put m at d) m) ≡ length m
+    go true e = length-put m at d (leb-true (at + length d) (length m) e)
+    go false e = refl
+
+beside : (d e x : List ℕ) → put (d ++ x) (length d) e ≡ (d ++ e) ++ drop (length e) x
+unfolding put
+beside d e x = rw (take-at d x (length d) refl, drop-append-add d x (length e), append-assoc d e)
+
+-- at the start of memory
+pub put-start : (m d : List ℕ) → put m 0 d ≡ d ++ drop (length d) m
+unfolding put
+put-start m d =
+    let e : 0 + length d ≡ length d = omega arith in
+    ap (λ n. d ++ drop n m) e
+
+-- two parts side by side are one
+pub put-put : (m d e : List ℕ) → put (put m 0 d) (length d) e ≡ put m 0 (d ++ e)
+put-put m d e =
+    rw (put-start m d, put-start m (d ++ e)) (go (drop (length d) m) refl)
+  where
+    go : (x : List ℕ) → drop (length d) m ≡ x → put (d ++ x) (length d) e ≡ (d ++ e) ++ drop (length (d ++ e)) m
+    go x q =
+        let l : drop (length (d ++ e)) m ≡ drop (length e) x =
+        rw (length-append d e) (sym (drop-drop (length e) (length d) m) ∙ ap (drop (length e)) q) in
+        rw l (beside d e x)
+
+-- what the kit's copy leaves in a part as long as its source is the source
+module _ (m d : List ℕ) (at e : ℕ) (l : at + length d ≡ e) where
+  whole : take (length d) d ++ drop (length d) (midOf at (e - at) m) ≡ d
+  whole =
+      let h : length (midOf at (e - at) m) ≤ length d = simp (length-take, length-drop) (omega arith) in
+      rw (drop-of-length-le (midOf at (e - at) m) h, append-nil, take-length)
+
+  pub copied : putMid at (e - at) m (take (length d) d ++ drop (length d) (midOf at (e - at) m)) ≡ put m at d
+  unfolding put
+  copied =
+      let k : at + (e - at) ≡ at + length d = omega arith in
+      rw whole (ap (λ x. take at m ++ (d ++ x)) (drop-drop (e - at) at m ∙ ap (λ n. drop n m) k))

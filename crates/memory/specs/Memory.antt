@@ -1,0 +1,14 @@
+-- Bytes placed in the middle of lent memory.
+use Prim.Native.Nat.{ℕ, _+_}
+use mathlib.Core.Bool.{Bool, true, false, cond}
+use mathlib.Core.List.{List, _++_}
+use lib.Dec.{leb}
+use lib.ListN.{length, take, drop}
+
+-- the bytes d in the place of those from at on
+unfoldable pub put : List ℕ → ℕ → List ℕ → List ℕ
+put m at d = take at m ++ (d ++ drop (at + length d) m)
+
+-- the same where they fit; memory unchanged where they do not
+unfoldable pub placed : List ℕ → ℕ → List ℕ → List ℕ
+placed m at d = cond (leb (at + length d) (length m)) (put m at d) m
