@@ -1,0 +1,30 @@
+-- A packet as long as its headers has room for each of them.
+use Prim.Native.Nat.{ℕ, _%_, _≤_}
+use mathlib.Core.Path.{_≡_, refl, sym, ap, subst, _∙_}
+use mathlib.Core.Bool.{Bool, true, false, cond, not, true≢false}
+use native.Mathlib.Omega.{arith}
+use lib.Dec.{ltb, eqb}
+use borrow.Author.Tests.{ltb-false}
+use Rattle.opcode.specs.Opcode.{classOf, lengthOf}
+use Rattle.opcode.specs.declared.OpcodeClass.{OpcodeClass}
+use Rattle.opcode.proofs.Classes.{class-length}
+use Rattle.header.specs.Read.{badLength}
+
+-- the class's headers, where the class is known
+pub room : (f g : ℕ) {n : ℕ} → f ≡ g → lengthOf f ≤ n → lengthOf g ≤ n
+room f g {n} e h = subst (λ x. lengthOf x ≤ n) e h
+
+-- the headers that follow, where the class's length is there
+pub room-of-class : (k : OpcodeClass) (opcode n : ℕ) → k ≡ classOf opcode → k .length ≤ n → lengthOf (k .follows) ≤ n
+room-of-class k opcode n e h =
+    let l : k .length ≡ lengthOf (k .follows) = ap (λ x. x .length) e ∙ (class-length opcode ∙ ap (λ x. lengthOf (x .follows)) (sym e)) in
+    subst (λ x. x ≤ n) l h
+
+-- a packet of no bad length has a BTH
+pub whole : (n : ℕ) → badLength n ≡ false → 12 ≤ n
+unfolding badLength
+whole n h = go (ltb n 12) (cond (ltb 4128 n) true (not (eqb (n % 4) 0))) refl h
+  where
+    go : (b x : Bool) → ltb n 12 ≡ b → cond b true x ≡ false → 12 ≤ n
+    go true x e k = absurd (true≢false k)
+    go false x e k = ltb-false n 12 e

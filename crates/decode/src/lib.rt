@@ -1,0 +1,155 @@
+// Headers read from the bytes of a packet, with no copy of them.
+mod field;
+
+use field::be16;
+use field::be24;
+use field::be32;
+use field::be64;
+use header::Aeth;
+use header::AtomicEth;
+use header::Bth;
+use header::Extension;
+use header::Header;
+use header::HeaderRead;
+use header::Reth;
+use sequence::Msn;
+use sequence::Psn;
+ghost use mathlib.Core.Path.{_≡_};
+ghost use Prim.Native.Nat.{_≤_};
+ghost use lib.ListN.{length};
+ghost use Rattle.opcode.specs.Opcode.{lengthOf};
+ghost use Rattle.header.specs.Read.{bthOf, rethOf, atomicOf, aethOf, extensionOf, badLength, otherService, readHeader};
+
+fn read_bth(p: &[u8]) -> Bth
+    requires { ⌜ 12 ≤ length (now p) ⌝ }
+    ensures { λ r. ⌜ r ≡ bthOf (now (p .entry)) ⌝ }
+{
+    let opcode = p[0];
+    let flags = p[1];
+    let pkey = be16(p, 2);
+    let reserved8 = p[4];
+    let dest = be24(p, 5);
+    let ack = p[8];
+    let psn = Psn(be24(p, 9));
+    Bth {
+        opcode,
+        se: 128 <= flags,
+        migreq: 64 <= flags % 128,
+        pad: flags / 16 % 4,
+        tver: flags % 16,
+        pkey,
+        reserved8,
+        dest,
+        ackreq: 128 <= ack,
+        reserved7: ack % 128,
+        psn,
+    }
+}
+
+fn read_reth(p: &[u8]) -> Reth
+    requires { ⌜ 28 ≤ length (now p) ⌝ }
+    ensures { λ r. ⌜ r ≡ rethOf (now (p .entry)) ⌝ }
+{
+    Reth {
+        address: be64(p, 12),
+        key: be32(p, 20),
+        length: be32(p, 24),
+    }
+}
+
+fn read_atomic(p: &[u8]) -> AtomicEth
+    requires { ⌜ 40 ≤ length (now p) ⌝ }
+    ensures { λ r. ⌜ r ≡ atomicOf (now (p .entry)) ⌝ }
+{
+    AtomicEth {
+        address: be64(p, 12),
+        key: be32(p, 20),
+        swap: be64(p, 24),
+        compare: be64(p, 32),
+    }
+}
+
+fn read_aeth(p: &[u8]) -> Aeth
+    requires { ⌜ 16 ≤ length (now p) ⌝ }
+    ensures { λ r. ⌜ r ≡ aethOf (now (p .entry)) ⌝ }
+{
+    let syndrome = p[12];
+    let msn = Msn(be24(p, 13));
+    Aeth { syndrome, msn }
+}
+
+// The headers after the BTH, of the opcode's class, for which the packet is long enough.
+fn read_extension(p: &[u8], follows: u8) -> Extension
+    requires { ⌜ lengthOf follows ≤ length (now p) ⌝ }
+    ensures { λ r. ⌜ r ≡ extensionOf follows (now (p .entry)) ⌝ }
+{
+    if follows == opcode::RETH {
+        let reth = read_reth(p);
+        return Extension::Remote(reth);
+    }
+    if follows == opcode::RETH_IMMEDIATE {
+        let reth = read_reth(p);
+        let immediate = be32(p, 28);
+        return Extension::RemoteImmediate(reth, immediate);
+    }
+    if follows == opcode::IMMEDIATE {
+        let immediate = be32(p, 12);
+        return Extension::Immediate(immediate);
+    }
+    if follows == opcode::ATOMIC_ETH {
+        let atomic = read_atomic(p);
+        return Extension::Atomic(atomic);
+    }
+    if follows == opcode::AETH {
+        let aeth = read_aeth(p);
+        return Extension::Acknowledge(aeth);
+    }
+    if follows == opcode::AETH_ATOMIC_ACK {
+        let aeth = read_aeth(p);
+        let value = be64(p, 16);
+        return Extension::AtomicAcknowledge(aeth, value);
+    }
+    Extension::Bare
+}
+
+fn bad_length(n: usize) -> bool
+    ensures { λ r. ⌜ r ≡ badLength n ⌝ }
+{
+    if n < 12 {
+        return true;
+    }
+    if 4128 < n {
+        return true;
+    }
+    n % 4 != 0
+}
+
+fn other_service(service: u8) -> bool
+    ensures { λ r. ⌜ r ≡ otherService service ⌝ }
+{
+    opcode::UC < service
+}
+
+// The header of a packet of any bytes, or the check that failed first.
+pub fn read(p: &[u8]) -> HeaderRead
+    ensures { λ r. ⌜ r ≡ readHeader (now (p .entry)) ⌝ }
+{
+    let bad = bad_length(p.len());
+    if bad {
+        return HeaderRead::Dropped(1);
+    }
+    let bth = read_bth(p);
+    if bth.tver != 0 {
+        return HeaderRead::Dropped(2);
+    }
+    let other = other_service(bth.opcode / 32);
+    if other {
+        return HeaderRead::Dropped(5);
+    }
+    let class = opcode::class(bth.opcode);
+    if p.len() < class.length {
+        return HeaderRead::Dropped(8);
+    }
+    let extension = read_extension(p, class.follows);
+    HeaderRead::Accepted(Header { bth, extension })
+}

@@ -1,0 +1,36 @@
+-- The header checks of a queue pair, each a quiet drop.
+use Prim.Native.Nat.{ℕ, _%_}
+use mathlib.Core.Bool.{Bool, true, false, cond, not, _&&_, _||_}
+use mathlib.Core.List.{List}
+use lib.Dec.{leb, ltb, eqb}
+use lib.ListN.{length}
+use Rattle.opcode.specs.Opcode.{classOf, serviceOf, lowOf}
+use Rattle.header.specs.Read.{bthOf, badLength, readBy}
+use Rattle.header.specs.declared.HeaderRead.{HeaderRead}
+
+-- low 15 bits equal to ours, not 0, and at least one top bit set
+unfoldable pub pkeysMatch : ℕ → ℕ → Bool
+pkeysMatch theirs ours =
+    eqb (theirs % 32768) (ours % 32768)
+    && (not (eqb (theirs % 32768) 0) && (leb 32768 theirs || leb 32768 ours))
+
+-- the opcodes that a responder does not let through: responses, 13 to 18
+unfoldable pub isResponse : ℕ → Bool
+isResponse low = leb 13 low && leb low 18
+
+-- on UC, an opcode above 11
+unfoldable pub beyondService : ℕ → ℕ → Bool
+beyondService service low = eqb service 1 && ltb 11 low
+
+-- the header check that fails first, 1 to 9 in their order, or 0
+unfoldable pub headerReason : ℕ → ℕ → ℕ → Bool → List ℕ → ℕ
+headerReason service ours pkey ready p =
+    cond (badLength (length p)) 1
+    (cond (not (eqb (bthOf p .tver) 0)) 2
+    (cond (not (eqb (bthOf p .dest) ours)) 3
+    (cond (not (pkeysMatch (bthOf p .pkey) pkey)) 4
+    (cond (not (eqb (serviceOf (bthOf p .opcode)) service)) 5
+    (cond (isResponse (lowOf (bthOf p .opcode))) 6
+    (cond (beyondService service (lowOf (bthOf p .opcode))) 7
+    (cond (ltb (length p) (classOf (bthOf p .opcode) .length)) 8
+    (cond ready 0 9))))))))

@@ -1,0 +1,84 @@
+-- Reading a header: any bytes in.
+use Prim.Native.Nat.{ℕ, _+_, _*_, _/_, _%_}
+use mathlib.Core.Bool.{Bool, true, false, cond, not}
+use mathlib.Core.List.{List}
+use lib.Dec.{leb, ltb, eqb}
+use lib.ListN.{length, getD}
+use Rattle.opcode.specs.Opcode.{classOf, serviceOf}
+use Rattle.header.specs.Bytes.{be2, be3, be4, be8}
+use Rattle.header.specs.declared.Bth.{Bth}
+use Rattle.header.specs.declared.Reth.{Reth}
+use Rattle.header.specs.declared.AtomicEth.{AtomicEth}
+use Rattle.header.specs.declared.Aeth.{Aeth}
+use Rattle.header.specs.declared.Extension.{Extension}
+use Rattle.header.specs.declared.Extension.the-variants.{Bare, Remote, RemoteImmediate, Immediate, Atomic, Acknowledge, AtomicAcknowledge}
+use Rattle.header.specs.declared.Header.{Header}
+use Rattle.header.specs.declared.HeaderRead.{HeaderRead}
+use Rattle.header.specs.declared.HeaderRead.the-variants.{Accepted, Dropped}
+
+-- BTH, 12 bytes: opcode; SE 1 bit, MigReq 1, PadCnt 2, TVer 4; P_Key 16; reserved 8; DestQP 24; AckReq 1,
+-- reserved 7; PSN 24
+unfoldable pub bthOf : List ℕ → Bth
+bthOf p =
+    record {
+      opcode = getD p 0 0;
+      se = leb 128 (getD p 1 0);
+      migreq = leb 64 (getD p 1 0 % 128);
+      pad = getD p 1 0 / 16 % 4;
+      tver = getD p 1 0 % 16;
+      pkey = be2 p 2;
+      reserved8 = getD p 4 0;
+      dest = be3 p 5;
+      ackreq = leb 128 (getD p 8 0);
+      reserved7 = getD p 8 0 % 128;
+      psn = record { 0 = be3 p 9 };
+    }
+
+-- after the BTH. RETH 16: address 64, R_Key 32, DMA length 32
+unfoldable pub rethOf : List ℕ → Reth
+rethOf p = record { address = be8 p 12; key = be4 p 20; length = be4 p 24 }
+
+-- AtomicETH 28: address 64, R_Key 32, swap-or-add 64, compare 64
+unfoldable pub atomicOf : List ℕ → AtomicEth
+atomicOf p = record { address = be8 p 12; key = be4 p 20; swap = be8 p 24; compare = be8 p 32 }
+
+-- AETH 4: syndrome 8, MSN 24
+unfoldable pub aethOf : List ℕ → Aeth
+aethOf p = record { syndrome = getD p 12 0; msn = record { 0 = be3 p 13 } }
+
+-- the headers after the BTH, by the opcode's class; Immediate stands last, AtomicAckETH after the AETH
+unfoldable pub extensionOf : ℕ → List ℕ → Extension
+extensionOf follows p =
+    cond (eqb follows 1) (Remote (rethOf p))
+    (cond (eqb follows 2) (RemoteImmediate (rethOf p) (be4 p 28))
+    (cond (eqb follows 3) (Immediate (be4 p 12))
+    (cond (eqb follows 4) (Atomic (atomicOf p))
+    (cond (eqb follows 5) (Acknowledge (aethOf p))
+    (cond (eqb follows 6) (AtomicAcknowledge (aethOf p) (be8 p 16)) Bare)))))
+
+unfoldable pub headerOf : List ℕ → Header
+headerOf p = record { bth = bthOf p; extension = extensionOf (classOf (bthOf p .opcode) .follows) p }
+
+-- a packet is 12 to 4,128 bytes, a multiple of 4
+unfoldable pub badLength : ℕ → Bool
+badLength n = cond (ltb n 12) true (cond (ltb 4128 n) true (not (eqb (n % 4) 0)))
+
+-- RC 000 or UC 001
+unfoldable pub otherService : ℕ → Bool
+otherService service = ltb 1 service
+
+-- reading alone tests lengths, TVer, service bits, then too short: the first that fails, by its number among
+-- the header checks, or 0
+unfoldable pub readReason : List ℕ → ℕ
+readReason p =
+    cond (badLength (length p)) 1
+    (cond (not (eqb (bthOf p .tver) 0)) 2
+    (cond (otherService (serviceOf (bthOf p .opcode))) 5
+    (cond (ltb (length p) (classOf (bthOf p .opcode) .length)) 8 0)))
+
+-- what a reason makes of a packet
+unfoldable pub readBy : ℕ → List ℕ → HeaderRead
+readBy reason p = cond (eqb reason 0) (Accepted (headerOf p)) (Dropped reason)
+
+unfoldable pub readHeader : List ℕ → HeaderRead
+readHeader p = readBy (readReason p) p

@@ -1,0 +1,101 @@
+-- Writing a header.
+use Prim.Native.Nat.{ℕ, _+_, _*_, _/_, _%_, _^_}
+use mathlib.Core.Bool.{Bool, true, false, cond, not, _&&_}
+use mathlib.Core.List.{List, [], _∷_, _++_}
+use lib.Dec.{leb, ltb, eqb}
+use lib.ListN.{length, drop}
+use Rattle.opcode.specs.Opcode.{classOf, serviceOf}
+use Rattle.header.specs.Bytes.{two, three, four, eight, bit}
+use Rattle.header.specs.Read.{otherService}
+use Rattle.header.specs.declared.Bth.{Bth}
+use Rattle.header.specs.declared.Reth.{Reth}
+use Rattle.header.specs.declared.AtomicEth.{AtomicEth}
+use Rattle.header.specs.declared.Aeth.{Aeth}
+use Rattle.header.specs.declared.Extension.{Extension}
+use Rattle.header.specs.declared.Extension.the-variants.{Bare, Remote, RemoteImmediate, Immediate, Atomic, Acknowledge, AtomicAcknowledge}
+use Rattle.header.specs.declared.Header.{Header}
+use Rattle.header.specs.declared.HeaderWritten.{HeaderWritten}
+use Rattle.header.specs.declared.HeaderWritten.the-variants.{Done, Refused}
+
+-- the bytes of each header, its fields in wire order
+abbrev pub flagsByte : Bth → ℕ
+flagsByte b = bit (b .se) * 128 + bit (b .migreq) * 64 + b .pad % 4 * 16 + b .tver % 16
+
+abbrev pub ackByte : Bth → ℕ
+ackByte b = bit (b .ackreq) * 128 + b .reserved7 % 128
+
+unfoldable pub bthBytes : Bth → List ℕ
+bthBytes b =
+    (b .opcode ∷ flagsByte b ∷ two (b .pkey))
+    ++ ((b .reserved8 ∷ three (b .dest)) ++ (ackByte b ∷ three (b .psn .0)))
+
+unfoldable pub rethBytes : Reth → List ℕ
+rethBytes r = eight (r .address) ++ (four (r .key) ++ four (r .length))
+
+unfoldable pub atomicBytes : AtomicEth → List ℕ
+atomicBytes a = eight (a .address) ++ (four (a .key) ++ (eight (a .swap) ++ eight (a .compare)))
+
+unfoldable pub aethBytes : Aeth → List ℕ
+aethBytes a = a .syndrome ∷ three (a .msn .0)
+
+unfoldable pub extensionBytes : Extension → List ℕ
+extensionBytes Bare = []
+extensionBytes (Remote r) = rethBytes r
+extensionBytes (RemoteImmediate r i) = rethBytes r ++ four i
+extensionBytes (Immediate i) = four i
+extensionBytes (Atomic a) = atomicBytes a
+extensionBytes (Acknowledge a) = aethBytes a
+extensionBytes (AtomicAcknowledge a v) = aethBytes a ++ eight v
+
+unfoldable pub headerBytes : Header → List ℕ
+headerBytes h = bthBytes (h .bth) ++ extensionBytes (h .extension)
+
+-- each field within its width, TVer 0, a service that is RC or UC
+unfoldable pub bthFits : Bth → Bool
+bthFits b =
+    ltb (b .opcode) (2 ^ 8)
+    && (not (otherService (serviceOf (b .opcode)))
+    && (ltb (b .pad) (2 ^ 2)
+    && (eqb (b .tver) 0
+    && (ltb (b .pkey) (2 ^ 16)
+    && (ltb (b .reserved8) (2 ^ 8)
+    && (ltb (b .dest) (2 ^ 24) && (ltb (b .reserved7) (2 ^ 7) && ltb (b .psn .0) (2 ^ 24))))))))
+
+unfoldable pub rethFits : Reth → Bool
+rethFits r = ltb (r .address) (2 ^ 64) && (ltb (r .key) (2 ^ 32) && ltb (r .length) (2 ^ 32))
+
+unfoldable pub atomicFits : AtomicEth → Bool
+atomicFits a =
+    ltb (a .address) (2 ^ 64)
+    && (ltb (a .key) (2 ^ 32) && (ltb (a .swap) (2 ^ 64) && ltb (a .compare) (2 ^ 64)))
+
+unfoldable pub aethFits : Aeth → Bool
+aethFits a = ltb (a .syndrome) (2 ^ 8) && ltb (a .msn .0) (2 ^ 24)
+
+-- the headers are those of the opcode's class, and each field is within its width
+unfoldable pub extensionFits : ℕ → Extension → Bool
+extensionFits follows Bare = eqb follows 0
+extensionFits follows (Remote r) = eqb follows 1 && rethFits r
+extensionFits follows (RemoteImmediate r i) = eqb follows 2 && (rethFits r && ltb i (2 ^ 32))
+extensionFits follows (Immediate i) = eqb follows 3 && ltb i (2 ^ 32)
+extensionFits follows (Atomic a) = eqb follows 4 && atomicFits a
+extensionFits follows (Acknowledge a) = eqb follows 5 && aethFits a
+extensionFits follows (AtomicAcknowledge a v) = eqb follows 6 && (aethFits a && ltb v (2 ^ 64))
+
+unfoldable pub headerFits : Header → Bool
+headerFits h = bthFits (h .bth) && extensionFits (classOf (h .bth .opcode) .follows) (h .extension)
+
+unfoldable pub headerLength : Header → ℕ
+headerLength h = classOf (h .bth .opcode) .length
+
+-- the answer: 39, then 35; else the header's length
+unfoldable pub written : Header → ℕ → HeaderWritten
+written h n =
+    cond (headerFits h) (cond (ltb n (headerLength h)) (Refused 35) (Done (headerLength h))) (Refused 39)
+
+-- the output: nothing written on refusal, bytes past the header unchanged
+unfoldable pub writtenOut : Header → List ℕ → List ℕ
+writtenOut h out =
+    cond (headerFits h)
+    (cond (ltb (length out) (headerLength h)) out (headerBytes h ++ drop (headerLength h) out))
+    out

@@ -1,0 +1,87 @@
+// Packet headers as values, and the P_Key test. The definitions of reading and writing them, and the
+// proof that each undoes the other, stand in specs/ and proofs/; the code in decode and encode.
+use sequence::Msn;
+use sequence::Psn;
+ghost use mathlib.Core.Path.{_≡_};
+ghost use Rattle.header.specs.Check.{pkeysMatch};
+
+// Base transport header.
+pub struct Bth {
+    pub opcode: u8,
+    pub se: bool,
+    pub migreq: bool,
+    pub pad: u8,
+    pub tver: u8,
+    pub pkey: u16,
+    pub reserved8: u8,
+    pub dest: u32,
+    pub ackreq: bool,
+    pub reserved7: u8,
+    pub psn: Psn,
+}
+
+// RDMA extended transport header.
+pub struct Reth {
+    pub address: u64,
+    pub key: u32,
+    pub length: u32,
+}
+
+// Atomic extended transport header; swap is also FetchAdd's addend.
+pub struct AtomicEth {
+    pub address: u64,
+    pub key: u32,
+    pub swap: u64,
+    pub compare: u64,
+}
+
+// Acknowledge extended transport header.
+pub struct Aeth {
+    pub syndrome: u8,
+    pub msn: Msn,
+}
+
+// The headers after the BTH, in wire order, as one value: an absent header has no field to hold junk.
+pub enum Extension {
+    Bare,
+    Remote(Reth),
+    RemoteImmediate(Reth, u32),
+    Immediate(u32),
+    Atomic(AtomicEth),
+    Acknowledge(Aeth),
+    AtomicAcknowledge(Aeth, u64),
+}
+
+pub struct Header {
+    pub bth: Bth,
+    pub extension: Extension,
+}
+
+// What reading finds: the header, or the number of the check that failed first: 1 lengths, 2 TVer,
+// 5 service, 8 too short for its headers.
+pub enum HeaderRead {
+    Accepted(Header),
+    Dropped(u8),
+}
+
+// What writing did: the bytes written, or the refusal: 39 no such header, 35 output too short.
+pub enum HeaderWritten {
+    Done(usize),
+    Refused(u8),
+}
+
+// Whether two P_Keys match, so that their owners may talk.
+pub fn pkeys_match(theirs: u16, ours: u16) -> bool
+    ensures { λ r. ⌜ r ≡ pkeysMatch theirs ours ⌝ }
+{
+    if theirs % 32768 != ours % 32768 {
+        return false;
+    }
+    if theirs % 32768 == 0 {
+        return false;
+    }
+    if 32768 <= theirs {
+        return true;
+    }
+    32768 <= ours
+}
