@@ -72,15 +72,37 @@ atomicFits a =
 unfoldable pub aethFits : Aeth → Bool
 aethFits a = ltb (a .syndrome) (2 ^ 8) && ltb (a .msn .0) (2 ^ 24)
 
+unfoldable pub immediateFits : ℕ → Bool
+immediateFits i = ltb i (2 ^ 32)
+
+unfoldable pub rethImmediateFits : Reth → ℕ → Bool
+rethImmediateFits r i = rethFits r && immediateFits i
+
+unfoldable pub aethValueFits : Aeth → ℕ → Bool
+aethValueFits a v = aethFits a && ltb v (2 ^ 64)
+
+unfoldable pub widthsFit : Extension → Bool
+widthsFit Bare = true
+widthsFit (Remote r) = rethFits r
+widthsFit (RemoteImmediate r i) = rethImmediateFits r i
+widthsFit (Immediate i) = immediateFits i
+widthsFit (Atomic a) = atomicFits a
+widthsFit (Acknowledge a) = aethFits a
+widthsFit (AtomicAcknowledge a v) = aethValueFits a v
+
+-- which headers these are, by the number that an opcode's class gives them
+unfoldable pub followsBy : Extension → ℕ
+followsBy Bare = 0
+followsBy (Remote r) = 1
+followsBy (RemoteImmediate r i) = 2
+followsBy (Immediate i) = 3
+followsBy (Atomic a) = 4
+followsBy (Acknowledge a) = 5
+followsBy (AtomicAcknowledge a v) = 6
+
 -- the headers are those of the opcode's class, and each field is within its width
 unfoldable pub extensionFits : ℕ → Extension → Bool
-extensionFits follows Bare = eqb follows 0
-extensionFits follows (Remote r) = eqb follows 1 && rethFits r
-extensionFits follows (RemoteImmediate r i) = eqb follows 2 && (rethFits r && ltb i (2 ^ 32))
-extensionFits follows (Immediate i) = eqb follows 3 && ltb i (2 ^ 32)
-extensionFits follows (Atomic a) = eqb follows 4 && atomicFits a
-extensionFits follows (Acknowledge a) = eqb follows 5 && aethFits a
-extensionFits follows (AtomicAcknowledge a v) = eqb follows 6 && (aethFits a && ltb v (2 ^ 64))
+extensionFits follows e = eqb follows (followsBy e) && widthsFit e
 
 unfoldable pub headerFits : Header → Bool
 headerFits h = bthFits (h .bth) && extensionFits (classOf (h .bth .opcode) .follows) (h .extension)

@@ -1,1 +1,3 @@
 pub mod Auto
+pub mod Tests
+pub mod Numbers

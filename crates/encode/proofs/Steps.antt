@@ -1,0 +1,60 @@
+-- Writing step by step: from what each function answered to what the definitions say.
+use Prim.Native.Nat.{ℕ, _≤_, _<_}
+use mathlib.Core.Path.{_≡_, refl, sym, ap, subst, _∙_}
+use mathlib.Core.Bool.{Bool, true, false, not}
+use mathlib.Core.List.{List, _++_}
+use lib.ListN.{length, drop}
+use Rattle.laws.proofs.Tests.{not-true, not-false}
+use Rattle.opcode.specs.Opcode.{classOf}
+use Rattle.opcode.specs.declared.OpcodeClass.{OpcodeClass}
+use Rattle.memory.specs.Memory.{placed}
+use Rattle.header.specs.Write.{bthFits, extensionFits, headerFits, headerLength, bthBytes, extensionBytes, headerBytes, written, writtenOut}
+use Rattle.header.specs.declared.Header.{Header}
+use Rattle.header.specs.declared.HeaderWritten.the-variants.{Done, Refused}
+use Rattle.header.proofs.Writes.{bth-off, extension-off, both-fit, refused, short, done, two-parts}
+
+-- a refusal by the BTH
+pub by-bth : (h : Header) (out : List ℕ) (u : Bool) → u ≡ not (bthFits (h .bth)) → u ≡ true
+    → (Refused 39 ≡ written h (length out)) × (out ≡ writtenOut h out)
+by-bth h out u e t =
+    let R = refused h out (bth-off h (not-true (bthFits (h .bth)) u e t)) in
+    (sym (R .0), sym (R .1))
+
+-- what holds after it: the BTH fits, and k is the class of its opcode
+module _ (h : Header) (out : List ℕ) (u : Bool) (e : u ≡ not (bthFits (h .bth))) (f : u ≡ false) (k : OpcodeClass)
+    (is : k ≡ classOf (h .bth .opcode)) (v : Bool) (x : v ≡ not (extensionFits (k .follows) (h .extension))) where
+  head : bthFits (h .bth) ≡ true
+  head = not-false (bthFits (h .bth)) u e f
+
+  told : v ≡ not (extensionFits (classOf (h .bth .opcode) .follows) (h .extension))
+  told = subst (λ z. v ≡ not (extensionFits (z .follows) (h .extension))) is x
+
+  size : k .length ≡ headerLength h
+  unfolding headerLength
+  size = ap (λ z. z .length) is
+
+  -- a refusal by the headers after it
+  pub by-extension : v ≡ true → (Refused 39 ≡ written h (length out)) × (out ≡ writtenOut h out)
+  by-extension t =
+      let R = refused h out (extension-off h head (not-true (extensionFits (classOf (h .bth .opcode) .follows) (h .extension)) v told t)) in
+      (sym (R .0), sym (R .1))
+
+  good : v ≡ false → headerFits h ≡ true
+  good t = both-fit h head (not-false (extensionFits (classOf (h .bth .opcode) .follows) (h .extension)) v told t)
+
+  -- a refusal by the output's length
+  pub by-length : v ≡ false → length out < k .length → (Refused 35 ≡ written h (length out)) × (out ≡ writtenOut h out)
+  by-length t l =
+      let R = short h out (good t) (subst (λ n. length out < n) size l) in
+      (sym (R .0), sym (R .1))
+
+  -- the header written: the BTH's bytes b first, the other headers into what that left
+  pub whole : (b m w : List ℕ) → v ≡ false → k .length ≤ length out → b ≡ bthBytes (h .bth) → m ≡ placed out 0 b
+      → w ≡ placed m 12 (extensionBytes (h .extension))
+      → (Done (k .length) ≡ written h (length out)) × (w ≡ writtenOut h out)
+  whole b m w t l p q r =
+      let n : headerLength h ≤ length out = subst (λ s. s ≤ length out) size l in
+      let D = done h out (good t) n in (
+        ap Done size ∙ sym (D .0),
+        r ∙ (ap (λ z. placed z 12 (extensionBytes (h .extension))) (q ∙ ap (placed out 0) p) ∙ (two-parts h out (good t) n ∙ sym (D .1))),
+      )

@@ -1,0 +1,18 @@
+use Rattle.header.specs.Write.{rethImmediateFits, immediateFits, rethFits}
+use Prim.Native.Nat.{_^_}
+use native.Mathlib.Omega.{arith}
+use borrow.Author.Tests.{lt-ltb}
+use Rattle.encode.proofs.width.reth_immediate_unfit.Statement.{statement}
+use Rattle.encode.proofs.width.reth_immediate_unfit.Tie as tie
+use Rattle.encode.proofs.width.reth_immediate_unfit.Reads as reads
+use Rattle.encode.proofs.width.reth_immediate_unfit.Lts as lts
+
+-- src/width.rt:19:1
+returns : tie.Need-returns
+unfolding rethImmediateFits immediateFits rethFits
+returns c =
+    let A = c .args in
+    simp (lt-ltb (A .r .address) (2 ^ 64) (omega arith), lt-ltb (A .r .key) (2 ^ 32) (omega arith), lt-ltb (A .r .length) (2 ^ 32) (omega arith), lt-ltb (A .i) (2 ^ 32) (omega arith))
+
+pub reth-immediate-unfit-spec : {M : Type 1} → statement M
+reth-immediate-unfit-spec = tie.close (tie.spec returns)

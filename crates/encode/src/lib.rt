@@ -1,0 +1,135 @@
+// Headers written as bytes.
+mod part;
+mod width;
+
+use header::Bth;
+use header::Extension;
+use header::Header;
+use header::HeaderWritten;
+ghost use mathlib.Core.Path.{_≡_};
+ghost use mathlib.Core.Bool.{not};
+ghost use lib.ListN.{length};
+ghost use Rattle.memory.specs.Memory.{placed};
+ghost use Rattle.header.specs.Write.{bthFits, followsBy, widthsFit, extensionFits, extensionBytes, written, writtenOut};
+
+// A field over its width, a TVer or a service that no header here has. What a field's own type bounds
+// is not tested again.
+fn bth_unfit(b: Bth) -> bool
+    ensures { λ r. ⌜ r ≡ not (bthFits b) ⌝ }
+{
+    if opcode::UC < b.opcode / 32 {
+        return true;
+    }
+    if 4 <= b.pad {
+        return true;
+    }
+    if b.tver != 0 {
+        return true;
+    }
+    if 16777216 <= b.dest {
+        return true;
+    }
+    if 128 <= b.reserved7 {
+        return true;
+    }
+    let psn = b.psn;
+    16777216 <= psn.0
+}
+
+// Which headers these are, as an opcode's class numbers them.
+fn follows_by(e: Extension) -> u8
+    ensures { λ r. ⌜ r ≡ followsBy e ⌝ }
+{
+    match e {
+        Extension::Bare => opcode::NONE,
+        Extension::Remote(_) => opcode::RETH,
+        Extension::RemoteImmediate(_, _) => opcode::RETH_IMMEDIATE,
+        Extension::Immediate(_) => opcode::IMMEDIATE,
+        Extension::Atomic(_) => opcode::ATOMIC_ETH,
+        Extension::Acknowledge(_) => opcode::AETH,
+        Extension::AtomicAcknowledge(_, _) => opcode::AETH_ATOMIC_ACK,
+    }
+}
+
+fn widths_unfit(e: Extension) -> bool
+    ensures { λ u. ⌜ u ≡ not (widthsFit e) ⌝ }
+{
+    match e {
+        Extension::Bare => false,
+        Extension::Remote(r) => width::reth_unfit(r),
+        Extension::RemoteImmediate(r, i) => width::reth_immediate_unfit(r, i),
+        Extension::Immediate(i) => width::immediate_unfit(i),
+        Extension::Atomic(a) => width::atomic_unfit(a),
+        Extension::Acknowledge(a) => width::aeth_unfit(a),
+        Extension::AtomicAcknowledge(a, v) => width::aeth_value_unfit(a, v),
+    }
+}
+
+// Headers that are not those of the opcode's class, or a field of theirs over its width.
+fn extension_unfit(follows: u8, e: Extension) -> bool
+    ensures { λ r. ⌜ r ≡ not (extensionFits follows e) ⌝ }
+{
+    let own = follows_by(e);
+    if follows != own {
+        return true;
+    }
+    widths_unfit(e)
+}
+
+// The headers after the BTH, where the output has room for them.
+fn write_extension(out: &mut [u8], e: Extension)
+    ensures { λ _. ⌜ now (out .exit) ≡ placed (now (out .entry)) 12 (extensionBytes e) ⌝ }
+{
+    match e {
+        Extension::Bare => memory::place(out, 12, &[]),
+        Extension::Remote(r) => {
+            let b = part::reth_bytes(r);
+            memory::place(out, 12, &b)
+        }
+        Extension::RemoteImmediate(r, i) => {
+            let b = part::reth_immediate_bytes(r, i);
+            memory::place(out, 12, &b)
+        }
+        Extension::Immediate(i) => {
+            let b = part::immediate_bytes(i);
+            memory::place(out, 12, &b)
+        }
+        Extension::Atomic(a) => {
+            let b = part::atomic_bytes(a);
+            memory::place(out, 12, &b)
+        }
+        Extension::Acknowledge(a) => {
+            let b = part::aeth_bytes(a);
+            memory::place(out, 12, &b)
+        }
+        Extension::AtomicAcknowledge(a, v) => {
+            let b = part::aeth_value_bytes(a, v);
+            memory::place(out, 12, &b)
+        }
+    }
+}
+
+// Writes the header at the start of the output.
+pub fn write(h: Header, out: &mut [u8]) -> HeaderWritten
+    ensures { λ r. ⌜ r ≡ written h (length (now (out .entry))) ⌝ }
+    ensures { λ r. ⌜ now (out .exit) ≡ writtenOut h (now (out .entry)) ⌝ }
+{
+    let bth = h.bth;
+    let extension = h.extension;
+    let unfit = bth_unfit(bth);
+    if unfit {
+        return HeaderWritten::Refused(39);
+    }
+    let class = opcode::class(bth.opcode);
+    let other = extension_unfit(class.follows, extension);
+    if other {
+        return HeaderWritten::Refused(39);
+    }
+    if out.len() < class.length {
+        return HeaderWritten::Refused(35);
+    }
+    let b = part::bth_bytes(bth);
+    memory::place(out, 0, &b);
+    write_extension(out, extension);
+    HeaderWritten::Done(class.length)
+}

@@ -1,0 +1,41 @@
+-- Laws of the Boolean tests on numbers.
+use Prim.Native.Nat.{ℕ, _≤_, _<_}
+use mathlib.Core.Path.{_≡_, refl, sym, _∙_}
+use mathlib.Core.Bool.{Bool, true, false, cond, not, _&&_, true≢false}
+use lib.Dec.{leb, ltb, eqb}
+use borrow.Author.Tests.{ltb-true, ltb-false, lt-leb, le-leb}
+
+-- not below is at least
+pub not-ltb : (a b : ℕ) → not (ltb a b) ≡ leb b a
+not-ltb a b = go (ltb a b) refl
+  where
+    go : (t : Bool) → ltb a b ≡ t → not t ≡ leb b a
+    go true e = sym (lt-leb b a (ltb-true a b e))
+    go false e = sym (le-leb b a (ltb-false a b e))
+
+pub and-true : (b : Bool) → (b && true) ≡ b
+and-true true = refl
+and-true false = refl
+
+-- both of two tests hold
+pub and-left : (a b : Bool) → (a && b) ≡ true → a ≡ true
+and-left true b h = refl
+and-left false b h = h
+
+pub and-right : (a b : Bool) → (a && b) ≡ true → b ≡ true
+and-right true b h = h
+and-right false b h = absurd (true≢false (sym h))
+
+-- a flag that names a failing test
+pub not-true : (f u : Bool) → u ≡ not f → u ≡ true → f ≡ false
+not-true true u e h = sym h ∙ e
+not-true false u e h = refl
+
+pub not-false : (f u : Bool) → u ≡ not f → u ≡ false → f ≡ true
+not-false true u e h = refl
+not-false false u e h = absurd (true≢false (sym e ∙ h))
+
+-- a choice of two numbers is bounded by what bounds both
+pub cond-le : (b : Bool) {x y n : ℕ} → x ≤ n → y ≤ n → cond b x y ≤ n
+cond-le true h k = h
+cond-le false h k = k
