@@ -65,3 +65,13 @@ length-words (Immediate i) = refl
 length-words (Atomic a) = refl
 length-words (Acknowledge a) = refl
 length-words (AtomicAcknowledge a v) = refl
+
+pub length-most : (e : Extension) → 12 + length (extensionBytes e) ≤ 40
+unfolding extensionBytes rethBytes atomicBytes aethBytes
+length-most Bare = omega arith
+length-most (Remote r) = omega arith
+length-most (RemoteImmediate r i) = omega arith
+length-most (Immediate i) = omega arith
+length-most (Atomic a) = omega arith
+length-most (Acknowledge a) = omega arith
+length-most (AtomicAcknowledge a v) = omega arith

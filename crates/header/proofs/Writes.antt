@@ -6,7 +6,7 @@ use mathlib.Core.List.{List, [], _∷_, _++_}
 use native.Mathlib.Omega.{arith}
 use lib.Dec.{ltb}
 use lib.ListN.{length, drop, length-append}
-use borrow.Author.Tests.{lt-ltb, le-ltb}
+use borrow.Author.Tests.{lt-ltb, le-ltb, ltb-false}
 use Rattle.opcode.specs.Opcode.{classOf}
 use Rattle.memory.specs.Memory.{put, placed}
 use Rattle.memory.proofs.Put.{placed-put, length-placed, length-put, put-put, put-start}
@@ -61,3 +61,25 @@ two-parts h out e l =
     let joined : put (put out 0 b) 12 x ≡ put out 0 (b ++ x) = subst (λ n. put (put out 0 b) n x ≡ put out 0 (b ++ x)) lb (put-put out b x) in
     let size : length (b ++ x) ≡ headerLength h = length-header h e in
     ap (λ m. placed m 12 x) first ∙ (second ∙ (joined ∙ (put-start out (b ++ x) ∙ ap (λ n. (b ++ x) ++ drop n out) size)))
+
+-- what an answer of bytes written tells
+pub record Written (h : Header) (out : List ℕ) (n : ℕ) : Type 0 where
+  pub good : headerFits h ≡ true
+  pub size : n ≡ headerLength h
+  pub room : headerLength h ≤ length out
+
+no-done : (r n : ℕ) → Refused r ≡ Done n → ⊥
+no-done r n e = let z : _≡_ {A = ℕ} 0 1 = cc in omega arith
+
+same-done : (m n : ℕ) → Done m ≡ Done n → n ≡ m
+same-done m n e = cc
+
+pub was-written : (h : Header) (out : List ℕ) (n : ℕ) → written h (length out) ≡ Done n → Written h out n
+unfolding written
+was-written h out n e = go (headerFits h) (ltb (length out) (headerLength h)) refl refl e
+  where
+    go : (g s : Bool) → headerFits h ≡ g → ltb (length out) (headerLength h) ≡ s
+        → cond g (cond s (Refused 35) (Done (headerLength h))) (Refused 39) ≡ Done n → Written h out n
+    go false s p q f = absurd (no-done 39 n f)
+    go true true p q f = absurd (no-done 35 n f)
+    go true false p q f = record { good = p; size = same-done (headerLength h) n f; room = ltb-false (length out) (headerLength h) q }

@@ -39,3 +39,7 @@ not-false false u e h = absurd (true≢false (sym e ∙ h))
 pub cond-le : (b : Bool) {x y n : ℕ} → x ≤ n → y ≤ n → cond b x y ≤ n
 cond-le true h k = h
 cond-le false h k = k
+
+pub unnot : (b : Bool) → not b ≡ true → b ≡ false
+unnot true h = sym h
+unnot false h = refl

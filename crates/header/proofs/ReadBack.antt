@@ -1,0 +1,212 @@
+-- A header written and read back is the same.
+use Prim.Native.Nat.{ℕ, _+_, _*_, _/_, _%_, _^_, _≤_, _<_}
+use mathlib.Core.Path.{_≡_, refl, sym, ap, subst, _∙_}
+use mathlib.Core.Bool.{Bool, true, false, cond, not, _&&_}
+use mathlib.Core.List.{List, [], _∷_, _++_, append-assoc, append-nil}
+use native.Mathlib.Omega.{arith}
+use lib.Dec.{leb, ltb, eqb}
+use lib.ListN.{length, getD, take, drop, length-append}
+use lib.Seq.{take-at}
+use borrow.Author.Tests.{ltb-true, eqb-true, le-leb, lt-leb, le-ltb, eq-eqb}
+use Rattle.laws.proofs.Tests.{and-left, and-right, unnot}
+use Rattle.laws.proofs.Numbers.{two-value, three-value, four-value, eight-value}
+use Rattle.opcode.specs.Opcode.{classOf, serviceOf}
+use Rattle.header.specs.Bytes.{bit, four, eight}
+use Rattle.header.specs.Read.{bthOf, rethOf, atomicOf, aethOf, extensionOf, headerOf, badLength, otherService, readReason, readBy, readHeader}
+use Rattle.header.specs.Write.{flagsByte, ackByte, bthBytes, rethBytes, atomicBytes, aethBytes, extensionBytes, headerBytes, bthFits, rethFits, atomicFits, aethFits, immediateFits, rethImmediateFits, aethValueFits, widthsFit, followsBy, headerFits, headerLength, written, writtenOut}
+use Rattle.header.specs.Claims.{ReadPacket, ReadBack}
+use Rattle.header.proofs.Lengths.{Fits, fits, length-bth, length-is, length-header, length-words, length-most}
+use Rattle.header.proofs.Writes.{was-written, done}
+use Rattle.header.specs.declared.Bth.{Bth}
+use Rattle.header.specs.declared.Reth.{Reth}
+use Rattle.header.specs.declared.AtomicEth.{AtomicEth}
+use Rattle.header.specs.declared.Aeth.{Aeth}
+use Rattle.header.specs.declared.Extension.{Extension}
+use Rattle.header.specs.declared.Extension.the-variants.{Bare, Remote, RemoteImmediate, Immediate, Atomic, Acknowledge, AtomicAcknowledge}
+use Rattle.header.specs.declared.Header.{Header}
+use Rattle.header.specs.declared.HeaderRead.the-variants.{Accepted}
+
+-- the flags' byte: each field found again
+abbrev flags : Bool → Bool → ℕ → ℕ → ℕ
+flags s m p t = bit s * 128 + bit m * 64 + p % 4 * 16 + t % 16
+
+se-back : (s m : Bool) (p t : ℕ) → leb 128 (flags s m p t) ≡ s
+se-back true true p t = le-leb 128 (flags true true p t) (omega arith)
+se-back true false p t = le-leb 128 (flags true false p t) (omega arith)
+se-back false true p t = lt-leb 128 (flags false true p t) (omega arith)
+se-back false false p t = lt-leb 128 (flags false false p t) (omega arith)
+
+mig-back : (s m : Bool) (p t : ℕ) → leb 64 (flags s m p t % 128) ≡ m
+mig-back true true p t = le-leb 64 (flags true true p t % 128) (omega arith)
+mig-back true false p t = lt-leb 64 (flags true false p t % 128) (omega arith)
+mig-back false true p t = le-leb 64 (flags false true p t % 128) (omega arith)
+mig-back false false p t = lt-leb 64 (flags false false p t % 128) (omega arith)
+
+pad-back : (s m : Bool) (p t : ℕ) → p < 4 → flags s m p t / 16 % 4 ≡ p
+pad-back true true p t h = omega arith
+pad-back true false p t h = omega arith
+pad-back false true p t h = omega arith
+pad-back false false p t h = omega arith
+
+tver-back : (s m : Bool) (p t : ℕ) → t ≡ 0 → flags s m p t % 16 ≡ t
+tver-back true true p t h = omega arith
+tver-back true false p t h = omega arith
+tver-back false true p t h = omega arith
+tver-back false false p t h = omega arith
+
+-- the acknowledge request's byte
+ack-back : (a : Bool) (r : ℕ) → leb 128 (bit a * 128 + r % 128) ≡ a
+ack-back true r = le-leb 128 (128 + r % 128) (omega arith)
+ack-back false r = lt-leb 128 (0 + r % 128) (omega arith)
+
+rest-back : (a : Bool) (r : ℕ) → r < 128 → (bit a * 128 + r % 128) % 128 ≡ r
+rest-back true r h = omega arith
+rest-back false r h = omega arith
+
+-- what a BTH that fits keeps to
+record Within (b : Bth) : Type 0 where
+  known : otherService (serviceOf (b .opcode)) ≡ false
+  pad : b .pad < 2 ^ 2
+  tver : b .tver ≡ 0
+  pkey : b .pkey < 2 ^ 16
+  dest : b .dest < 2 ^ 24
+  rest : b .reserved7 < 2 ^ 7
+  psn : b .psn .0 < 2 ^ 24
+
+within : (b : Bth) → bthFits b ≡ true → Within b
+unfolding bthFits
+within b h0 =
+    let h1 = and-right (ltb (b .opcode) (2 ^ 8)) _ h0 in
+    let h2 = and-right (not (otherService (serviceOf (b .opcode)))) _ h1 in
+    let h3 = and-right (ltb (b .pad) (2 ^ 2)) _ h2 in
+    let h4 = and-right (eqb (b .tver) 0) _ h3 in
+    let h5 = and-right (ltb (b .pkey) (2 ^ 16)) _ h4 in
+    let h6 = and-right (ltb (b .reserved8) (2 ^ 8)) _ h5 in
+    let h7 = and-right (ltb (b .dest) (2 ^ 24)) _ h6 in
+    record
+      { known = unnot (otherService (serviceOf (b .opcode))) (and-left (not (otherService (serviceOf (b .opcode)))) _ h1)
+      ; pad = ltb-true (b .pad) (2 ^ 2) (and-left (ltb (b .pad) (2 ^ 2)) _ h2)
+      ; tver = eqb-true (b .tver) 0 (and-left (eqb (b .tver) 0) _ h3)
+      ; pkey = ltb-true (b .pkey) (2 ^ 16) (and-left (ltb (b .pkey) (2 ^ 16)) _ h4)
+      ; dest = ltb-true (b .dest) (2 ^ 24) (and-left (ltb (b .dest) (2 ^ 24)) _ h6)
+      ; rest = ltb-true (b .reserved7) (2 ^ 7) (and-left (ltb (b .reserved7) (2 ^ 7)) _ h7)
+      ; psn = ltb-true (b .psn .0) (2 ^ 24) (and-right (ltb (b .reserved7) (2 ^ 7)) (ltb (b .psn .0) (2 ^ 24)) h7)
+      }
+
+-- the BTH
+bth-back : (b : Bth) (r : List ℕ) → Within b → bthOf (bthBytes b ++ r) ≡ b
+unfolding bthOf bthBytes
+bth-back b r w =
+    λ i. record
+      { opcode = b .opcode
+      ; se = se-back (b .se) (b .migreq) (b .pad) (b .tver) i
+      ; migreq = mig-back (b .se) (b .migreq) (b .pad) (b .tver) i
+      ; pad = pad-back (b .se) (b .migreq) (b .pad) (b .tver) (w .pad) i
+      ; tver = tver-back (b .se) (b .migreq) (b .pad) (b .tver) (w .tver) i
+      ; pkey = two-value (b .pkey) (w .pkey) i
+      ; reserved8 = b .reserved8
+      ; dest = three-value (b .dest) (w .dest) i
+      ; ackreq = ack-back (b .ackreq) (b .reserved7) i
+      ; reserved7 = rest-back (b .ackreq) (b .reserved7) (w .rest) i
+      ; psn = record { 0 = three-value (b .psn .0) (w .psn) i }
+      }
+
+-- the headers after it, behind any twelve bytes
+module _ (b : Bth) where
+  reth-back : (r : Reth) (x : List ℕ) → rethFits r ≡ true → rethOf (bthBytes b ++ (rethBytes r ++ x)) ≡ r
+  unfolding rethOf bthBytes rethBytes rethFits
+  reth-back r x h =
+      let h1 = and-right (ltb (r .address) (2 ^ 64)) _ h in
+      let a = ltb-true (r .address) (2 ^ 64) (and-left (ltb (r .address) (2 ^ 64)) _ h) in
+      let k = ltb-true (r .key) (2 ^ 32) (and-left (ltb (r .key) (2 ^ 32)) _ h1) in
+      let l = ltb-true (r .length) (2 ^ 32) (and-right (ltb (r .key) (2 ^ 32)) (ltb (r .length) (2 ^ 32)) h1) in
+      λ i. record { address = eight-value (r .address) a i; key = four-value (r .key) k i; length = four-value (r .length) l i }
+
+  atomic-back : (a : AtomicEth) (x : List ℕ) → atomicFits a ≡ true → atomicOf (bthBytes b ++ (atomicBytes a ++ x)) ≡ a
+  unfolding atomicOf bthBytes atomicBytes atomicFits
+  atomic-back a x h =
+      let h1 = and-right (ltb (a .address) (2 ^ 64)) _ h in
+      let h2 = and-right (ltb (a .key) (2 ^ 32)) _ h1 in
+      let d = ltb-true (a .address) (2 ^ 64) (and-left (ltb (a .address) (2 ^ 64)) _ h) in
+      let k = ltb-true (a .key) (2 ^ 32) (and-left (ltb (a .key) (2 ^ 32)) _ h1) in
+      let s = ltb-true (a .swap) (2 ^ 64) (and-left (ltb (a .swap) (2 ^ 64)) _ h2) in
+      let c = ltb-true (a .compare) (2 ^ 64) (and-right (ltb (a .swap) (2 ^ 64)) (ltb (a .compare) (2 ^ 64)) h2) in
+      λ i. record { address = eight-value (a .address) d i; key = four-value (a .key) k i; swap = eight-value (a .swap) s i; compare = eight-value (a .compare) c i }
+
+  aeth-back : (a : Aeth) (x : List ℕ) → aethFits a ≡ true → aethOf (bthBytes b ++ (aethBytes a ++ x)) ≡ a
+  unfolding aethOf bthBytes aethBytes aethFits
+  aeth-back a x h =
+      let m = ltb-true (a .msn .0) (2 ^ 24) (and-right (ltb (a .syndrome) (2 ^ 8)) (ltb (a .msn .0) (2 ^ 24)) h) in
+      λ i. record { syndrome = a .syndrome; msn = record { 0 = three-value (a .msn .0) m i } }
+
+extension-back : (b : Bth) (e : Extension) (t : List ℕ) → widthsFit e ≡ true
+    → extensionOf (followsBy e) (bthBytes b ++ (extensionBytes e ++ t)) ≡ e
+unfolding extensionOf followsBy extensionBytes widthsFit bthBytes rethBytes aethBytes immediateFits rethImmediateFits aethValueFits
+extension-back b Bare t h = refl
+extension-back b (Remote r) t h = ap Remote (reth-back b r t h)
+extension-back b (RemoteImmediate r i) t h =
+    let k = ltb-true i (2 ^ 32) (and-right (rethFits r) (ltb i (2 ^ 32)) h) in
+    let l = reth-back b r (four i ++ t) (and-left (rethFits r) (ltb i (2 ^ 32)) h) in
+    λ j. RemoteImmediate (l j) (four-value i k j)
+extension-back b (Immediate i) t h = ap Immediate (four-value i (ltb-true i (2 ^ 32) h))
+extension-back b (Atomic a) t h = ap Atomic (atomic-back b a t h)
+extension-back b (Acknowledge a) t h = ap Acknowledge (aeth-back b a t h)
+extension-back b (AtomicAcknowledge a v) t h =
+    let k = ltb-true v (2 ^ 64) (and-right (aethFits a) (ltb v (2 ^ 64)) h) in
+    let l = aeth-back b a (eight v ++ t) (and-left (aethFits a) (ltb v (2 ^ 64)) h) in
+    λ j. AtomicAcknowledge (l j) (eight-value v k j)
+
+enough : (h : Header) (n : ℕ) → headerLength h ≤ n → classOf (h .bth .opcode) .length ≤ n
+unfolding headerLength
+enough h n k = k
+
+-- no check fails
+good-length : (n : ℕ) → 12 ≤ n → n ≤ 4128 → n % 4 ≡ 0 → badLength n ≡ false
+unfolding badLength
+good-length n h k l = rw (le-ltb n 12 h, le-ltb 4128 n k, eq-eqb (n % 4) 0 l)
+
+no-reason : (p : List ℕ) (b : Bth) → bthOf p ≡ b → badLength (length p) ≡ false → Within b
+    → classOf (b .opcode) .length ≤ length p → readReason p ≡ 0
+unfolding readReason
+no-reason p b e l w n = rw (e, l, eq-eqb (b .tver) 0 (w .tver), w .known, le-ltb (length p) (classOf (b .opcode) .length) n)
+
+-- the whole header, found again in front of any payload
+same-header : (p : List ℕ) (h : Header) → bthOf p ≡ h .bth → classOf (h .bth .opcode) .follows ≡ followsBy (h .extension)
+    → extensionOf (followsBy (h .extension)) p ≡ h .extension → headerOf p ≡ h
+unfolding headerOf
+same-header p h e f x =
+    let y : extensionOf (classOf (bthOf p .opcode) .follows) p ≡ h .extension =
+        ap (λ z. extensionOf (classOf (z .opcode) .follows) p) e ∙ (ap (λ n. extensionOf n p) f ∙ x) in
+    λ i. record { bth = e i; extension = y i }
+
+pub read-packet : ReadPacket
+unfolding readHeader readBy headerBytes
+read-packet h t good words room =
+    let F = fits h good in
+    let w = within (h .bth) (F .bth) in
+    let b = bthBytes (h .bth) in
+    let x = extensionBytes (h .extension) in
+    let q : (b ++ x) ++ t ≡ b ++ (x ++ t) = append-assoc b x t in
+    let e : bthOf (b ++ (x ++ t)) ≡ h .bth = bth-back (h .bth) (x ++ t) w in
+    let z : headerOf (b ++ (x ++ t)) ≡ h = same-header (b ++ (x ++ t)) h e (F .follows) (extension-back (h .bth) (h .extension) t (F .widths)) in
+    let l : length (b ++ (x ++ t)) ≡ headerLength h + length t =
+        ap length (sym q) ∙ (length-append (b ++ x) t ∙ ap (λ n. n + length t) (length-header h good)) in
+    let s : headerLength h ≡ 12 + length x = length-is h good in
+    let m : (12 + length x) % 4 ≡ 0 = length-words (h .extension) in
+    let g : badLength (length (b ++ (x ++ t))) ≡ false = good-length (length (b ++ (x ++ t))) (omega arith) (omega arith) (omega arith) in
+    let o : readReason (b ++ (x ++ t)) ≡ 0 = no-reason (b ++ (x ++ t)) (h .bth) e g w (enough h (length (b ++ (x ++ t))) (omega arith)) in
+    subst (λ p. readBy (readReason p) p ≡ Accepted h) (sym q) (rw o (ap Accepted z))
+
+pub read-back : ReadBack
+read-back h out n e =
+    let W = was-written h out n e in
+    let x = extensionBytes (h .extension) in
+    let s : headerLength h ≡ 12 + length x = length-is h (W .good) in
+    let m : 12 + length x ≤ 40 = length-most (h .extension) in
+    let none : length {A = ℕ} [] % 4 ≡ 0 = refl in
+    let room : headerLength h + length {A = ℕ} [] ≤ 4128 = omega arith in
+    let r : readHeader (headerBytes h ++ []) ≡ Accepted h = read-packet h [] (W .good) none room in
+    let l : length (headerBytes h) ≡ n = length-header h (W .good) ∙ sym (W .size) in
+    let o : take n (writtenOut h out) ≡ headerBytes h =
+        ap (take n) (done h out (W .good) (W .room) .1) ∙ take-at (headerBytes h) (drop (headerLength h) out) n l in
+    ap readHeader o ∙ (ap readHeader (sym (append-nil (headerBytes h))) ∙ r)
