@@ -1,3 +1,4 @@
 pub mod Lengths
 pub mod Writes
 pub mod ReadBack
+pub mod WriteBack

@@ -1,3 +1,4 @@
 pub mod Auto
 pub mod Tests
 pub mod Numbers
+pub mod Lists

@@ -66,3 +66,17 @@ module _ (a b c d : ℕ) (ha : a < 256) (hb : b < 256) (hc : c < 256) (hd : d < 
 
   pub four-below : a * 16777216 + (b * 65536 + (c * 256 + d)) < 4294967296
   four-below = omega arith
+
+-- two halves of a 64-bit number, taken apart again
+module _ (x y : ℕ) (h : y < 4294967296) where
+  pub high-half : (x * 4294967296 + y) / 4294967296 ≡ x
+  high-half = omega arith
+
+  pub low-half : (x * 4294967296 + y) / 16777216 % 256 ∷ (x * 4294967296 + y) / 65536 % 256 ∷ (x * 4294967296 + y) / 256 % 256 ∷ (x * 4294967296 + y) % 256 ∷ []
+      ≡ y / 16777216 % 256 ∷ y / 65536 % 256 ∷ y / 256 % 256 ∷ y % 256 ∷ []
+  low-half =
+      let m : (x * 4294967296 + y) / 16777216 % 256 ≡ y / 16777216 % 256 = omega arith in
+      let n : (x * 4294967296 + y) / 65536 % 256 ≡ y / 65536 % 256 = omega arith in
+      let p : (x * 4294967296 + y) / 256 % 256 ≡ y / 256 % 256 = omega arith in
+      let q : (x * 4294967296 + y) % 256 ≡ y % 256 = omega arith in
+      λ i. m i ∷ n i ∷ p i ∷ q i ∷ []

@@ -5,7 +5,8 @@ use mathlib.Core.Bool.{Bool, true, false, cond}
 use native.Mathlib.Omega.{arith}
 use lib.Dec.{eqb, ltb}
 use borrow.Author.Tests.{eqb-true}
-use Rattle.opcode.specs.Opcode.{serviceOf, lowOf, lengthOf, lowClass, noClass, classOf}
+use Rattle.laws.proofs.Tests.{cond-le}
+use Rattle.opcode.specs.Opcode.{serviceOf, lowOf, followsOf, lengthOf, lowClass, noClass, classOf}
 use Rattle.opcode.specs.declared.OpcodeClass.{OpcodeClass}
 
 -- the header length is that of the headers that follow
@@ -20,3 +21,33 @@ class-length opcode = go (eqb (serviceOf opcode) 0) (eqb (serviceOf opcode) 1) (
     go false true true = refl
     go false true false = refl
     go false false few = refl
+
+-- there are seven sets of headers
+follows-most : (low : ℕ) → followsOf low ≤ 6
+unfolding followsOf
+follows-most low =
+    cond-le (eqb low 3) (omega arith)
+    (cond-le (eqb low 5) (omega arith)
+    (cond-le (eqb low 6) (omega arith)
+    (cond-le (eqb low 9) (omega arith)
+    (cond-le (eqb low 10) (omega arith)
+    (cond-le (eqb low 11) (omega arith)
+    (cond-le (eqb low 12) (omega arith)
+    (cond-le (eqb low 13) (omega arith)
+    (cond-le (eqb low 15) (omega arith)
+    (cond-le (eqb low 16) (omega arith)
+    (cond-le (eqb low 17) (omega arith)
+    (cond-le (eqb low 18) (omega arith)
+    (cond-le (eqb low 19) (omega arith)
+    (cond-le (eqb low 20) (omega arith) (omega arith))))))))))))))
+
+pub class-follows : (opcode : ℕ) → classOf opcode .follows ≤ 6
+unfolding classOf lowClass noClass
+class-follows opcode = go (eqb (serviceOf opcode) 0) (eqb (serviceOf opcode) 1) (ltb (lowOf opcode) 12)
+  where
+    go : (rc uc few : Bool)
+        → cond rc (lowClass (lowOf opcode)) (cond uc (cond few (lowClass (lowOf opcode)) noClass) noClass) .follows ≤ 6
+    go true uc few = follows-most (lowOf opcode)
+    go false true true = follows-most (lowOf opcode)
+    go false true false = omega arith
+    go false false few = omega arith

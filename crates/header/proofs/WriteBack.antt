@@ -1,0 +1,260 @@
+-- A header read and written back is the packet's first bytes.
+use Prim.Native.Nat.{ℕ, zero, suc, _+_, _-_, _*_, _/_, _%_, _^_, _≤_, _<_}
+use mathlib.Core.Path.{_≡_, refl, sym, ap, subst, _∙_}
+use mathlib.Core.Bool.{Bool, true, false, cond, not, _&&_, true≢false}
+use mathlib.Core.List.{List, [], _∷_, _++_}
+use native.Mathlib.Omega.{arith}
+use lib.Dec.{leb, ltb, eqb}
+use lib.ListN.{length, getD, take, drop}
+use borrow.Author.Tests.{lt-ltb, eq-eqb, leb-true, leb-false, ltb-false, eqb-true, eqb-false}
+use Rattle.laws.proofs.Tests.{unnot}
+use Rattle.laws.proofs.Numbers.{two-bytes, three-bytes, four-bytes, four-below, high-half, low-half}
+use Rattle.laws.proofs.Lists.{elements, take-elements, elements-join}
+use Rattle.opcode.specs.Opcode.{classOf, serviceOf, lengthOf}
+use Rattle.opcode.proofs.Classes.{class-length, class-follows}
+use Rattle.header.specs.Bytes.{bit, Bytes, be2, be3, be4, be8, four, eight}
+use Rattle.header.specs.Read.{bthOf, rethOf, atomicOf, aethOf, extensionOf, headerOf, badLength, otherService, readReason, readBy, readHeader}
+use Rattle.header.specs.Write.{bthBytes, rethBytes, atomicBytes, aethBytes, extensionBytes, headerBytes, bthFits, rethFits, atomicFits, aethFits, immediateFits, rethImmediateFits, aethValueFits, widthsFit, followsBy, extensionFits, headerFits, headerLength, written, writtenOut}
+use Rattle.header.specs.Claims.{WriteBack}
+use Rattle.header.proofs.Writes.{both-fit, done}
+use Rattle.header.specs.declared.Bth.{Bth}
+use Rattle.header.specs.declared.Extension.{Extension}
+use Rattle.header.specs.declared.Extension.the-variants.{Bare, Remote, RemoteImmediate, Immediate, Atomic, Acknowledge, AtomicAcknowledge}
+use Rattle.header.specs.declared.Header.{Header}
+use Rattle.header.specs.declared.HeaderRead.{HeaderRead}
+use Rattle.header.specs.declared.HeaderRead.the-variants.{Accepted, Dropped}
+use Rattle.header.specs.declared.HeaderWritten.the-variants.{Done}
+
+-- the flags' byte, from its fields
+flags-forth : (x : ℕ) → x < 256
+    → bit (leb 128 x) * 128 + bit (leb 64 (x % 128)) * 64 + x / 16 % 4 % 4 * 16 + x % 16 % 16 ≡ x
+flags-forth x h = go (leb 128 x) (leb 64 (x % 128)) refl refl
+  where
+    go : (s m : Bool) → leb 128 x ≡ s → leb 64 (x % 128) ≡ m
+        → bit s * 128 + bit m * 64 + x / 16 % 4 % 4 * 16 + x % 16 % 16 ≡ x
+    go true true e f = let a : 128 ≤ x = leb-true 128 x e in let b : 64 ≤ x % 128 = leb-true 64 (x % 128) f in omega arith
+    go true false e f = let a : 128 ≤ x = leb-true 128 x e in let b : x % 128 < 64 = leb-false 64 (x % 128) f in omega arith
+    go false true e f = let a : x < 128 = leb-false 128 x e in let b : 64 ≤ x % 128 = leb-true 64 (x % 128) f in omega arith
+    go false false e f = let a : x < 128 = leb-false 128 x e in let b : x % 128 < 64 = leb-false 64 (x % 128) f in omega arith
+
+ack-forth : (x : ℕ) → x < 256 → bit (leb 128 x) * 128 + x % 128 % 128 ≡ x
+ack-forth x h = go (leb 128 x) refl
+  where
+    go : (s : Bool) → leb 128 x ≡ s → bit s * 128 + x % 128 % 128 ≡ x
+    go true e = let a : 128 ≤ x = leb-true 128 x e in omega arith
+    go false e = let a : x < 128 = leb-false 128 x e in omega arith
+
+-- a packet that reading accepts
+record Read (p : List ℕ) : Type 0 where
+  tver : bthOf p .tver ≡ 0
+  known : otherService (serviceOf (bthOf p .opcode)) ≡ false
+  room : classOf (bthOf p .opcode) .length ≤ length p
+
+was-read : (p : List ℕ) → readReason p ≡ 0 → Read p
+unfolding readReason
+was-read p e =
+    go (badLength (length p)) (eqb (bthOf p .tver) 0) (otherService (serviceOf (bthOf p .opcode)))
+    (ltb (length p) (classOf (bthOf p .opcode) .length)) refl refl refl e
+  where
+    go : (l t o s : Bool) → eqb (bthOf p .tver) 0 ≡ t → otherService (serviceOf (bthOf p .opcode)) ≡ o
+        → ltb (length p) (classOf (bthOf p .opcode) .length) ≡ s
+        → _≡_ {A = ℕ} (cond l 1 (cond (not t) 2 (cond o 5 (cond s 8 0)))) 0 → Read p
+    go true t o s a b c f = absurd (omega arith)
+    go false false o s a b c f = absurd (omega arith)
+    go false true true s a b c f = absurd (omega arith)
+    go false true false true a b c f = absurd (omega arith)
+    go false true false false a b c f =
+        record { tver = eqb-true (bthOf p .tver) 0 a; known = b; room = ltb-false (length p) (classOf (bthOf p .opcode) .length) c }
+
+-- what was accepted is the header of the bytes
+pub accepted : (p : List ℕ) (h : Header) → readHeader p ≡ Accepted h → (readReason p ≡ 0) × (headerOf p ≡ h)
+unfolding readHeader readBy
+accepted p h e = go (eqb (readReason p) 0) refl e
+  where
+    go : (b : Bool) → eqb (readReason p) 0 ≡ b → cond b (Accepted (headerOf p)) (Dropped (readReason p)) ≡ Accepted h
+        → (readReason p ≡ 0) × (headerOf p ≡ h)
+    go true a f = (eqb-true (readReason p) 0 a, cc)
+    go false a f = let z : _≡_ {A = ℕ} 0 1 = cc in absurd (omega arith)
+
+-- the bytes of the fields, for a list of bytes
+module _ (p : List ℕ) (B : Bytes p) where
+  four-forth : (i : ℕ) → four (be4 p i) ≡ getD p i 0 ∷ getD p (i + 1) 0 ∷ getD p (i + 1 + 1) 0 ∷ getD p (i + 1 + 1 + 1) 0 ∷ []
+  four-forth i =
+      four-bytes (getD p i 0) (getD p (i + 1) 0) (getD p (i + 1 + 1) 0) (getD p (i + 1 + 1 + 1) 0) (B i) (B (i + 1)) (B (i + 1 + 1)) (B (i + 1 + 1 + 1))
+
+  below : (i : ℕ) → be4 p i < 4294967296
+  below i =
+      four-below (getD p i 0) (getD p (i + 1) 0) (getD p (i + 1 + 1) 0) (getD p (i + 1 + 1 + 1) 0) (B i) (B (i + 1)) (B (i + 1 + 1)) (B (i + 1 + 1 + 1))
+
+  eight-forth : (i : ℕ) → eight (be8 p i) ≡ four (be4 p i) ++ four (be4 p (i + 4))
+  eight-forth i =
+      let a = ap four (high-half (be4 p i) (be4 p (i + 4)) (below (i + 4))) in
+      let b = low-half (be4 p i) (be4 p (i + 4)) (below (i + 4)) in
+      λ j. a j ++ b j
+
+  word : (i : ℕ) → be8 p i < 2 ^ 64
+  word i = omega (arith, below i, below (i + 4))
+
+  bth-forth : bthBytes (bthOf p) ≡ elements p 0 12
+  unfolding bthOf bthBytes elements
+  bth-forth =
+      let z : 0 < 256 = omega arith in
+      let f = flags-forth (getD p 1 0) (B 1) in
+      let k = two-bytes 0 0 (getD p 2 0) (getD p 3 0) z z (B 2) (B 3) in
+      let d = three-bytes 0 (getD p 5 0) (getD p 6 0) (getD p 7 0) z (B 5) (B 6) (B 7) in
+      let a = ack-forth (getD p 8 0) (B 8) in
+      let n = three-bytes 0 (getD p 9 0) (getD p 10 0) (getD p 11 0) z (B 9) (B 10) (B 11) in
+      λ i. (getD p 0 0 ∷ f i ∷ k i) ++ ((getD p 4 0 ∷ d i) ++ (a i ∷ n i))
+
+  reth-forth : rethBytes (rethOf p) ≡ elements p 12 16
+  unfolding rethOf rethBytes elements
+  reth-forth =
+      let a = eight-forth 12 in
+      let b = four-forth 12 in
+      let c = four-forth 16 in
+      let k = four-forth 20 in
+      let l = four-forth 24 in
+      ap (λ x. x ++ (four (be4 p 20) ++ four (be4 p 24))) a ∙ (λ i. (b i ++ c i) ++ (k i ++ l i))
+
+  atomic-forth : atomicBytes (atomicOf p) ≡ elements p 12 28
+  unfolding atomicOf atomicBytes elements
+  atomic-forth =
+      let a = eight-forth 12 in
+      let s = eight-forth 24 in
+      let c = eight-forth 32 in
+      (λ i. a i ++ (four (be4 p 20) ++ (s i ++ c i)))
+      ∙ (λ i. (four-forth 12 i ++ four-forth 16 i) ++ (four-forth 20 i ++ ((four-forth 24 i ++ four-forth 28 i) ++ (four-forth 32 i ++ four-forth 36 i))))
+
+  aeth-forth : aethBytes (aethOf p) ≡ elements p 12 4
+  unfolding aethOf aethBytes elements
+  aeth-forth =
+      let z : 0 < 256 = omega arith in
+      let n = three-bytes 0 (getD p 13 0) (getD p 14 0) (getD p 15 0) z (B 13) (B 14) (B 15) in
+      λ i. getD p 12 0 ∷ n i
+
+-- what is read, by the class's number, is of that class, within its widths, and has the packet's bytes
+record Forth (p : List ℕ) (f : ℕ) : Type 0 where
+  follows : followsBy (extensionOf f p) ≡ f
+  widths : widthsFit (extensionOf f p) ≡ true
+  bytes : extensionBytes (extensionOf f p) ≡ elements p 12 (lengthOf f - 12)
+
+-- a number that is at most 6 is one of seven
+seven : (P : ℕ → Type 0) → P 0 → P 1 → P 2 → P 3 → P 4 → P 5 → P 6 → (f : ℕ) → f ≤ 6 → P f
+seven P a b c d e g k zero h = a
+seven P a b c d e g k (suc zero) h = b
+seven P a b c d e g k (suc (suc zero)) h = c
+seven P a b c d e g k (suc (suc (suc zero))) h = d
+seven P a b c d e g k (suc (suc (suc (suc zero)))) h = e
+seven P a b c d e g k (suc (suc (suc (suc (suc zero))))) h = g
+seven P a b c d e g k (suc (suc (suc (suc (suc (suc zero)))))) h = k
+seven P a b c d e g k (suc (suc (suc (suc (suc (suc (suc n))))))) h = absurd (omega arith)
+
+whole : (f : ℕ) → f ≤ 6 → 12 + (lengthOf f - 12) ≡ lengthOf f
+unfolding lengthOf
+whole = seven (λ f. 12 + (lengthOf f - 12) ≡ lengthOf f) refl refl refl refl refl refl refl
+
+module _ (p : List ℕ) (B : Bytes p) where
+  reth-fits : rethFits (rethOf p) ≡ true
+  unfolding rethFits rethOf
+  reth-fits = rw (lt-ltb (be8 p 12) (2 ^ 64) (word p B 12), lt-ltb (be4 p 20) (2 ^ 32) (below p B 20), lt-ltb (be4 p 24) (2 ^ 32) (below p B 24))
+
+  immediate-fits : (i : ℕ) → immediateFits (be4 p i) ≡ true
+  unfolding immediateFits
+  immediate-fits i = lt-ltb (be4 p i) (2 ^ 32) (below p B i)
+
+  aeth-fits : aethFits (aethOf p) ≡ true
+  unfolding aethFits aethOf
+  aeth-fits =
+      let m : be3 p 13 < 2 ^ 24 = omega (arith, B 13, B 14, B 15) in
+      rw (lt-ltb (getD p 12 0) (2 ^ 8) (B 12), lt-ltb (be3 p 13) (2 ^ 24) m)
+
+  forth-0 : Forth p 0
+  unfolding extensionOf followsBy widthsFit extensionBytes lengthOf elements
+  forth-0 = record { follows = refl; widths = refl; bytes = refl }
+
+  forth-1 : Forth p 1
+  unfolding extensionOf followsBy widthsFit extensionBytes lengthOf
+  forth-1 = record { follows = refl; widths = reth-fits; bytes = reth-forth p B }
+
+  forth-2 : Forth p 2
+  unfolding extensionOf followsBy widthsFit extensionBytes lengthOf elements rethImmediateFits
+  forth-2 =
+      record
+        { follows = refl
+        ; widths = rw (reth-fits, immediate-fits 28)
+        ; bytes = λ i. reth-forth p B i ++ four-forth p B 28 i
+        }
+
+  forth-3 : Forth p 3
+  unfolding extensionOf followsBy widthsFit extensionBytes lengthOf elements
+  forth-3 = record { follows = refl; widths = immediate-fits 12; bytes = four-forth p B 12 }
+
+  forth-4 : Forth p 4
+  unfolding extensionOf followsBy widthsFit extensionBytes lengthOf atomicFits atomicOf
+  forth-4 =
+      record
+        { follows = refl
+        ; widths = rw (lt-ltb (be8 p 12) (2 ^ 64) (word p B 12), lt-ltb (be4 p 20) (2 ^ 32) (below p B 20), lt-ltb (be8 p 24) (2 ^ 64) (word p B 24), lt-ltb (be8 p 32) (2 ^ 64) (word p B 32))
+        ; bytes = atomic-forth p B
+        }
+
+  forth-5 : Forth p 5
+  unfolding extensionOf followsBy widthsFit extensionBytes lengthOf
+  forth-5 = record { follows = refl; widths = aeth-fits; bytes = aeth-forth p B }
+
+  forth-6 : Forth p 6
+  unfolding extensionOf followsBy widthsFit extensionBytes lengthOf elements aethValueFits
+  forth-6 =
+      record
+        { follows = refl
+        ; widths = rw (aeth-fits, lt-ltb (be8 p 16) (2 ^ 64) (word p B 16))
+        ; bytes = ap (λ x. aethBytes (aethOf p) ++ x) (eight-forth p B 16) ∙ (λ i. aeth-forth p B i ++ (four-forth p B 16 i ++ four-forth p B 20 i))
+        }
+
+  forth : (f : ℕ) → f ≤ 6 → Forth p f
+  forth = seven (Forth p) forth-0 forth-1 forth-2 forth-3 forth-4 forth-5 forth-6
+
+  bth-fits : Read p → bthFits (bthOf p) ≡ true
+  unfolding bthFits bthOf
+  bth-fits R =
+      let pad : getD p 1 0 / 16 % 4 < 2 ^ 2 = omega arith in
+      let key : be2 p 2 < 2 ^ 16 = omega (arith, B 2, B 3) in
+      let dest : be3 p 5 < 2 ^ 24 = omega (arith, B 5, B 6, B 7) in
+      let rest : getD p 8 0 % 128 < 2 ^ 7 = omega arith in
+      let psn : be3 p 9 < 2 ^ 24 = omega (arith, B 9, B 10, B 11) in
+      rw (lt-ltb (getD p 0 0) (2 ^ 8) (B 0), R .known, lt-ltb (getD p 1 0 / 16 % 4) (2 ^ 2) pad, eq-eqb (getD p 1 0 % 16) 0 (R .tver), lt-ltb (be2 p 2) (2 ^ 16) key,
+          lt-ltb (getD p 4 0) (2 ^ 8) (B 4), lt-ltb (be3 p 5) (2 ^ 24) dest, lt-ltb (getD p 8 0 % 128) (2 ^ 7) rest, lt-ltb (be3 p 9) (2 ^ 24) psn)
+
+  extension-fits : (f : ℕ) → f ≤ 6 → extensionFits f (extensionOf f p) ≡ true
+  unfolding extensionFits
+  extension-fits f h = let F = forth f h in rw (eq-eqb f (followsBy (extensionOf f p)) (sym (F .follows)), F .widths)
+
+  header-fits : Read p → headerFits (headerOf p) ≡ true
+  unfolding headerOf
+  header-fits R = both-fit (headerOf p) (bth-fits R) (extension-fits (classOf (bthOf p .opcode) .follows) (class-follows (bthOf p .opcode)))
+
+  -- the header's bytes are the packet's first
+  first-bytes : (f : ℕ) → f ≤ 6 → lengthOf f ≤ length p
+      → bthBytes (bthOf p) ++ extensionBytes (extensionOf f p) ≡ take (lengthOf f) p
+  first-bytes f h l =
+      let n : 12 + (lengthOf f - 12) ≡ lengthOf f = whole f h in
+      (λ i. bth-forth p B i ++ forth f h .bytes i)
+      ∙ (elements-join p 0 12 (lengthOf f - 12) ∙ (ap (elements p 0) n ∙ sym (take-elements p 0 (lengthOf f) (omega arith))))
+
+  header-bytes : Read p → headerBytes (headerOf p) ≡ take (headerLength (headerOf p)) p
+  unfolding headerBytes headerOf headerLength
+  header-bytes R =
+      let op = bthOf p .opcode in
+      let e : lengthOf (classOf op .follows) ≡ classOf op .length = sym (class-length op) in
+      first-bytes (classOf op .follows) (class-follows op) (subst (λ n. n ≤ length p) (sym e) (R .room)) ∙ ap (λ n. take n p) e
+
+pub write-back : WriteBack
+write-back p B h e out room =
+    let A = accepted p h e in
+    let R = was-read p (A .0) in
+    subst
+    (λ z. headerLength z ≤ length out → (written z (length out) ≡ Done (headerLength z)) × (writtenOut z out ≡ take (headerLength z) p ++ drop (headerLength z) out))
+    (A .1)
+    (λ r. let D = done (headerOf p) out (header-fits p B R) r in
+        (D .0, D .1 ∙ ap (λ x. x ++ drop (headerLength (headerOf p)) out) (header-bytes p B R)))
+    room
