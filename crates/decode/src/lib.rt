@@ -19,6 +19,7 @@ ghost use Prim.Native.Nat.{_≤_};
 ghost use lib.ListN.{length};
 ghost use Rattle.opcode.specs.Opcode.{lengthOf};
 ghost use Rattle.header.specs.Read.{bthOf, rethOf, atomicOf, aethOf, extensionOf, badLength, otherService, readHeader};
+ghost use Rattle.header.specs.Check.{isResponse, beyondService, admitted};
 
 fn read_bth(p: &[u8]) -> Bth
     requires { ⌜ 12 ≤ length (now p) ⌝ }
@@ -128,6 +129,66 @@ fn other_service(service: u8) -> bool
     ensures { λ r. ⌜ r ≡ otherService service ⌝ }
 {
     opcode::UC < service
+}
+
+fn is_response(low: u8) -> bool
+    ensures { λ r. ⌜ r ≡ isResponse low ⌝ }
+{
+    if low < opcode::READ_RESPONSE {
+        return false;
+    }
+    low <= opcode::ATOMIC_ACKNOWLEDGE
+}
+
+fn beyond_service(service: u8, low: u8) -> bool
+    ensures { λ r. ⌜ r ≡ beyondService service low ⌝ }
+{
+    if service != opcode::UC {
+        return false;
+    }
+    11 < low
+}
+
+// The header of a packet that passes all header checks of a queue pair with these numbers, or the
+// check that failed first, 1 to 9.
+pub fn admit(p: &[u8], service: u8, ours: u32, pkey: u16, ready: bool) -> HeaderRead
+    ensures { λ r. ⌜ r ≡ admitted service ours pkey ready (now (p .entry)) ⌝ }
+{
+    let bad = bad_length(p.len());
+    if bad {
+        return HeaderRead::Dropped(1);
+    }
+    let bth = read_bth(p);
+    if bth.tver != 0 {
+        return HeaderRead::Dropped(2);
+    }
+    if bth.dest != ours {
+        return HeaderRead::Dropped(3);
+    }
+    let friend = header::pkeys_match(bth.pkey, pkey);
+    if !friend {
+        return HeaderRead::Dropped(4);
+    }
+    if bth.opcode / 32 != service {
+        return HeaderRead::Dropped(5);
+    }
+    let response = is_response(bth.opcode % 32);
+    if response {
+        return HeaderRead::Dropped(6);
+    }
+    let beyond = beyond_service(service, bth.opcode % 32);
+    if beyond {
+        return HeaderRead::Dropped(7);
+    }
+    let class = opcode::class(bth.opcode);
+    if p.len() < class.length {
+        return HeaderRead::Dropped(8);
+    }
+    if !ready {
+        return HeaderRead::Dropped(9);
+    }
+    let extension = read_extension(p, class.follows);
+    HeaderRead::Accepted(Header { bth, extension })
 }
 
 // The header of a packet of any bytes, or the check that failed first.

@@ -2,3 +2,4 @@ pub mod Lengths
 pub mod Writes
 pub mod ReadBack
 pub mod WriteBack
+pub mod Checks

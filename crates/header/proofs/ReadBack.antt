@@ -83,33 +83,33 @@ within b h0 =
     let h5 = and-right (ltb (b .pkey) (2 ^ 16)) _ h4 in
     let h6 = and-right (ltb (b .reserved8) (2 ^ 8)) _ h5 in
     let h7 = and-right (ltb (b .dest) (2 ^ 24)) _ h6 in
-    record
-      { known = unnot (otherService (serviceOf (b .opcode))) (and-left (not (otherService (serviceOf (b .opcode)))) _ h1)
-      ; pad = ltb-true (b .pad) (2 ^ 2) (and-left (ltb (b .pad) (2 ^ 2)) _ h2)
-      ; tver = eqb-true (b .tver) 0 (and-left (eqb (b .tver) 0) _ h3)
-      ; pkey = ltb-true (b .pkey) (2 ^ 16) (and-left (ltb (b .pkey) (2 ^ 16)) _ h4)
-      ; dest = ltb-true (b .dest) (2 ^ 24) (and-left (ltb (b .dest) (2 ^ 24)) _ h6)
-      ; rest = ltb-true (b .reserved7) (2 ^ 7) (and-left (ltb (b .reserved7) (2 ^ 7)) _ h7)
-      ; psn = ltb-true (b .psn .0) (2 ^ 24) (and-right (ltb (b .reserved7) (2 ^ 7)) (ltb (b .psn .0) (2 ^ 24)) h7)
-      }
+    record {
+      known = unnot (otherService (serviceOf (b .opcode))) (and-left (not (otherService (serviceOf (b .opcode)))) _ h1);
+      pad = ltb-true (b .pad) (2 ^ 2) (and-left (ltb (b .pad) (2 ^ 2)) _ h2);
+      tver = eqb-true (b .tver) 0 (and-left (eqb (b .tver) 0) _ h3);
+      pkey = ltb-true (b .pkey) (2 ^ 16) (and-left (ltb (b .pkey) (2 ^ 16)) _ h4);
+      dest = ltb-true (b .dest) (2 ^ 24) (and-left (ltb (b .dest) (2 ^ 24)) _ h6);
+      rest = ltb-true (b .reserved7) (2 ^ 7) (and-left (ltb (b .reserved7) (2 ^ 7)) _ h7);
+      psn = ltb-true (b .psn .0) (2 ^ 24) (and-right (ltb (b .reserved7) (2 ^ 7)) (ltb (b .psn .0) (2 ^ 24)) h7);
+    }
 
 -- the BTH
 bth-back : (b : Bth) (r : List ℕ) → Within b → bthOf (bthBytes b ++ r) ≡ b
 unfolding bthOf bthBytes
 bth-back b r w =
-    λ i. record
-      { opcode = b .opcode
-      ; se = se-back (b .se) (b .migreq) (b .pad) (b .tver) i
-      ; migreq = mig-back (b .se) (b .migreq) (b .pad) (b .tver) i
-      ; pad = pad-back (b .se) (b .migreq) (b .pad) (b .tver) (w .pad) i
-      ; tver = tver-back (b .se) (b .migreq) (b .pad) (b .tver) (w .tver) i
-      ; pkey = two-value (b .pkey) (w .pkey) i
-      ; reserved8 = b .reserved8
-      ; dest = three-value (b .dest) (w .dest) i
-      ; ackreq = ack-back (b .ackreq) (b .reserved7) i
-      ; reserved7 = rest-back (b .ackreq) (b .reserved7) (w .rest) i
-      ; psn = record { 0 = three-value (b .psn .0) (w .psn) i }
-      }
+    λ i. record {
+      opcode = b .opcode;
+      se = se-back (b .se) (b .migreq) (b .pad) (b .tver) i;
+      migreq = mig-back (b .se) (b .migreq) (b .pad) (b .tver) i;
+      pad = pad-back (b .se) (b .migreq) (b .pad) (b .tver) (w .pad) i;
+      tver = tver-back (b .se) (b .migreq) (b .pad) (b .tver) (w .tver) i;
+      pkey = two-value (b .pkey) (w .pkey) i;
+      reserved8 = b .reserved8;
+      dest = three-value (b .dest) (w .dest) i;
+      ackreq = ack-back (b .ackreq) (b .reserved7) i;
+      reserved7 = rest-back (b .ackreq) (b .reserved7) (w .rest) i;
+      psn = record { 0 = three-value (b .psn .0) (w .psn) i };
+    }
 
 -- the headers after it, behind any twelve bytes
 module _ (b : Bth) where
@@ -176,7 +176,7 @@ same-header : (p : List ℕ) (h : Header) → bthOf p ≡ h .bth → classOf (h 
 unfolding headerOf
 same-header p h e f x =
     let y : extensionOf (classOf (bthOf p .opcode) .follows) p ≡ h .extension =
-        ap (λ z. extensionOf (classOf (z .opcode) .follows) p) e ∙ (ap (λ n. extensionOf n p) f ∙ x) in
+    ap (λ z. extensionOf (classOf (z .opcode) .follows) p) e ∙ (ap (λ n. extensionOf n p) f ∙ x) in
     λ i. record { bth = e i; extension = y i }
 
 pub read-packet : ReadPacket
@@ -190,7 +190,7 @@ read-packet h t good words room =
     let e : bthOf (b ++ (x ++ t)) ≡ h .bth = bth-back (h .bth) (x ++ t) w in
     let z : headerOf (b ++ (x ++ t)) ≡ h = same-header (b ++ (x ++ t)) h e (F .follows) (extension-back (h .bth) (h .extension) t (F .widths)) in
     let l : length (b ++ (x ++ t)) ≡ headerLength h + length t =
-        ap length (sym q) ∙ (length-append (b ++ x) t ∙ ap (λ n. n + length t) (length-header h good)) in
+    ap length (sym q) ∙ (length-append (b ++ x) t ∙ ap (λ n. n + length t) (length-header h good)) in
     let s : headerLength h ≡ 12 + length x = length-is h good in
     let m : (12 + length x) % 4 ≡ 0 = length-words (h .extension) in
     let g : badLength (length (b ++ (x ++ t))) ≡ false = good-length (length (b ++ (x ++ t))) (omega arith) (omega arith) (omega arith) in
@@ -208,5 +208,5 @@ read-back h out n e =
     let r : readHeader (headerBytes h ++ []) ≡ Accepted h = read-packet h [] (W .good) none room in
     let l : length (headerBytes h) ≡ n = length-header h (W .good) ∙ sym (W .size) in
     let o : take n (writtenOut h out) ≡ headerBytes h =
-        ap (take n) (done h out (W .good) (W .room) .1) ∙ take-at (headerBytes h) (drop (headerLength h) out) n l in
+    ap (take n) (done h out (W .good) (W .room) .1) ∙ take-at (headerBytes h) (drop (headerLength h) out) n l in
     ap readHeader o ∙ (ap readHeader (sym (append-nil (headerBytes h))) ∙ r)

@@ -179,11 +179,11 @@ module _ (p : List ℕ) (B : Bytes p) where
   forth-2 : Forth p 2
   unfolding extensionOf followsBy widthsFit extensionBytes lengthOf elements rethImmediateFits
   forth-2 =
-      record
-        { follows = refl
-        ; widths = rw (reth-fits, immediate-fits 28)
-        ; bytes = λ i. reth-forth p B i ++ four-forth p B 28 i
-        }
+      record {
+        follows = refl;
+        widths = rw (reth-fits, immediate-fits 28);
+        bytes = λ i. reth-forth p B i ++ four-forth p B 28 i;
+      }
 
   forth-3 : Forth p 3
   unfolding extensionOf followsBy widthsFit extensionBytes lengthOf elements
@@ -192,11 +192,11 @@ module _ (p : List ℕ) (B : Bytes p) where
   forth-4 : Forth p 4
   unfolding extensionOf followsBy widthsFit extensionBytes lengthOf atomicFits atomicOf
   forth-4 =
-      record
-        { follows = refl
-        ; widths = rw (lt-ltb (be8 p 12) (2 ^ 64) (word p B 12), lt-ltb (be4 p 20) (2 ^ 32) (below p B 20), lt-ltb (be8 p 24) (2 ^ 64) (word p B 24), lt-ltb (be8 p 32) (2 ^ 64) (word p B 32))
-        ; bytes = atomic-forth p B
-        }
+      record {
+        follows = refl;
+        widths = rw (lt-ltb (be8 p 12) (2 ^ 64) (word p B 12), lt-ltb (be4 p 20) (2 ^ 32) (below p B 20), lt-ltb (be8 p 24) (2 ^ 64) (word p B 24), lt-ltb (be8 p 32) (2 ^ 64) (word p B 32));
+        bytes = atomic-forth p B;
+      }
 
   forth-5 : Forth p 5
   unfolding extensionOf followsBy widthsFit extensionBytes lengthOf
@@ -205,11 +205,11 @@ module _ (p : List ℕ) (B : Bytes p) where
   forth-6 : Forth p 6
   unfolding extensionOf followsBy widthsFit extensionBytes lengthOf elements aethValueFits
   forth-6 =
-      record
-        { follows = refl
-        ; widths = rw (aeth-fits, lt-ltb (be8 p 16) (2 ^ 64) (word p B 16))
-        ; bytes = ap (λ x. aethBytes (aethOf p) ++ x) (eight-forth p B 16) ∙ (λ i. aeth-forth p B i ++ (four-forth p B 16 i ++ four-forth p B 20 i))
-        }
+      record {
+        follows = refl;
+        widths = rw (aeth-fits, lt-ltb (be8 p 16) (2 ^ 64) (word p B 16));
+        bytes = ap (λ x. aethBytes (aethOf p) ++ x) (eight-forth p B 16) ∙ (λ i. aeth-forth p B i ++ (four-forth p B 16 i ++ four-forth p B 20 i));
+      }
 
   forth : (f : ℕ) → f ≤ 6 → Forth p f
   forth = seven (Forth p) forth-0 forth-1 forth-2 forth-3 forth-4 forth-5 forth-6
@@ -222,8 +222,17 @@ module _ (p : List ℕ) (B : Bytes p) where
       let dest : be3 p 5 < 2 ^ 24 = omega (arith, B 5, B 6, B 7) in
       let rest : getD p 8 0 % 128 < 2 ^ 7 = omega arith in
       let psn : be3 p 9 < 2 ^ 24 = omega (arith, B 9, B 10, B 11) in
-      rw (lt-ltb (getD p 0 0) (2 ^ 8) (B 0), R .known, lt-ltb (getD p 1 0 / 16 % 4) (2 ^ 2) pad, eq-eqb (getD p 1 0 % 16) 0 (R .tver), lt-ltb (be2 p 2) (2 ^ 16) key,
-          lt-ltb (getD p 4 0) (2 ^ 8) (B 4), lt-ltb (be3 p 5) (2 ^ 24) dest, lt-ltb (getD p 8 0 % 128) (2 ^ 7) rest, lt-ltb (be3 p 9) (2 ^ 24) psn)
+      rw (
+        lt-ltb (getD p 0 0) (2 ^ 8) (B 0),
+        R .known,
+        lt-ltb (getD p 1 0 / 16 % 4) (2 ^ 2) pad,
+        eq-eqb (getD p 1 0 % 16) 0 (R .tver),
+        lt-ltb (be2 p 2) (2 ^ 16) key,
+        lt-ltb (getD p 4 0) (2 ^ 8) (B 4),
+        lt-ltb (be3 p 5) (2 ^ 24) dest,
+        lt-ltb (getD p 8 0 % 128) (2 ^ 7) rest,
+        lt-ltb (be3 p 9) (2 ^ 24) psn,
+      )
 
   extension-fits : (f : ℕ) → f ≤ 6 → extensionFits f (extensionOf f p) ≡ true
   unfolding extensionFits
@@ -256,5 +265,5 @@ write-back p B h e out room =
     (λ z. headerLength z ≤ length out → (written z (length out) ≡ Done (headerLength z)) × (writtenOut z out ≡ take (headerLength z) p ++ drop (headerLength z) out))
     (A .1)
     (λ r. let D = done (headerOf p) out (header-fits p B R) r in
-        (D .0, D .1 ∙ ap (λ x. x ++ drop (headerLength (headerOf p)) out) (header-bytes p B R)))
+    (D .0, D .1 ∙ ap (λ x. x ++ drop (headerLength (headerOf p)) out) (header-bytes p B R)))
     room

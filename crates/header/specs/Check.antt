@@ -33,4 +33,8 @@ headerReason service ours pkey ready p =
     (cond (isResponse (lowOf (bthOf p .opcode))) 6
     (cond (beyondService service (lowOf (bthOf p .opcode))) 7
     (cond (ltb (length p) (classOf (bthOf p .opcode) .length)) 8
-    (cond ready 0 9))))))))
+    (cond (not ready) 9 0))))))))
+
+-- the header, or the check that failed
+unfoldable pub admitted : ℕ → ℕ → ℕ → Bool → List ℕ → HeaderRead
+admitted service ours pkey ready p = readBy (headerReason service ours pkey ready p) p
