@@ -158,29 +158,29 @@ pub fn admit(p: &[u8], service: u8, ours: u32, pkey: u16, ready: bool) -> Header
     if bad {
         return HeaderRead::Dropped(1);
     }
-    let bth = read_bth(p);
-    if bth.tver != 0 {
+    let b = read_bth(p);
+    if b.tver != 0 {
         return HeaderRead::Dropped(2);
     }
-    if bth.dest != ours {
+    if b.dest != ours {
         return HeaderRead::Dropped(3);
     }
-    let friend = header::pkeys_match(bth.pkey, pkey);
+    let friend = header::pkeys_match(b.pkey, pkey);
     if !friend {
         return HeaderRead::Dropped(4);
     }
-    if bth.opcode / 32 != service {
+    if b.opcode / 32 != service {
         return HeaderRead::Dropped(5);
     }
-    let response = is_response(bth.opcode % 32);
+    let response = is_response(b.opcode % 32);
     if response {
         return HeaderRead::Dropped(6);
     }
-    let beyond = beyond_service(service, bth.opcode % 32);
+    let beyond = beyond_service(service, b.opcode % 32);
     if beyond {
         return HeaderRead::Dropped(7);
     }
-    let class = opcode::class(bth.opcode);
+    let class = opcode::class(b.opcode);
     if p.len() < class.length {
         return HeaderRead::Dropped(8);
     }
@@ -188,7 +188,7 @@ pub fn admit(p: &[u8], service: u8, ours: u32, pkey: u16, ready: bool) -> Header
         return HeaderRead::Dropped(9);
     }
     let extension = read_extension(p, class.follows);
-    HeaderRead::Accepted(Header { bth, extension })
+    HeaderRead::Accepted(Header { bth: b, extension })
 }
 
 // The header of a packet of any bytes, or the check that failed first.

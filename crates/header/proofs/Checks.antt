@@ -9,7 +9,7 @@ use lib.ListN.{length}
 use borrow.Author.Tests.{eqb-true, eq-eqb, ne-eqb, lt-leb, eqb-false}
 use Rattle.opcode.specs.Opcode.{classOf, serviceOf, lowOf}
 use Rattle.header.specs.Read.{bthOf, badLength, otherService, readReason}
-use Rattle.header.specs.Check.{pkeysMatch, isResponse, beyondService, headerReason}
+use Rattle.header.specs.Check.{fullMember, pkeysMatch, isResponse, beyondService, headerReason}
 use Rattle.header.specs.Claims.{CheckedReads, MatchSymmetric, LimitedNever}
 
 no-reason : (p : List ℕ) → badLength (length p) ≡ false → eqb (bthOf p .tver) 0 ≡ true
@@ -40,10 +40,14 @@ checked-reads service ours pkey ready p other e =
     go false true true true true false false false el et es en f =
         no-reason p el et (ap otherService (eqb-true (serviceOf (bthOf p .opcode)) service es) ∙ other) en
 
+limited : (a : ℕ) → a < 32768 → fullMember a ≡ false
+unfolding fullMember
+limited a h = omega (arith, lt-leb)
+
 pub limited-never : LimitedNever
 unfolding pkeysMatch
 limited-never a b h k =
-    rw (lt-leb 32768 a h, lt-leb 32768 b k) (none (eqb (a % 32768) (b % 32768)) (not (eqb (a % 32768) 0)))
+    rw (limited a h, limited b k) (none (eqb (a % 32768) (b % 32768)) (not (eqb (a % 32768) 0)))
   where
     none : (x y : Bool) → (x && (y && false)) ≡ false
     none true true = refl
@@ -61,9 +65,9 @@ match-symmetric a b = go (eqb (a % 32768) (b % 32768)) refl
     either false false = refl
 
     go : (t : Bool) → eqb (a % 32768) (b % 32768) ≡ t
-        → (t && (not (eqb (a % 32768) 0) && (leb 32768 a || leb 32768 b)))
-        ≡ (eqb (b % 32768) (a % 32768) && (not (eqb (b % 32768) 0) && (leb 32768 b || leb 32768 a)))
+        → (t && (not (eqb (a % 32768) 0) && (fullMember a || fullMember b)))
+        ≡ (eqb (b % 32768) (a % 32768) && (not (eqb (b % 32768) 0) && (fullMember b || fullMember a)))
     go true e =
         let s : a % 32768 ≡ b % 32768 = eqb-true (a % 32768) (b % 32768) e in
-        rw (eq-eqb (b % 32768) (a % 32768) (sym s), s, either (leb 32768 a) (leb 32768 b))
+        rw (eq-eqb (b % 32768) (a % 32768) (sym s), s, either (fullMember a) (fullMember b))
     go false e = rw (ne-eqb (b % 32768) (a % 32768) (λ z. eqb-false (a % 32768) (b % 32768) e (sym z)))

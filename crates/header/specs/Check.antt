@@ -8,11 +8,15 @@ use Rattle.opcode.specs.Opcode.{classOf, serviceOf, lowOf}
 use Rattle.header.specs.Read.{bthOf, badLength, readBy}
 use Rattle.header.specs.declared.HeaderRead.{HeaderRead}
 
+-- the top bit of a P_Key: a full member; without it a limited one
+unfoldable pub fullMember : ℕ → Bool
+fullMember pkey = leb 32768 pkey
+
 -- low 15 bits equal to ours, not 0, and at least one top bit set
 unfoldable pub pkeysMatch : ℕ → ℕ → Bool
 pkeysMatch theirs ours =
     eqb (theirs % 32768) (ours % 32768)
-    && (not (eqb (theirs % 32768) 0) && (leb 32768 theirs || leb 32768 ours))
+    && (not (eqb (theirs % 32768) 0) && (fullMember theirs || fullMember ours))
 
 -- the opcodes that a responder does not let through: responses, 13 to 18
 unfoldable pub isResponse : ℕ → Bool

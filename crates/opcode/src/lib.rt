@@ -113,7 +113,7 @@ fn place_of(low: u8) -> u8
     if low < 12 {
         return place_in(low - 6);
     }
-    if low == 13 {
+    if low == READ_RESPONSE {
         return FIRST;
     }
     if low == 14 {
@@ -235,8 +235,8 @@ pub fn class(opcode: u8) -> OpcodeClass
     if service != UC {
         return no_class();
     }
-    if low < READ {
-        return low_class(low);
+    if READ <= low {
+        return no_class();
     }
-    no_class()
+    low_class(low)
 }
