@@ -1,5 +1,4 @@
 // Headers written as bytes.
-mod part;
 mod width;
 
 use header::Bth;
@@ -83,27 +82,27 @@ fn write_extension(out: &mut [u8], e: Extension)
     match e {
         Extension::Bare => memory::place(out, 12, &[]),
         Extension::Remote(r) => {
-            let b = part::reth_bytes(r);
+            let b = wire::reth_bytes(r);
             memory::place(out, 12, &b)
         }
         Extension::RemoteImmediate(r, i) => {
-            let b = part::reth_immediate_bytes(r, i);
+            let b = wire::reth_immediate_bytes(r, i);
             memory::place(out, 12, &b)
         }
         Extension::Immediate(i) => {
-            let b = part::immediate_bytes(i);
+            let b = wire::immediate_bytes(i);
             memory::place(out, 12, &b)
         }
         Extension::Atomic(a) => {
-            let b = part::atomic_bytes(a);
+            let b = wire::atomic_bytes(a);
             memory::place(out, 12, &b)
         }
         Extension::Acknowledge(a) => {
-            let b = part::aeth_bytes(a);
+            let b = wire::aeth_bytes(a);
             memory::place(out, 12, &b)
         }
         Extension::AtomicAcknowledge(a, v) => {
-            let b = part::aeth_value_bytes(a, v);
+            let b = wire::aeth_value_bytes(a, v);
             memory::place(out, 12, &b)
         }
     }
@@ -128,7 +127,7 @@ pub fn write(h: Header, out: &mut [u8]) -> HeaderWritten
     if out.len() < class.length {
         return HeaderWritten::Refused(35);
     }
-    let b = part::bth_bytes(bth);
+    let b = wire::bth_bytes(bth);
     memory::place(out, 0, &b);
     write_extension(out, extension);
     HeaderWritten::Done(class.length)

@@ -6,7 +6,7 @@ use Rattle.encode.proofs.write.Reads as reads
 use Rattle.encode.proofs.write.Lts as lts
 use Rattle.encode.proofs.bth_unfit.Reads as bth-unfit-reads
 use Rattle.encode.proofs.extension_unfit.Reads as extension-unfit-reads
-use Rattle.encode.proofs.part.bth_bytes.Reads as bth-bytes-reads
+use Rattle.wire.proofs.bth_bytes.Reads as bth-bytes-reads
 use Rattle.encode.proofs.write_extension.Reads as write-extension-reads
 use Rattle.memory.proofs.place.Reads as place-reads
 use Rattle.opcode.proofs.class.Reads as class-reads

@@ -4,12 +4,12 @@ use Rattle.encode.proofs.write_extension.Statement.{statement}
 use Rattle.encode.proofs.write_extension.Tie as tie
 use Rattle.encode.proofs.write_extension.Reads as reads
 use Rattle.encode.proofs.write_extension.Lts as lts
-use Rattle.encode.proofs.part.aeth_bytes.Reads as aeth-bytes-reads
-use Rattle.encode.proofs.part.aeth_value_bytes.Reads as aeth-value-bytes-reads
-use Rattle.encode.proofs.part.atomic_bytes.Reads as atomic-bytes-reads
-use Rattle.encode.proofs.part.immediate_bytes.Reads as immediate-bytes-reads
-use Rattle.encode.proofs.part.reth_bytes.Reads as reth-bytes-reads
-use Rattle.encode.proofs.part.reth_immediate_bytes.Reads as reth-immediate-bytes-reads
+use Rattle.wire.proofs.aeth_bytes.Reads as aeth-bytes-reads
+use Rattle.wire.proofs.aeth_value_bytes.Reads as aeth-value-bytes-reads
+use Rattle.wire.proofs.atomic_bytes.Reads as atomic-bytes-reads
+use Rattle.wire.proofs.immediate_bytes.Reads as immediate-bytes-reads
+use Rattle.wire.proofs.reth_bytes.Reads as reth-bytes-reads
+use Rattle.wire.proofs.reth_immediate_bytes.Reads as reth-immediate-bytes-reads
 use Rattle.memory.proofs.place.Reads as place-reads
 
 -- src/lib.rt:89:42

@@ -1,4 +1,5 @@
-// The bytes of each header, built as a value to be copied out once.
+// The bytes of each header, built as a value to be copied out once. A number over its field's width
+// gives its low bits.
 use header::Aeth;
 use header::AtomicEth;
 use header::Bth;
@@ -19,7 +20,7 @@ fn bit_of(b: bool) -> u8
     0
 }
 
-pub(crate) fn bth_bytes(b: Bth) -> [u8; 12]
+pub fn bth_bytes(b: Bth) -> [u8; 12]
     ensures { λ r. ⌜ r ≡ bthBytes b ⌝ }
 {
     let se = bit_of(b.se);
@@ -45,7 +46,7 @@ pub(crate) fn bth_bytes(b: Bth) -> [u8; 12]
     ]
 }
 
-pub(crate) fn reth_bytes(reth: Reth) -> [u8; 16]
+pub fn reth_bytes(reth: Reth) -> [u8; 16]
     ensures { λ r. ⌜ r ≡ rethBytes reth ⌝ }
 {
     let h = reth.address / 4294967296;
@@ -72,7 +73,7 @@ pub(crate) fn reth_bytes(reth: Reth) -> [u8; 16]
     ]
 }
 
-pub(crate) fn reth_immediate_bytes(reth: Reth, i: u32) -> [u8; 20]
+pub fn reth_immediate_bytes(reth: Reth, i: u32) -> [u8; 20]
     ensures { λ r. ⌜ r ≡ rethBytes reth ++ four i ⌝ }
 {
     let h = reth.address / 4294967296;
@@ -103,7 +104,7 @@ pub(crate) fn reth_immediate_bytes(reth: Reth, i: u32) -> [u8; 20]
     ]
 }
 
-pub(crate) fn immediate_bytes(i: u32) -> [u8; 4]
+pub fn immediate_bytes(i: u32) -> [u8; 4]
     ensures { λ r. ⌜ r ≡ four i ⌝ }
 {
     [
@@ -114,7 +115,7 @@ pub(crate) fn immediate_bytes(i: u32) -> [u8; 4]
     ]
 }
 
-pub(crate) fn atomic_bytes(a: AtomicEth) -> [u8; 28]
+pub fn atomic_bytes(a: AtomicEth) -> [u8; 28]
     ensures { λ r. ⌜ r ≡ atomicBytes a ⌝ }
 {
     let h = a.address / 4294967296;
@@ -156,7 +157,7 @@ pub(crate) fn atomic_bytes(a: AtomicEth) -> [u8; 28]
     ]
 }
 
-pub(crate) fn aeth_bytes(a: Aeth) -> [u8; 4]
+pub fn aeth_bytes(a: Aeth) -> [u8; 4]
     ensures { λ r. ⌜ r ≡ aethBytes a ⌝ }
 {
     let syndrome = a.syndrome;
@@ -170,7 +171,7 @@ pub(crate) fn aeth_bytes(a: Aeth) -> [u8; 4]
     ]
 }
 
-pub(crate) fn aeth_value_bytes(a: Aeth, v: u64) -> [u8; 12]
+pub fn aeth_value_bytes(a: Aeth, v: u64) -> [u8; 12]
     ensures { λ r. ⌜ r ≡ aethBytes a ++ eight v ⌝ }
 {
     let syndrome = a.syndrome;

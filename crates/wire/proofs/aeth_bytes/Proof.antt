@@ -1,10 +1,10 @@
 use mathlib.Core.Path.{refl}
 use Rattle.header.specs.Write.{aethBytes}
 use borrow.Author.Needs.{needs}
-use Rattle.encode.proofs.part.aeth_bytes.Statement.{statement}
-use Rattle.encode.proofs.part.aeth_bytes.Tie as tie
-use Rattle.encode.proofs.part.aeth_bytes.Reads as reads
-use Rattle.encode.proofs.part.aeth_bytes.Lts as lts
+use Rattle.wire.proofs.aeth_bytes.Statement.{statement}
+use Rattle.wire.proofs.aeth_bytes.Tie as tie
+use Rattle.wire.proofs.aeth_bytes.Reads as reads
+use Rattle.wire.proofs.aeth_bytes.Lts as lts
 
 -- src/part.rt:168:9
 cast-t7 : tie.Need-cast-t7

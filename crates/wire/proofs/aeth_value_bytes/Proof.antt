@@ -1,10 +1,10 @@
 use mathlib.Core.Path.{refl}
 use Rattle.header.specs.Write.{aethBytes}
 use borrow.Author.Needs.{needs}
-use Rattle.encode.proofs.part.aeth_value_bytes.Statement.{statement}
-use Rattle.encode.proofs.part.aeth_value_bytes.Tie as tie
-use Rattle.encode.proofs.part.aeth_value_bytes.Reads as reads
-use Rattle.encode.proofs.part.aeth_value_bytes.Lts as lts
+use Rattle.wire.proofs.aeth_value_bytes.Statement.{statement}
+use Rattle.wire.proofs.aeth_value_bytes.Tie as tie
+use Rattle.wire.proofs.aeth_value_bytes.Reads as reads
+use Rattle.wire.proofs.aeth_value_bytes.Lts as lts
 
 -- src/part.rt:183:9
 cast-t9 : tie.Need-cast-t9

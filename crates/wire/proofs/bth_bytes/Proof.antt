@@ -1,10 +1,10 @@
 use Rattle.header.specs.Write.{bthBytes}
 use borrow.Author.Needs.{needs}
-use Rattle.encode.proofs.part.bth_bytes.Statement.{statement}
-use Rattle.encode.proofs.part.bth_bytes.Tie as tie
-use Rattle.encode.proofs.part.bth_bytes.Reads as reads
-use Rattle.encode.proofs.part.bth_bytes.Lts as lts
-use Rattle.encode.proofs.part.bit_of.Reads as bit-of-reads
+use Rattle.wire.proofs.bth_bytes.Statement.{statement}
+use Rattle.wire.proofs.bth_bytes.Tie as tie
+use Rattle.wire.proofs.bth_bytes.Reads as reads
+use Rattle.wire.proofs.bth_bytes.Lts as lts
+use Rattle.wire.proofs.bit_of.Reads as bit-of-reads
 
 -- src/part.rt:26:9
 bit-of-requires : tie.Need-bit-of-requires

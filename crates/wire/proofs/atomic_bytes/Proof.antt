@@ -1,10 +1,10 @@
 use mathlib.Core.Path.{refl}
 use Rattle.header.specs.Write.{atomicBytes}
 use borrow.Author.Needs.{needs}
-use Rattle.encode.proofs.part.atomic_bytes.Statement.{statement}
-use Rattle.encode.proofs.part.atomic_bytes.Tie as tie
-use Rattle.encode.proofs.part.atomic_bytes.Reads as reads
-use Rattle.encode.proofs.part.atomic_bytes.Lts as lts
+use Rattle.wire.proofs.atomic_bytes.Statement.{statement}
+use Rattle.wire.proofs.atomic_bytes.Tie as tie
+use Rattle.wire.proofs.atomic_bytes.Reads as reads
+use Rattle.wire.proofs.atomic_bytes.Lts as lts
 
 -- src/part.rt:129:9
 cast-t11 : tie.Need-cast-t11
