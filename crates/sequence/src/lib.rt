@@ -39,12 +39,19 @@ impl Psn {
         Psn((self.0 % Psn::SPACE + n % Psn::SPACE) % Psn::SPACE)
     }
 
+    // The next number: after the last comes the first.
     pub fn next(self) -> Psn
         ensures { λ r. ⌜ r ≡ psnAfter self 1 ⌝ }
     {
-        self.after(1)
+        let last = Psn::LAST;
+        let n = self.0 % Psn::SPACE;
+        if n == last.0 {
+            return Psn::FIRST;
+        }
+        Psn(n + 1)
     }
 
+    // What this number is beside the expected one.
     pub fn class(self, expected: Psn) -> Class
         ensures { λ r. ⌜ r ≡ psnClass (self .0) (expected .0) ⌝ }
     {
@@ -60,11 +67,10 @@ impl Psn {
 }
 
 impl Msn {
-    pub const SPACE: u32 = 16777216;
-
+    // The count after one more message.
     pub fn next(self) -> Msn
         ensures { λ r. ⌜ r ≡ msnAfter self ⌝ }
     {
-        Msn((self.0 % Msn::SPACE + 1) % Msn::SPACE)
+        Msn((self.0 % 16777216 + 1) % 16777216)
     }
 }
