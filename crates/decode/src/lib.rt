@@ -19,7 +19,7 @@ ghost use Prim.Native.Nat.{_≤_};
 ghost use lib.ListN.{length};
 ghost use Rattle.opcode.specs.Opcode.{lengthOf};
 ghost use Rattle.header.specs.Read.{bthOf, rethOf, atomicOf, aethOf, extensionOf, badLength, otherService, readHeader};
-ghost use Rattle.header.specs.Check.{isResponse, beyondService, admitted};
+ghost use Rattle.header.specs.Check.{wrongService, isResponse, beyondService, admitted};
 
 fn read_bth(p: &[u8]) -> Bth
     requires { ⌜ 12 ≤ length (now p) ⌝ }
@@ -131,6 +131,16 @@ fn other_service(service: u8) -> bool
     opcode::UC < service
 }
 
+fn wrong_service(theirs: u8, ours: u8) -> bool
+    ensures { λ r. ⌜ r ≡ wrongService theirs ours ⌝ }
+{
+    let other = other_service(theirs);
+    if other {
+        return true;
+    }
+    theirs != ours
+}
+
 fn is_response(low: u8) -> bool
     ensures { λ r. ⌜ r ≡ isResponse low ⌝ }
 {
@@ -146,7 +156,8 @@ fn beyond_service(service: u8, low: u8) -> bool
     if service != opcode::UC {
         return false;
     }
-    11 < low
+    let has = opcode::uc_has(low);
+    !has
 }
 
 // The header of a packet that passes all header checks of a queue pair with these numbers, or the
@@ -165,11 +176,12 @@ pub fn admit(p: &[u8], service: u8, ours: u32, pkey: u16, ready: bool) -> Header
     if b.dest != ours {
         return HeaderRead::Dropped(3);
     }
-    let friend = header::pkeys_match(b.pkey, pkey);
-    if !friend {
+    let matched = header::pkeys_match(b.pkey, pkey);
+    if !matched {
         return HeaderRead::Dropped(4);
     }
-    if b.opcode / 32 != service {
+    let wrong = wrong_service(b.opcode / 32, service);
+    if wrong {
         return HeaderRead::Dropped(5);
     }
     let response = is_response(b.opcode % 32);

@@ -1,5 +1,7 @@
 pub mod Lengths
+pub mod Reasons
 pub mod Writes
+pub mod Accepts
 pub mod ReadBack
 pub mod WriteBack
 pub mod Checks

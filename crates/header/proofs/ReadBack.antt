@@ -16,6 +16,7 @@ use Rattle.header.specs.Read.{bthOf, rethOf, atomicOf, aethOf, extension
 use Rattle.header.specs.Write.{flagsByte, ackByte, bthBytes, rethBytes, atomicBytes, aethBytes, extensionBytes, headerBytes, bthFits, rethFits, atomicFits, aethFits, immediateFits, rethImmediateFits, aethValueFits, widthsFit, followsBy, headerFits, headerLength, written, writtenOut}
 use Rattle.header.specs.Claims.{ReadPacket, ReadBack}
 use Rattle.header.proofs.Lengths.{Fits, fits, length-bth, length-is, length-header, length-words, length-most}
+use Rattle.header.proofs.Reasons.{Read, good-length, no-reason, read-by}
 use Rattle.header.proofs.Writes.{was-written, done}
 use Rattle.header.specs.declared.Bth.{Bth}
 use Rattle.header.specs.declared.Reth.{Reth}
@@ -156,19 +157,15 @@ extension-back b (AtomicAcknowledge a v) t h =
     let l = aeth-back b a (eight v ++ t) (and-left (aethFits a) (ltb v (2 ^ 64)) h) in
     λ j. AtomicAcknowledge (l j) (eight-value v k j)
 
-enough : (h : Header) (n : ℕ) → headerLength h ≤ n → classOf (h .bth .opcode) .length ≤ n
+-- no check fails on it
+reads : (p : List ℕ) (h : Header) → bthOf p ≡ h .bth → Within (h .bth) → headerLength h ≤ length p → Read p
 unfolding headerLength
-enough h n k = k
-
--- no check fails
-good-length : (n : ℕ) → 12 ≤ n → n ≤ 4128 → n % 4 ≡ 0 → badLength n ≡ false
-unfolding badLength
-good-length n h k l = rw (le-ltb n 12 h, le-ltb 4128 n k, eq-eqb (n % 4) 0 l)
-
-no-reason : (p : List ℕ) (b : Bth) → bthOf p ≡ b → badLength (length p) ≡ false → Within b
-    → classOf (b .opcode) .length ≤ length p → readReason p ≡ 0
-unfolding readReason
-no-reason p b e l w n = rw (e, l, eq-eqb (b .tver) 0 (w .tver), w .known, le-ltb (length p) (classOf (b .opcode) .length) n)
+reads p h e w n =
+    record
+      { tver = ap (λ b. b .tver) e ∙ w .tver
+      ; known = ap (λ b. otherService (serviceOf (b .opcode))) e ∙ w .known
+      ; room = subst (λ b. classOf (b .opcode) .length ≤ length p) (sym e) n
+      }
 
 -- the whole header, found again in front of any payload
 same-header : (p : List ℕ) (h : Header) → bthOf p ≡ h .bth → classOf (h .bth .opcode) .follows ≡ followsBy (h .extension)
@@ -180,7 +177,7 @@ same-header p h e f x =
     λ i. record { bth = e i; extension = y i }
 
 pub read-packet : ReadPacket
-unfolding readHeader readBy headerBytes
+unfolding headerBytes
 read-packet h t good words room =
     let F = fits h good in
     let w = within (h .bth) (F .bth) in
@@ -194,8 +191,8 @@ read-packet h t good words room =
     let s : headerLength h ≡ 12 + length x = length-is h good in
     let m : (12 + length x) % 4 ≡ 0 = length-words (h .extension) in
     let g : badLength (length (b ++ (x ++ t))) ≡ false = good-length (length (b ++ (x ++ t))) (omega arith) (omega arith) (omega arith) in
-    let o : readReason (b ++ (x ++ t)) ≡ 0 = no-reason (b ++ (x ++ t)) (h .bth) e g w (enough h (length (b ++ (x ++ t))) (omega arith)) in
-    subst (λ p. readBy (readReason p) p ≡ Accepted h) (sym q) (rw o (ap Accepted z))
+    let o : readReason (b ++ (x ++ t)) ≡ 0 = no-reason (b ++ (x ++ t)) g (reads (b ++ (x ++ t)) h e w (omega arith)) in
+    subst (λ p. readHeader p ≡ Accepted h) (sym q) (read-by (b ++ (x ++ t)) h o z)
 
 pub read-back : ReadBack
 read-back h out n e =

@@ -16,6 +16,7 @@ use Rattle.header.specs.Bytes.{bit, Bytes, be2, be3, be4, be8, four, eig
 use Rattle.header.specs.Read.{bthOf, rethOf, atomicOf, aethOf, extensionOf, headerOf, badLength, otherService, readReason, readBy, readHeader}
 use Rattle.header.specs.Write.{bthBytes, rethBytes, atomicBytes, aethBytes, extensionBytes, headerBytes, bthFits, rethFits, atomicFits, aethFits, immediateFits, rethImmediateFits, aethValueFits, widthsFit, followsBy, extensionFits, headerFits, headerLength, written, writtenOut}
 use Rattle.header.specs.Claims.{WriteBack}
+use Rattle.header.proofs.Reasons.{Read, was-read, accepted}
 use Rattle.header.proofs.Writes.{both-fit, done}
 use Rattle.header.specs.declared.Bth.{Bth}
 use Rattle.header.specs.declared.Extension.{Extension}
@@ -43,38 +44,6 @@ ack-forth x h = go (leb 128 x) refl
     go : (s : Bool) → leb 128 x ≡ s → bit s * 128 + x % 128 % 128 ≡ x
     go true e = let a : 128 ≤ x = leb-true 128 x e in omega arith
     go false e = let a : x < 128 = leb-false 128 x e in omega arith
-
--- a packet that reading accepts
-record Read (p : List ℕ) : Type 0 where
-  tver : bthOf p .tver ≡ 0
-  known : otherService (serviceOf (bthOf p .opcode)) ≡ false
-  room : classOf (bthOf p .opcode) .length ≤ length p
-
-was-read : (p : List ℕ) → readReason p ≡ 0 → Read p
-unfolding readReason
-was-read p e =
-    go (badLength (length p)) (eqb (bthOf p .tver) 0) (otherService (serviceOf (bthOf p .opcode)))
-    (ltb (length p) (classOf (bthOf p .opcode) .length)) refl refl refl e
-  where
-    go : (l t o s : Bool) → eqb (bthOf p .tver) 0 ≡ t → otherService (serviceOf (bthOf p .opcode)) ≡ o
-        → ltb (length p) (classOf (bthOf p .opcode) .length) ≡ s
-        → _≡_ {A = ℕ} (cond l 1 (cond (not t) 2 (cond o 5 (cond s 8 0)))) 0 → Read p
-    go true t o s a b c f = absurd (omega arith)
-    go false false o s a b c f = absurd (omega arith)
-    go false true true s a b c f = absurd (omega arith)
-    go false true false true a b c f = absurd (omega arith)
-    go false true false false a b c f =
-        record { tver = eqb-true (bthOf p .tver) 0 a; known = b; room = ltb-false (length p) (classOf (bthOf p .opcode) .length) c }
-
--- what was accepted is the header of the bytes
-pub accepted : (p : List ℕ) (h : Header) → readHeader p ≡ Accepted h → (readReason p ≡ 0) × (headerOf p ≡ h)
-unfolding readHeader readBy
-accepted p h e = go (eqb (readReason p) 0) refl e
-  where
-    go : (b : Bool) → eqb (readReason p) 0 ≡ b → cond b (Accepted (headerOf p)) (Dropped (readReason p)) ≡ Accepted h
-        → (readReason p ≡ 0) × (headerOf p ≡ h)
-    go true a f = (eqb-true (readReason p) 0 a, cc)
-    go false a f = let z : _≡_ {A = ℕ} 0 1 = cc in absurd (omega arith)
 
 -- the bytes of the fields, for a list of bytes
 module _ (p : List ℕ) (B : Bytes p) where
@@ -260,7 +229,7 @@ module _ (p : List ℕ) (B : Bytes p) where
 pub write-back : WriteBack
 write-back p B h e out room =
     let A = accepted p h e in
-    let R = was-read p (A .0) in
+    let R = was-read p (A .0) .1 in
     subst
     (λ z. headerLength z ≤ length out → (written z (length out) ≡ Done (headerLength z)) × (writtenOut z out ≡ take (headerLength z) p ++ drop (headerLength z) out))
     (A .1)

@@ -1,16 +1,17 @@
 -- What writing answers and leaves, by what it tests.
-use Prim.Native.Nat.{ℕ, _+_, _≤_, _<_}
+use Prim.Native.Nat.{ℕ, zero, suc, _+_, _≤_, _<_}
 use mathlib.Core.Path.{_≡_, refl, sym, ap, subst, _∙_}
 use mathlib.Core.Bool.{Bool, true, false, cond, _&&_}
 use mathlib.Core.List.{List, [], _∷_, _++_}
 use native.Mathlib.Omega.{arith}
-use lib.Dec.{ltb}
+use lib.Dec.{ltb, eqb}
 use lib.ListN.{length, drop, length-append}
-use borrow.Author.Tests.{lt-ltb, le-ltb, ltb-false}
+use borrow.Author.Tests.{lt-ltb, le-ltb, ltb-true, ltb-false, ne-eqb}
 use Rattle.opcode.specs.Opcode.{classOf}
 use Rattle.memory.specs.Memory.{put, placed}
 use Rattle.memory.proofs.Put.{placed-put, length-placed, length-put, put-put, put-start}
-use Rattle.header.specs.Write.{bthBytes, extensionBytes, headerBytes, bthFits, extensionFits, headerFits, headerLength, written, writtenOut}
+use Rattle.header.specs.Write.{bthBytes, extensionBytes, headerBytes, bthFits, extensionFits, headerFits, headerLength, writeAnswer, writtenBy, written, writeNumber, writtenOut}
+use Rattle.header.specs.Claims.{WriteNumbers}
 use Rattle.header.proofs.Lengths.{length-bth, length-is, length-header}
 use Rattle.header.specs.declared.Bth.{Bth}
 use Rattle.header.specs.declared.Extension.{Extension}
@@ -31,20 +32,42 @@ pub both-fit : (h : Header) → bthFits (h .bth) ≡ true
 unfolding headerFits
 both-fit h e f = rw (e, f)
 
+-- the answer's number, and what it makes of the answer and the output
+over : (h : Header) (n : ℕ) → headerFits h ≡ false → writeAnswer h n ≡ 39
+unfolding writeAnswer
+over h n e = rw e
+
+lacking : (h : Header) (n : ℕ) → headerFits h ≡ true → n < headerLength h → writeAnswer h n ≡ 35
+unfolding writeAnswer
+lacking h n e l = rw (e, lt-ltb n (headerLength h) l)
+
+pub fine : (h : Header) (n : ℕ) → headerFits h ≡ true → headerLength h ≤ n → writeAnswer h n ≡ 0
+unfolding writeAnswer
+fine h n e l = rw (e, le-ltb n (headerLength h) l)
+
+no : (h : Header) (out : List ℕ) (r : ℕ) → writeAnswer h (length out) ≡ suc r
+    → (written h (length out) ≡ Refused (suc r)) × (writtenOut h out ≡ out)
+unfolding written writtenBy writtenOut
+no h out r e =
+    let other : suc r ≡ 0 → ⊥ = λ z. omega arith in
+    (rw (e, ne-eqb (suc r) 0 other), rw (e, ne-eqb (suc r) 0 other))
+
 pub refused : (h : Header) (out : List ℕ) → headerFits h ≡ false
     → (written h (length out) ≡ Refused 39) × (writtenOut h out ≡ out)
-unfolding written writtenOut
-refused h out e = (rw e, rw e)
+refused h out e = no h out 38 (over h (length out) e)
 
 pub short : (h : Header) (out : List ℕ) → headerFits h ≡ true → length out < headerLength h
     → (written h (length out) ≡ Refused 35) × (writtenOut h out ≡ out)
-unfolding written writtenOut
-short h out e l = (rw (e, lt-ltb (length out) (headerLength h) l), rw (e, lt-ltb (length out) (headerLength h) l))
+short h out e l = no h out 34 (lacking h (length out) e l)
+
+pub answered : (h : Header) (n : ℕ) → headerFits h ≡ true → headerLength h ≤ n → written h n ≡ Done (headerLength h)
+unfolding written writtenBy
+answered h n e l = rw (fine h n e l)
 
 pub done : (h : Header) (out : List ℕ) → headerFits h ≡ true → headerLength h ≤ length out
     → (written h (length out) ≡ Done (headerLength h)) × (writtenOut h out ≡ headerBytes h ++ drop (headerLength h) out)
-unfolding written writtenOut
-done h out e l = (rw (e, le-ltb (length out) (headerLength h) l), rw (e, le-ltb (length out) (headerLength h) l))
+unfolding writtenOut
+done h out e l = (answered h (length out) e l, rw (fine h (length out) e l))
 
 -- the BTH placed, and then the headers after it
 pub two-parts : (h : Header) (out : List ℕ) → headerFits h ≡ true → headerLength h ≤ length out
@@ -75,11 +98,20 @@ same-done : (m n : ℕ) → Done m ≡ Done n → n ≡ m
 same-done m n e = cc
 
 pub was-written : (h : Header) (out : List ℕ) (n : ℕ) → written h (length out) ≡ Done n → Written h out n
-unfolding written
-was-written h out n e = go (headerFits h) (ltb (length out) (headerLength h)) refl refl e
+was-written h out n e = go (headerFits h) (ltb (length out) (headerLength h)) refl refl
   where
-    go : (g s : Bool) → headerFits h ≡ g → ltb (length out) (headerLength h) ≡ s
-        → cond g (cond s (Refused 35) (Done (headerLength h))) (Refused 39) ≡ Done n → Written h out n
-    go false s p q f = absurd (no-done 39 n f)
-    go true true p q f = absurd (no-done 35 n f)
-    go true false p q f = record { good = p; size = same-done (headerLength h) n f; room = ltb-false (length out) (headerLength h) q }
+    go : (g s : Bool) → headerFits h ≡ g → ltb (length out) (headerLength h) ≡ s → Written h out n
+    go false s p q = absurd (no-done 39 n (sym (refused h out p .0) ∙ e))
+    go true true p q = absurd (no-done 35 n (sym (short h out p (ltb-true (length out) (headerLength h) q) .0) ∙ e))
+    go true false p q =
+        let room : headerLength h ≤ length out = ltb-false (length out) (headerLength h) q in
+        record { good = p; size = same-done (headerLength h) n (sym (done h out p room .0) ∙ e); room = room }
+
+-- the number of an answer
+pub write-numbers : WriteNumbers
+unfolding written writtenBy writeNumber
+write-numbers h n = go (writeAnswer h n)
+  where
+    go : (a : ℕ) → writeNumber (cond (eqb a 0) (Done (headerLength h)) (Refused a)) ≡ a
+    go zero = refl
+    go (suc a) = rw (ne-eqb (suc a) 0 (λ z. omega arith))

@@ -1,18 +1,25 @@
 -- What is proved of reading and writing, each statement by a name; the proofs stand in proofs/.
-use Prim.Native.Nat.{ℕ, _+_, _%_, _≤_, _<_}
-use mathlib.Core.Bool.{Bool, true, false}
+use Prim.Native.Nat.{ℕ, _+_, _%_, _^_, _≤_, _<_}
+use mathlib.Core.Bool.{Bool, true}
 use mathlib.Core.Path.{_≡_}
 use mathlib.Core.List.{List, _++_}
-use lib.ListN.{length, take, drop}
+use mathlib.Core.Logic.{_⊎_}
+use lib.ListN.{length, getD, take, drop}
+use Rattle.opcode.specs.Opcode.{classOf, serviceOf, lowOf}
 use Rattle.header.specs.Bytes.{Bytes}
-use Rattle.header.specs.Read.{readHeader, readReason, otherService}
-use Rattle.header.specs.Write.{headerFits, headerLength, headerBytes, written, writtenOut}
-use Rattle.header.specs.Check.{pkeysMatch, headerReason}
+use Rattle.header.specs.Read.{bthOf, headerOf, readHeader}
+use Rattle.header.specs.Write.{followsBy, headerFits, headerLength, headerBytes, writeAnswer, written, writeNumber, writtenOut}
+use Rattle.header.specs.Check.{pkeysMatch, admitted}
+use Rattle.header.specs.declared.Bth.{Bth}
+use Rattle.header.specs.declared.Reth.{Reth}
+use Rattle.header.specs.declared.Aeth.{Aeth}
+use Rattle.header.specs.declared.Extension.{Extension}
+use Rattle.header.specs.declared.Extension.the-variants.{Bare, Remote, RemoteImmediate, Immediate, Atomic, Acknowledge, AtomicAcknowledge}
 use Rattle.header.specs.declared.Header.{Header}
 use Rattle.header.specs.declared.HeaderRead.the-variants.{Accepted}
 use Rattle.header.specs.declared.HeaderWritten.the-variants.{Done}
 
--- A header written, into any output, and read back is the same.
+-- What writing makes of a header, in any output, reading turns into that header again.
 abbrev pub ReadBack : Type 0
 ReadBack =
     (h : Header) (out : List ℕ) (n : ℕ) → written h (length out) ≡ Done n
@@ -25,7 +32,7 @@ ReadPacket =
     → headerLength h + length payload ≤ 4128
     → readHeader (headerBytes h ++ payload) ≡ Accepted h
 
--- A header that reading accepts and that is written back gives the packet's first bytes, for any output with room.
+-- What reading makes of a packet, writing turns into the packet's first bytes again, in any output with room.
 abbrev pub WriteBack : Type 0
 WriteBack =
     (p : List ℕ) → Bytes p → (h : Header) → readHeader p ≡ Accepted h
@@ -33,15 +40,74 @@ WriteBack =
     → (written h (length out) ≡ Done (headerLength h))
     × (writtenOut h out ≡ take (headerLength h) p ++ drop (headerLength h) out)
 
--- A packet that passes the checks of a pair, whose service is RC or UC, has a header that reads.
+-- The two are about something. A packet is read if its length is good, its TVer is 0, its service is RC or UC and
+-- it is long enough for its headers.
+abbrev pub Reads : Type 0
+Reads =
+    (p : List ℕ) → 12 ≤ length p → length p ≤ 4128 → length p % 4 ≡ 0 → getD p 1 0 % 16 ≡ 0 → getD p 0 0 < 64
+    → classOf (getD p 0 0) .length ≤ length p
+    → readHeader p ≡ Accepted (headerOf p)
+
+-- the widths of a BTH's fields, and of those of the headers after it
+pub record BthWidths (b : Bth) : Type 0 where
+  pub opcode : b .opcode < 64
+  pub pad : b .pad < 4
+  pub tver : b .tver ≡ 0
+  pub pkey : b .pkey < 2 ^ 16
+  pub reserved8 : b .reserved8 < 2 ^ 8
+  pub dest : b .dest < 2 ^ 24
+  pub reserved7 : b .reserved7 < 2 ^ 7
+  pub psn : b .psn .0 < 2 ^ 24
+
+abbrev pub RethWidths : Reth → Type 0
+RethWidths r = (r .address < 2 ^ 64) × (r .key < 2 ^ 32) × (r .length < 2 ^ 32)
+
+abbrev pub AethWidths : Aeth → Type 0
+AethWidths a = (a .syndrome < 2 ^ 8) × (a .msn .0 < 2 ^ 24)
+
+abbrev pub Widths : Extension → Type 0
+Widths Bare = Unit {0}
+Widths (Remote r) = RethWidths r
+Widths (RemoteImmediate r i) = RethWidths r × (i < 2 ^ 32)
+Widths (Immediate i) = i < 2 ^ 32
+Widths (Atomic a) = (a .address < 2 ^ 64) × (a .key < 2 ^ 32) × (a .swap < 2 ^ 64) × (a .compare < 2 ^ 64)
+Widths (Acknowledge a) = AethWidths a
+Widths (AtomicAcknowledge a v) = AethWidths a × (v < 2 ^ 64)
+
+-- A header is written if every field is within its width and it has the headers of its opcode.
+abbrev pub Writes : Type 0
+Writes =
+    (h : Header) → BthWidths (h .bth) → classOf (h .bth .opcode) .follows ≡ followsBy (h .extension)
+    → Widths (h .extension)
+    → (n : ℕ) → headerLength h ≤ n
+    → written h n ≡ Done (headerLength h)
+
+-- The number of writing's answer.
+abbrev pub WriteNumbers : Type 0
+WriteNumbers = (h : Header) (n : ℕ) → writeNumber (written h n) ≡ writeAnswer h n
+
+-- A packet that passes the checks of a pair has a header that reads.
 abbrev pub CheckedReads : Type 0
 CheckedReads =
-    (service ours pkey : ℕ) (ready : Bool) (p : List ℕ) → otherService service ≡ false
-    → headerReason service ours pkey ready p ≡ 0 → readReason p ≡ 0
+    (service ours pkey : ℕ) (ready : Bool) (p : List ℕ) (h : Header) → admitted service ours pkey ready p ≡ Accepted h
+    → readHeader p ≡ Accepted h
 
--- The P_Key test does not ask whose key is whose, and two limited members never match.
-abbrev pub MatchSymmetric : Type 0
-MatchSymmetric = (a b : ℕ) → pkeysMatch a b ≡ pkeysMatch b a
+-- A packet whose header reads passes the checks of a pair that is Ready, if it is for the pair's queue pair number,
+-- P_Key and service, and a request that the service has.
+abbrev pub Admits : Type 0
+Admits =
+    (service ours pkey : ℕ) (p : List ℕ) (h : Header) → readHeader p ≡ Accepted h
+    → serviceOf (h .bth .opcode) ≡ service → h .bth .dest ≡ ours → pkeysMatch (h .bth .pkey) pkey ≡ true
+    → (lowOf (h .bth .opcode) < 13) ⊎ (18 < lowOf (h .bth .opcode))
+    → (service ≡ 1 → lowOf (h .bth .opcode) < 12)
+    → admitted service ours pkey true p ≡ Accepted h
 
-abbrev pub LimitedNever : Type 0
-LimitedNever = (a b : ℕ) → a < 32768 → b < 32768 → pkeysMatch a b ≡ false
+-- Two P_Keys match exactly if their 15 low bits agree and are not all 0, and one top bit is set.
+abbrev pub Matches : Type 0
+Matches =
+    (a b : ℕ) → a % 32768 ≡ b % 32768 → (a % 32768 ≡ 0 → ⊥) → (32768 ≤ a) ⊎ (32768 ≤ b) → pkeysMatch a b ≡ true
+
+abbrev pub MatchesOnly : Type 0
+MatchesOnly =
+    (a b : ℕ) → pkeysMatch a b ≡ true
+    → (a % 32768 ≡ b % 32768) × (a % 32768 ≡ 0 → ⊥) × ((32768 ≤ a) ⊎ (32768 ≤ b))

@@ -1,6 +1,6 @@
 -- Reading a header: any bytes in.
-use Prim.Native.Nat.{ℕ, _+_, _*_, _/_, _%_}
-use mathlib.Core.Bool.{Bool, true, false, cond, not}
+use Prim.Native.Nat.{ℕ, _/_, _%_}
+use mathlib.Core.Bool.{Bool, true, cond, not}
 use mathlib.Core.List.{List}
 use lib.Dec.{leb, ltb, eqb}
 use lib.ListN.{length, getD}
@@ -16,8 +16,8 @@ use Rattle.header.specs.declared.Header.{Header}
 use Rattle.header.specs.declared.HeaderRead.{HeaderRead}
 use Rattle.header.specs.declared.HeaderRead.the-variants.{Accepted, Dropped}
 
--- BTH, 12 bytes: opcode; SE 1 bit, MigReq 1, PadCnt 2, TVer 4; P_Key 16; reserved 8; DestQP 24; AckReq 1,
--- reserved 7; PSN 24
+-- BTH, bytes 0 to 11. Byte 0 opcode; byte 1, from the top bit down, SE, MigReq, PadCnt in 2 bits and TVer in 4;
+-- P_Key in 2 bytes; a reserved byte; DestQP in 3; byte 8 AckReq, and 7 reserved bits; PSN in 3
 unfoldable pub bthOf : List ℕ → Bth
 bthOf p =
     record {
@@ -34,15 +34,15 @@ bthOf p =
       psn = record { 0 = be3 p 9 };
     }
 
--- after the BTH. RETH 16: address 64, R_Key 32, DMA length 32
+-- RETH, from byte 12 on: an address of 8 bytes, an R_Key of 4, a DMA length of 4
 unfoldable pub rethOf : List ℕ → Reth
 rethOf p = record { address = be8 p 12; key = be4 p 20; length = be4 p 24 }
 
--- AtomicETH 28: address 64, R_Key 32, swap-or-add 64, compare 64
+-- AtomicETH, from byte 12 on: an address of 8 bytes, an R_Key of 4, what to swap in or add in 8, what to compare in 8
 unfoldable pub atomicOf : List ℕ → AtomicEth
 atomicOf p = record { address = be8 p 12; key = be4 p 20; swap = be8 p 24; compare = be8 p 32 }
 
--- AETH 4: syndrome 8, MSN 24
+-- AETH, from byte 12 on: a syndrome of 1 byte, an MSN of 3
 unfoldable pub aethOf : List ℕ → Aeth
 aethOf p = record { syndrome = getD p 12 0; msn = record { 0 = be3 p 13 } }
 
@@ -59,7 +59,7 @@ extensionOf follows p =
 unfoldable pub headerOf : List ℕ → Header
 headerOf p = record { bth = bthOf p; extension = extensionOf (classOf (bthOf p .opcode) .follows) p }
 
--- a packet is 12 to 4,128 bytes, a multiple of 4
+-- a packet has 12 to 4,128 bytes, in words of 4
 unfoldable pub badLength : ℕ → Bool
 badLength n = cond (ltb n 12) true (cond (ltb 4128 n) true (not (eqb (n % 4) 0)))
 
@@ -67,8 +67,7 @@ badLength n = cond (ltb n 12) true (cond (ltb 4128 n) true (not (eqb (n % 4) 0))
 unfoldable pub otherService : ℕ → Bool
 otherService service = ltb 1 service
 
--- reading alone tests lengths, TVer, service bits, then too short: the first that fails, by its number among
--- the header checks, or 0
+-- reading alone makes four of the header checks; the first that fails, by its number among all nine, or 0
 unfoldable pub readReason : List ℕ → ℕ
 readReason p =
     cond (badLength (length p)) 1
@@ -79,6 +78,11 @@ readReason p =
 -- what a reason makes of a packet
 unfoldable pub readBy : ℕ → List ℕ → HeaderRead
 readBy reason p = cond (eqb reason 0) (Accepted (headerOf p)) (Dropped reason)
+
+-- the answer's number in the rules: a packet whose header does not read is a quiet drop
+unfoldable pub readNumber : HeaderRead → ℕ
+readNumber (Accepted h) = 0
+readNumber (Dropped reason) = 5
 
 unfoldable pub readHeader : List ℕ → HeaderRead
 readHeader p = readBy (readReason p) p

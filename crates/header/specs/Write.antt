@@ -1,8 +1,8 @@
 -- Writing a header.
-use Prim.Native.Nat.{ℕ, _+_, _*_, _/_, _%_, _^_}
-use mathlib.Core.Bool.{Bool, true, false, cond, not, _&&_}
+use Prim.Native.Nat.{ℕ, _+_, _*_, _%_, _^_}
+use mathlib.Core.Bool.{Bool, true, cond, not, _&&_}
 use mathlib.Core.List.{List, [], _∷_, _++_}
-use lib.Dec.{leb, ltb, eqb}
+use lib.Dec.{ltb, eqb}
 use lib.ListN.{length, drop}
 use Rattle.opcode.specs.Opcode.{classOf, serviceOf}
 use Rattle.header.specs.Bytes.{two, three, four, eight, bit}
@@ -110,14 +110,22 @@ headerFits h = bthFits (h .bth) && extensionFits (classOf (h .bth .opcode) .foll
 unfoldable pub headerLength : Header → ℕ
 headerLength h = classOf (h .bth .opcode) .length
 
--- the answer: 39, then 35; else the header's length
-unfoldable pub written : Header → ℕ → HeaderWritten
-written h n =
-    cond (headerFits h) (cond (ltb n (headerLength h)) (Refused 35) (Done (headerLength h))) (Refused 39)
+-- the answer's number: 39 before 35, else 0
+unfoldable pub writeAnswer : Header → ℕ → ℕ
+writeAnswer h n = cond (headerFits h) (cond (ltb n (headerLength h)) 35 0) 39
 
--- the output: nothing written on refusal, bytes past the header unchanged
+-- the answer: with 0 the bytes written
+unfoldable pub writtenBy : ℕ → ℕ → HeaderWritten
+writtenBy answer size = cond (eqb answer 0) (Done size) (Refused answer)
+
+unfoldable pub written : Header → ℕ → HeaderWritten
+written h n = writtenBy (writeAnswer h n) (headerLength h)
+
+-- and back: the number of an answer
+unfoldable pub writeNumber : HeaderWritten → ℕ
+writeNumber (Done size) = 0
+writeNumber (Refused answer) = answer
+
+-- the output: the header's bytes and what stood behind them, or, refused, as it was
 unfoldable pub writtenOut : Header → List ℕ → List ℕ
-writtenOut h out =
-    cond (headerFits h)
-    (cond (ltb (length out) (headerLength h)) out (headerBytes h ++ drop (headerLength h) out))
-    out
+writtenOut h out = cond (eqb (writeAnswer h (length out)) 0) (headerBytes h ++ drop (headerLength h) out) out

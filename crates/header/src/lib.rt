@@ -57,14 +57,15 @@ pub struct Header {
     pub extension: Extension,
 }
 
-// What reading finds: the header, or the number of the check that failed first: 1 lengths, 2 TVer,
-// 5 service, 8 too short for its headers.
+// What reading finds: the header, or why the packet is dropped: the header check that failed first,
+// by its number from 1 to 9. Reading alone makes four of them: 1, 2, 5 and 8.
 pub enum HeaderRead {
     Accepted(Header),
     Dropped(u8),
 }
 
-// What writing did: the bytes written, or the refusal: 39 no such header, 35 output too short.
+// What writing did: the number of bytes written, or the refusal: 39 where there is no such header,
+// 35 where the output is too short for it.
 pub enum HeaderWritten {
     Done(usize),
     Refused(u8),

@@ -10,6 +10,7 @@ use lib.Seq.{take-length, drop-drop, take-at, drop-at, getD-take, getD-drop, get
 use borrow.Author.Tests.{le-leb, lt-leb, leb-true}
 use borrow.Rule.Slice.PartMut.{putMid, midOf}
 use Rattle.memory.specs.Memory.{put, placed}
+use Rattle.memory.specs.Claims.{LengthKept, Found, BeforeKept, AfterKept, NothingOver}
 
 -- what fits is placed
 pub placed-put : (m : List ℕ) (at : ℕ) (d : List ℕ) → at + length d ≤ length m → placed m at d ≡ put m at d
@@ -17,7 +18,7 @@ unfolding placed
 placed-put m at d h = rw (le-leb (at + length d) (length m) h)
 
 -- what does not fit is not
-pub placed-over : (m : List ℕ) (at : ℕ) (d : List ℕ) → length m < at + length d → placed m at d ≡ m
+pub placed-over : NothingOver
 unfolding placed
 placed-over m at d h = rw (lt-leb (at + length d) (length m) h)
 
@@ -26,7 +27,7 @@ pub length-put : (m : List ℕ) (at : ℕ) (d : List ℕ) → at + length d ≤ 
 unfolding put
 length-put m at d h = simp (length-append, length-take, length-drop) (omega arith)
 
-pub length-placed : (m : List ℕ) (at : ℕ) (d : List ℕ) → length (placed m at d) ≡ length m
+pub length-placed : LengthKept
 unfolding placed
 length-placed m at d = go (leb (at + length d) (length m)) refl
   where
@@ -37,6 +38,29 @@ length-placed m at d = go (leb (at + length d) (length m)) refl
 beside : (d e x : List ℕ) → put (d ++ x) (length d) e ≡ (d ++ e) ++ drop (length e) x
 unfolding put
 beside d e x = rw (take-at d x (length d) refl, drop-append-add d x (length e), append-assoc d e)
+
+front : (m : List ℕ) (at : ℕ) (d : List ℕ) → at + length d ≤ length m → length (take at m) ≡ at
+front m at d h = simp length-take (omega arith)
+
+-- what was placed is there
+pub placed-found : Found
+unfolding put
+placed-found m at d h =
+    let l : length (take at m) ≡ at = front m at d h in
+    rw (placed-put m at d h, drop-at (take at m) (d ++ drop (at + length d) m) at l) (take-at d (drop (at + length d) m) (length d) refl)
+
+-- and nothing else moved
+pub placed-before : BeforeKept
+unfolding put
+placed-before m at d h = rw (placed-put m at d h) (take-at (take at m) (d ++ drop (at + length d) m) at (front m at d h))
+
+pub placed-after : AfterKept
+unfolding put
+placed-after m at d h =
+    let l : length (take at m ++ d) ≡ at + length d = simp (length-append, length-take) (omega arith) in
+    let e : take at m ++ (d ++ drop (at + length d) m) ≡ (take at m ++ d) ++ drop (at + length d) m =
+        sym (append-assoc (take at m) d (drop (at + length d) m)) in
+    rw (placed-put m at d h, e) (drop-at (take at m ++ d) (drop (at + length d) m) (at + length d) l)
 
 -- at the start of memory
 pub put-start : (m d : List ℕ) → put m 0 d ≡ d ++ drop (length d) m

@@ -6,17 +6,17 @@ use native.Mathlib.Omega.{arith}
 use lib.Dec.{eqb, ltb}
 use borrow.Author.Tests.{eqb-true}
 use Rattle.laws.proofs.Tests.{cond-le}
-use Rattle.opcode.specs.Opcode.{serviceOf, lowOf, followsOf, lengthOf, lowClass, noClass, classOf}
+use Rattle.opcode.specs.Opcode.{serviceOf, lowOf, followsOf, lengthOf, lowClass, reservedClass, ucHas, classOf}
 use Rattle.opcode.specs.declared.OpcodeClass.{OpcodeClass}
 
 -- the header length is that of the headers that follow
 pub class-length : (opcode : ℕ) → classOf opcode .length ≡ lengthOf (classOf opcode .follows)
-unfolding classOf lowClass noClass lengthOf
-class-length opcode = go (eqb (serviceOf opcode) 0) (eqb (serviceOf opcode) 1) (ltb (lowOf opcode) 12)
+unfolding classOf lowClass reservedClass lengthOf
+class-length opcode = go (eqb (serviceOf opcode) 0) (eqb (serviceOf opcode) 1) (ucHas (lowOf opcode))
   where
     go : (rc uc few : Bool)
-        → cond rc (lowClass (lowOf opcode)) (cond uc (cond few (lowClass (lowOf opcode)) noClass) noClass) .length
-        ≡ lengthOf (cond rc (lowClass (lowOf opcode)) (cond uc (cond few (lowClass (lowOf opcode)) noClass) noClass) .follows)
+        → cond rc (lowClass (lowOf opcode)) (cond uc (cond few (lowClass (lowOf opcode)) reservedClass) reservedClass) .length
+        ≡ lengthOf (cond rc (lowClass (lowOf opcode)) (cond uc (cond few (lowClass (lowOf opcode)) reservedClass) reservedClass) .follows)
     go true uc few = refl
     go false true true = refl
     go false true false = refl
@@ -42,11 +42,11 @@ follows-most low =
     (cond-le (eqb low 20) (omega arith) (omega arith))))))))))))))
 
 pub class-follows : (opcode : ℕ) → classOf opcode .follows ≤ 6
-unfolding classOf lowClass noClass
-class-follows opcode = go (eqb (serviceOf opcode) 0) (eqb (serviceOf opcode) 1) (ltb (lowOf opcode) 12)
+unfolding classOf lowClass reservedClass
+class-follows opcode = go (eqb (serviceOf opcode) 0) (eqb (serviceOf opcode) 1) (ucHas (lowOf opcode))
   where
     go : (rc uc few : Bool)
-        → cond rc (lowClass (lowOf opcode)) (cond uc (cond few (lowClass (lowOf opcode)) noClass) noClass) .follows ≤ 6
+        → cond rc (lowClass (lowOf opcode)) (cond uc (cond few (lowClass (lowOf opcode)) reservedClass) reservedClass) .follows ≤ 6
     go true uc few = follows-most (lowOf opcode)
     go false true true = follows-most (lowOf opcode)
     go false true false = omega arith

@@ -1,6 +1,6 @@
 -- Opcodes: bits 7 to 5 are the service, RC 000 and UC 001; bits 4 to 0 say kind, place and headers.
 use Prim.Native.Nat.{ℕ, _+_, _-_, _/_, _%_}
-use mathlib.Core.Bool.{Bool, true, false, cond}
+use mathlib.Core.Bool.{Bool, cond}
 use lib.Dec.{eqb, ltb}
 use Rattle.opcode.specs.declared.OpcodeClass.{OpcodeClass}
 
@@ -24,12 +24,13 @@ kindOf low =
     (cond (eqb low 19) 19
     (cond (eqb low 20) 20 21)))))))
 
--- First 0, Middle 1, Last 2, Last Imm 3, Only 4, Only Imm 5: the place is 0, 1, 2 or 4
+-- counted from a First: 0 First, 1 Middle, 2 and 3 Last, 4 and 5 Only; an odd number from 3 on has an immediate.
+-- The place's number is 0, 1, 2 or 4
 unfoldable pub placeIn : ℕ → ℕ
 placeIn n = cond (eqb n 0) 0 (cond (eqb n 1) 1 (cond (ltb n 4) 2 4))
 
--- a SEND's at 0 to 5, a WRITE's the same at 6 to 11, a READ response's First 13, Middle 14, Last 15, Only 16;
--- all else is one packet, so Only
+-- a SEND's counted from 0, a WRITE's from 6; of READ responses 13 is the First, 14 a Middle, 15 the Last and 16 an
+-- Only; all else is one packet, so Only
 unfoldable pub placeOf : ℕ → ℕ
 placeOf low =
     cond (ltb low 6) (placeIn low)
@@ -71,11 +72,15 @@ lowClass low =
     record { kind = kindOf low; place = placeOf low; follows = followsOf low; length = lengthOf (followsOf low) }
 
 -- a reserved opcode: the BTH alone
-unfoldable pub noClass : OpcodeClass
-noClass = record { kind = 21; place = 4; follows = 0; length = 12 }
+unfoldable pub reservedClass : OpcodeClass
+reservedClass = record { kind = 21; place = 4; follows = 0; length = 12 }
 
--- RC has 0 to 20, UC 0 to 11; the others, and other services', are reserved
+-- UC has the first twelve opcodes, SENDs and WRITEs
+unfoldable pub ucHas : ℕ → Bool
+ucHas low = ltb low 12
+
+-- RC has 0 to 20; the others, and those of other services, are reserved
 unfoldable pub classOf : ℕ → OpcodeClass
 classOf opcode =
     cond (eqb (serviceOf opcode) 0) (lowClass (lowOf opcode))
-    (cond (eqb (serviceOf opcode) 1) (cond (ltb (lowOf opcode) 12) (lowClass (lowOf opcode)) noClass) noClass)
+    (cond (eqb (serviceOf opcode) 1) (cond (ucHas (lowOf opcode)) (lowClass (lowOf opcode)) reservedClass) reservedClass)

@@ -1,7 +1,7 @@
 // What an opcode says of its packet: kind of request or response, place in the message, the headers
 // after the BTH, and the length of all headers.
 ghost use mathlib.Core.Path.{_≡_};
-ghost use Rattle.opcode.specs.Opcode.{kindOf, placeIn, placeOf, followsOf, lengthOf, lowClass, noClass, classOf};
+ghost use Rattle.opcode.specs.Opcode.{kindOf, placeIn, placeOf, followsOf, lengthOf, lowClass, reservedClass, ucHas, classOf};
 
 // Services, the opcode's bits 7 to 5.
 pub const RC: u8 = 0;
@@ -213,8 +213,8 @@ fn low_class(low: u8) -> OpcodeClass
     }
 }
 
-fn no_class() -> OpcodeClass
-    ensures { λ r. ⌜ r ≡ noClass ⌝ }
+fn reserved_class() -> OpcodeClass
+    ensures { λ r. ⌜ r ≡ reservedClass ⌝ }
 {
     OpcodeClass {
         kind: RESERVED,
@@ -224,6 +224,14 @@ fn no_class() -> OpcodeClass
     }
 }
 
+// Whether UC has the opcode with these low five bits.
+pub fn uc_has(low: u8) -> bool
+    ensures { λ r. ⌜ r ≡ ucHas low ⌝ }
+{
+    low < 12
+}
+
+// The class of an opcode: the one place that knows what opcodes mean.
 pub fn class(opcode: u8) -> OpcodeClass
     ensures { λ r. ⌜ r ≡ classOf opcode ⌝ }
 {
@@ -233,10 +241,11 @@ pub fn class(opcode: u8) -> OpcodeClass
         return low_class(low);
     }
     if service != UC {
-        return no_class();
+        return reserved_class();
     }
-    if READ <= low {
-        return no_class();
+    let has = uc_has(low);
+    if has {
+        return low_class(low);
     }
-    low_class(low)
+    reserved_class()
 }

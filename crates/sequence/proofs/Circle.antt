@@ -1,12 +1,12 @@
 -- The laws of the number circle, for every layer above.
-use Prim.Native.Nat.{ℕ, _+_, _-_, _%_, _≤_, _<_}
+use Prim.Native.Nat.{ℕ, zero, suc, _+_, _-_, _%_, _≤_, _<_}
 use mathlib.Core.Path.{_≡_, refl, ap, _∙_}
 use mathlib.Core.Bool.{Bool, true, false, cond}
 use native.Mathlib.Omega.{arith}
 use lib.Dec.{eqb, ltb, leb}
 use borrow.Author.Tests.{eq-eqb, ne-eqb, le-leb, lt-leb, lt-ltb, le-ltb, eqb-true, eqb-false, ltb-true, ltb-false}
-use Rattle.sequence.specs.Sequence.{half, distance, after, classAt, psnClass}
-use Rattle.sequence.specs.Claims.{order, ClassIsOrder, TooFarBehind, DistanceAfter, AfterDistance, AfterAfter, AfterBelow, AfterNone}
+use Rattle.sequence.specs.Sequence.{space, half, distance, after, psnAfter, msnNext, classAt, psnClass}
+use Rattle.sequence.specs.Claims.{order, msnOf, ClassIsOrder, TooFarBehind, DistanceAfter, AfterDistance, AfterAfter, AlongStream, AfterBelow, AfterNone, MsnCounts}
 use Rattle.sequence.specs.declared.Class.{Class}
 use Rattle.sequence.specs.declared.Class.the-variants.{Expected, Ahead, Duplicate}
 
@@ -15,19 +15,39 @@ pub reduced : (number n : ℕ) → (number % 16777216 + n % 16777216) % 16777216
 reduced number n = omega arith
 
 pub after-below : AfterBelow
-after-below number n = omega arith
+after-below psn n = omega arith
 
 pub after-none : AfterNone
-after-none number h = omega arith
+after-none psn h = let e : after (psn .0) 0 ≡ psn .0 = omega arith in λ i. record { 0 = e i }
+
+sum : (a m n : ℕ) → after (after a m) n ≡ after a (m + n)
+sum a m n = omega arith
 
 pub after-after : AfterAfter
-after-after number m n = omega arith
+after-after psn m n = λ i. record { 0 = sum (psn .0) m n i }
+
+pub along-stream : AlongStream
+along-stream psn x n = λ i. record { 0 = sum (psn .0) x n i }
+
+measured : (a n : ℕ) → distance (after a n) a ≡ n % space
+measured a n = omega arith
 
 pub distance-after : DistanceAfter
-distance-after number n = omega arith
+distance-after psn n = measured (psn .0) n
+
+reached : (p e : ℕ) → after e (distance p e) ≡ p % space
+reached p e = omega arith
 
 pub after-distance : AfterDistance
-after-distance psn expected = omega arith
+after-distance psn expected = reached (psn .0) (expected .0)
+
+one-more : (m n : ℕ) → m ≡ n % space → after m 1 ≡ suc n % space
+one-more m n h = omega arith
+
+pub msn-counts : MsnCounts
+unfolding msnOf
+msn-counts zero = refl
+msn-counts (suc n) = one-more (msnOf n .0) n (msn-counts n)
 
 -- a remainder is its own remainder
 again : (n : ℕ) → n % 16777216 % 16777216 ≡ n % 16777216

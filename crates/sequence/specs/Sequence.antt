@@ -1,9 +1,8 @@
 -- Packet numbers (PSN) and message numbers (MSN): counting modulo 2^24.
 -- Every definition takes any number: one over 24 bits counts as its remainder.
-use Prim.Native.Nat.{ℕ, _+_, _-_, _%_, _≤_}
+use Prim.Native.Nat.{ℕ, _+_, _-_, _%_}
 use mathlib.Core.Bool.{cond}
-use mathlib.Core.Path.{_≡_}
-use lib.Dec.{eqb, ltb, leb}
+use lib.Dec.{eqb, leb}
 use Rattle.sequence.specs.declared.Psn.{Psn}
 use Rattle.sequence.specs.declared.Msn.{Msn}
 use Rattle.sequence.specs.declared.Class.{Class}
@@ -27,10 +26,10 @@ after number n = (number + n) % space
 abbrev pub psnAfter : Psn → ℕ → Psn
 psnAfter psn n = record { 0 = after (psn .0) n }
 
-abbrev pub msnAfter : Msn → Msn
-msnAfter msn = record { 0 = after (msn .0) 1 }
+abbrev pub msnNext : Msn → Msn
+msnNext msn = record { 0 = after (msn .0) 1 }
 
--- by the distance: 0 is expected, 1 to 8,388,608 is ahead, the other 8,388,607 values are duplicates
+-- at distance 0 the packet is expected, up to the half-space it is ahead, beyond that a duplicate
 unfoldable pub classAt : ℕ → Class
 classAt d = cond (eqb d 0) Expected (cond (leb d half) Ahead Duplicate)
 

@@ -1,7 +1,7 @@
 // Packet sequence numbers and message sequence numbers: two kinds of 24-bit number that never
 // stand for each other.
 ghost use mathlib.Core.Path.{_≡_};
-ghost use Rattle.sequence.specs.Sequence.{distance, psnAfter, msnAfter, psnClass};
+ghost use Rattle.sequence.specs.Sequence.{distance, psnAfter, msnNext, psnClass};
 
 // The number of a packet.
 pub struct Psn(pub u32);
@@ -69,7 +69,7 @@ impl Psn {
 impl Msn {
     // The count after one more message.
     pub fn next(self) -> Msn
-        ensures { λ r. ⌜ r ≡ msnAfter self ⌝ }
+        ensures { λ r. ⌜ r ≡ msnNext self ⌝ }
     {
         Msn((self.0 % 16777216 + 1) % 16777216)
     }

@@ -1,20 +1,25 @@
-use borrow.Author.Needs.{needs}
-use Rattle.laws.proofs.Auto.{tested}
+use borrow.Author.Tests.{eq-eqb, ne-eqb}
 use Rattle.header.specs.Check.{beyondService}
+use borrow.Author.Needs.{needs}
 use Rattle.decode.proofs.beyond_service.Statement.{statement}
 use Rattle.decode.proofs.beyond_service.Tie as tie
 use Rattle.decode.proofs.beyond_service.Reads as reads
 use Rattle.decode.proofs.beyond_service.Lts as lts
+use Rattle.opcode.proofs.uc_has.Reads as uc-has-reads
 
--- src/lib.rt:147:9
+-- src/lib.rt:157:9
 returns : tie.Need-returns
 unfolding beyondService
-returns c = search (needs, tested)
+returns c = simp (ne-eqb _ _ (c .if1 .taken))
 
--- src/lib.rt:143:1
+-- src/lib.rt:159:9
+uc-has-requires : tie.Need-uc-has-requires
+uc-has-requires c κs = search needs
+
+-- src/lib.rt:153:1
 returns-2 : tie.Need-returns-2
 unfolding beyondService
-returns-2 c = search (needs, tested)
+returns-2 c = simp (eq-eqb _ _ (c .before .if1 .left), ← c .uc-has .ensures)
 
 pub beyond-service-spec : {M : Type 1} → statement M
-beyond-service-spec = tie.close (tie.spec returns returns-2)
+beyond-service-spec = tie.close (tie.spec returns uc-has-requires returns-2)

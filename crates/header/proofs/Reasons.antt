@@ -1,0 +1,63 @@
+-- When reading finds no reason to drop a packet, and what it then answers.
+use Prim.Native.Nat.{ℕ, _%_, _≤_}
+use mathlib.Core.Path.{_≡_, refl, sym, ap, _∙_}
+use mathlib.Core.Bool.{Bool, true, false, cond, not}
+use mathlib.Core.List.{List}
+use native.Mathlib.Omega.{arith}
+use lib.Dec.{ltb, eqb}
+use lib.ListN.{length}
+use borrow.Author.Tests.{eq-eqb, le-ltb, eqb-true, ltb-false}
+use Rattle.opcode.specs.Opcode.{classOf, serviceOf}
+use Rattle.header.specs.Read.{bthOf, headerOf, badLength, otherService, readReason, readBy, readHeader}
+use Rattle.header.specs.declared.Header.{Header}
+use Rattle.header.specs.declared.HeaderRead.the-variants.{Accepted, Dropped}
+
+pub good-length : (n : ℕ) → 12 ≤ n → n ≤ 4128 → n % 4 ≡ 0 → badLength n ≡ false
+unfolding badLength
+good-length n h k l = rw (le-ltb n 12 h, le-ltb 4128 n k, eq-eqb (n % 4) 0 l)
+
+-- a packet of good length that reading accepts
+pub record Read (p : List ℕ) : Type 0 where
+  pub tver : bthOf p .tver ≡ 0
+  pub known : otherService (serviceOf (bthOf p .opcode)) ≡ false
+  pub room : classOf (bthOf p .opcode) .length ≤ length p
+
+pub no-reason : (p : List ℕ) → badLength (length p) ≡ false → Read p → readReason p ≡ 0
+unfolding readReason
+no-reason p l R =
+    rw (l, eq-eqb (bthOf p .tver) 0 (R .tver), R .known, le-ltb (length p) (classOf (bthOf p .opcode) .length) (R .room))
+
+pub was-read : (p : List ℕ) → readReason p ≡ 0 → (badLength (length p) ≡ false) × Read p
+unfolding readReason
+was-read p e =
+    go (badLength (length p)) (eqb (bthOf p .tver) 0) (otherService (serviceOf (bthOf p .opcode)))
+    (ltb (length p) (classOf (bthOf p .opcode) .length)) refl refl refl refl e
+  where
+    go : (l t o s : Bool) → badLength (length p) ≡ l → eqb (bthOf p .tver) 0 ≡ t
+        → otherService (serviceOf (bthOf p .opcode)) ≡ o
+        → ltb (length p) (classOf (bthOf p .opcode) .length) ≡ s
+        → _≡_ {A = ℕ} (cond l 1 (cond (not t) 2 (cond o 5 (cond s 8 0)))) 0 → (badLength (length p) ≡ false) × Read p
+    go true t o s z a b c f = absurd (omega arith)
+    go false false o s z a b c f = absurd (omega arith)
+    go false true true s z a b c f = absurd (omega arith)
+    go false true false true z a b c f = absurd (omega arith)
+    go false true false false z a b c f =
+        (z, record { tver = eqb-true (bthOf p .tver) 0 a; known = b; room = ltb-false (length p) (classOf (bthOf p .opcode) .length) c })
+
+-- what is accepted is the header of the bytes, and there was no reason against it
+pub accepted-by : (reason : ℕ) (p : List ℕ) (h : Header) → readBy reason p ≡ Accepted h → (reason ≡ 0) × (headerOf p ≡ h)
+unfolding readBy
+accepted-by reason p h e = go (eqb reason 0) refl e
+  where
+    go : (b : Bool) → eqb reason 0 ≡ b → cond b (Accepted (headerOf p)) (Dropped reason) ≡ Accepted h
+        → (reason ≡ 0) × (headerOf p ≡ h)
+    go true a f = (eqb-true reason 0 a, cc)
+    go false a f = let z : _≡_ {A = ℕ} 0 1 = cc in absurd (omega arith)
+
+pub accepted : (p : List ℕ) (h : Header) → readHeader p ≡ Accepted h → (readReason p ≡ 0) × (headerOf p ≡ h)
+unfolding readHeader
+accepted p h e = accepted-by (readReason p) p h e
+
+pub read-by : (p : List ℕ) (h : Header) → readReason p ≡ 0 → headerOf p ≡ h → readHeader p ≡ Accepted h
+unfolding readHeader readBy
+read-by p h o e = rw o (ap Accepted e)
