@@ -1,16 +1,20 @@
 -- Writing step by step: from what each function answered to what the definitions say.
-use Prim.Native.Nat.{ℕ, _≤_, _<_}
-use mathlib.Core.Path.{_≡_, refl, sym, ap, subst, _∙_}
+use Prim.Native.Nat.{ℕ, _+_, _≤_, _<_}
+use mathlib.Core.Path.{_≡_, sym, ap, subst, _∙_}
 use mathlib.Core.Bool.{Bool, true, false, not}
 use mathlib.Core.List.{List, _++_}
-use lib.ListN.{length, drop}
+use native.Mathlib.Omega.{arith}
+use lib.ListN.{length, length-append}
 use Rattle.laws.proofs.Tests.{not-true, not-false}
 use Rattle.opcode.specs.Opcode.{classOf}
 use Rattle.opcode.specs.declared.OpcodeClass.{OpcodeClass}
 use Rattle.memory.specs.Memory.{placed}
-use Rattle.header.specs.Write.{bthFits, extensionFits, headerFits, headerLength, bthBytes, extensionBytes, headerBytes, written, writtenOut}
+use Rattle.memory.proofs.Put.{length-placed, placed-placed}
+use Rattle.header.specs.Write.{bthFits, extensionFits, headerFits, headerLength, bthBytes, extensionBytes, written, writtenOut}
 use Rattle.header.specs.declared.Header.{Header}
+use Rattle.header.specs.declared.Extension.{Extension}
 use Rattle.header.specs.declared.HeaderWritten.the-variants.{Done, Refused}
+use Rattle.header.proofs.Lengths.{length-is}
 use Rattle.header.proofs.Writes.{bth-off, extension-off, both-fit, refused, short, done, two-parts}
 
 -- a refusal by the BTH
@@ -48,6 +52,14 @@ module _ (h : Header) (out : List ℕ) (u : Bool) (e : u ≡ not (bthFits (h .bt
       let R = short h out (good t) (subst (λ n. length out < n) size l) in
       (sym (R .0), sym (R .1))
 
+  -- there is room for the headers after the BTH, in what the BTH's bytes b left
+  pub room : (b m : List ℕ) → v ≡ false → k .length ≤ length out → m ≡ placed out 0 b
+      → 12 + length (extensionBytes (h .extension)) ≤ length m
+  room b m t l q =
+      let s : length m ≡ length out = ap length q ∙ length-placed out 0 b in
+      let n : headerLength h ≤ length out = subst (λ z. z ≤ length out) size l in
+      omega (arith, length-is h (good t))
+
   -- the header written: the BTH's bytes b first, the other headers into what that left
   pub whole : (b m w : List ℕ) → v ≡ false → k .length ≤ length out → b ≡ bthBytes (h .bth) → m ≡ placed out 0 b
       → w ≡ placed m 12 (extensionBytes (h .extension))
@@ -58,3 +70,12 @@ module _ (h : Header) (out : List ℕ) (u : Bool) (e : u ≡ not (bthFits (h .bt
         ap Done size ∙ sym (D .0),
         r ∙ (ap (λ z. placed z 12 (extensionBytes (h .extension))) (q ∙ ap (placed out 0) p) ∙ (two-parts h out (good t) n ∙ sym (D .1))),
       )
+
+-- headers in two parts, b and c, the second placed behind the first
+pub in-two : (out b c m w : List ℕ) (e : Extension) (n : ℕ) → extensionBytes e ≡ b ++ c → 12 + length b ≡ n
+    → 12 + length (extensionBytes e) ≤ length out → m ≡ placed out 12 b → w ≡ placed m n c
+    → w ≡ placed out 12 (extensionBytes e)
+in-two out b c m w e n x l r p q =
+    let k : length (extensionBytes e) ≡ length b + length c = ap length x ∙ length-append b c in
+    let j : placed (placed out 12 b) (12 + length b) c ≡ placed out 12 (b ++ c) = placed-placed out 12 b c (omega arith) in
+    q ∙ (ap (λ z. placed z n c) p ∙ (subst (λ z. placed (placed out 12 b) z c ≡ placed out 12 (b ++ c)) l j ∙ ap (placed out 12) (sym x)))

@@ -7,6 +7,7 @@ use header::Header;
 use header::HeaderWritten;
 ghost use mathlib.Core.Path.{_≡_};
 ghost use mathlib.Core.Bool.{not};
+ghost use Prim.Native.Nat.{_+_, _≤_};
 ghost use lib.ListN.{length};
 ghost use Rattle.memory.specs.Memory.{placed};
 ghost use Rattle.header.specs.Write.{bthFits, followsBy, widthsFit, extensionFits, extensionBytes, written, writtenOut};
@@ -75,8 +76,9 @@ fn extension_unfit(follows: u8, e: Extension) -> bool
     widths_unfit(e)
 }
 
-// The headers after the BTH, where the output has room for them.
+// The headers after the BTH, into an output that has room for them.
 fn write_extension(out: &mut [u8], e: Extension)
+    requires { ⌜ 12 + length (extensionBytes e) ≤ length (now out) ⌝ }
     ensures { λ _. ⌜ now (out .exit) ≡ placed (now (out .entry)) 12 (extensionBytes e) ⌝ }
 {
     match e {
@@ -86,8 +88,10 @@ fn write_extension(out: &mut [u8], e: Extension)
             memory::place(out, 12, &b)
         }
         Extension::RemoteImmediate(r, i) => {
-            let b = wire::reth_immediate_bytes(r, i);
-            memory::place(out, 12, &b)
+            let b = wire::reth_bytes(r);
+            memory::place(out, 12, &b);
+            let c = wire::immediate_bytes(i);
+            memory::place(out, 28, &c)
         }
         Extension::Immediate(i) => {
             let b = wire::immediate_bytes(i);
@@ -102,8 +106,10 @@ fn write_extension(out: &mut [u8], e: Extension)
             memory::place(out, 12, &b)
         }
         Extension::AtomicAcknowledge(a, v) => {
-            let b = wire::aeth_value_bytes(a, v);
-            memory::place(out, 12, &b)
+            let b = wire::aeth_bytes(a);
+            memory::place(out, 12, &b);
+            let c = wire::value_bytes(v);
+            memory::place(out, 16, &c)
         }
     }
 }

@@ -1,14 +1,13 @@
 -- What is accepted, in plain inequalities: the round trips are about something.
-use Prim.Native.Nat.{ℕ, _/_, _%_, _^_, _≤_, _<_}
+use Prim.Native.Nat.{ℕ, _/_, _^_, _<_}
 use mathlib.Core.Path.{_≡_, refl}
-use mathlib.Core.Bool.{Bool, true, false}
-use mathlib.Core.List.{List}
+use mathlib.Core.Bool.{true, false}
 use native.Mathlib.Omega.{arith}
 use lib.ListN.{length, getD}
 use borrow.Author.Tests.{lt-ltb, le-ltb, eq-eqb}
 use Rattle.opcode.specs.Opcode.{classOf, serviceOf}
 use Rattle.header.specs.Read.{bthOf, headerOf, otherService}
-use Rattle.header.specs.Write.{bthFits, rethFits, atomicFits, aethFits, immediateFits, rethImmediateFits, aethValueFits, widthsFit, followsBy, extensionFits, headerFits}
+use Rattle.header.specs.Write.{bthFits, rethFits, atomicFits, aethFits, immediateFits, rethImmediateFits, aethValueFits, widthsFit, followsBy, extensionFits}
 use Rattle.header.specs.Claims.{Reads, BthWidths, RethWidths, AethWidths, Widths, Writes}
 use Rattle.header.proofs.Reasons.{good-length, no-reason, read-by}
 use Rattle.header.proofs.Writes.{both-fit, answered}
@@ -21,7 +20,7 @@ use Rattle.header.specs.declared.Extension.the-variants.{Bare, Remote, R
 -- RC and UC
 known : (opcode : ℕ) → opcode < 64 → otherService (serviceOf opcode) ≡ false
 unfolding otherService
-known opcode h = le-ltb 1 (opcode / 32) (omega arith)
+known opcode h = omega (arith, le-ltb)
 
 pub reads : Reads
 unfolding bthOf
@@ -34,9 +33,17 @@ bth-fits : (b : Bth) → BthWidths b → bthFits b ≡ true
 unfolding bthFits
 bth-fits b w =
     let op : b .opcode < 2 ^ 8 = omega (arith, w .opcode) in
-    rw (lt-ltb (b .opcode) (2 ^ 8) op, known (b .opcode) (w .opcode), lt-ltb (b .pad) (2 ^ 2) (w .pad), eq-eqb (b .tver) 0 (w .tver),
-        lt-ltb (b .pkey) (2 ^ 16) (w .pkey), lt-ltb (b .reserved8) (2 ^ 8) (w .reserved8), lt-ltb (b .dest) (2 ^ 24) (w .dest),
-        lt-ltb (b .reserved7) (2 ^ 7) (w .reserved7), lt-ltb (b .psn .0) (2 ^ 24) (w .psn))
+    rw (
+      lt-ltb (b .opcode) (2 ^ 8) op,
+      known (b .opcode) (w .opcode),
+      lt-ltb (b .pad) (2 ^ 2) (w .pad),
+      eq-eqb (b .tver) 0 (w .tver),
+      lt-ltb (b .pkey) (2 ^ 16) (w .pkey),
+      lt-ltb (b .reserved8) (2 ^ 8) (w .reserved8),
+      lt-ltb (b .dest) (2 ^ 24) (w .dest),
+      lt-ltb (b .reserved7) (2 ^ 7) (w .reserved7),
+      lt-ltb (b .psn .0) (2 ^ 24) (w .psn),
+    )
 
 reth-fits : (r : Reth) → RethWidths r → rethFits r ≡ true
 unfolding rethFits

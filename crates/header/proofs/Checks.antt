@@ -1,20 +1,19 @@
 -- Laws of the header checks and of the P_Key test.
 use Prim.Native.Nat.{ℕ, _%_, _≤_, _<_}
-use mathlib.Core.Path.{_≡_, refl, sym, ap, subst, _∙_}
-use mathlib.Core.Bool.{Bool, true, false, cond, not, _&&_, _||_, true≢false}
+use mathlib.Core.Path.{_≡_, refl, subst}
+use mathlib.Core.Bool.{Bool, true, false, cond, not, _&&_, _||_}
 use mathlib.Core.List.{List}
 use mathlib.Core.Logic.{_⊎_, inl, inr, ⊎-elim}
 use native.Mathlib.Omega.{arith}
-use lib.Dec.{leb, ltb, eqb}
+use lib.Dec.{ltb, eqb}
 use lib.ListN.{length}
 use borrow.Author.Tests.{eqb-true, eqb-false, eq-eqb, ne-eqb, lt-leb, le-leb, leb-true, lt-ltb, le-ltb, ltb-false}
 use Rattle.laws.proofs.Tests.{and-left, and-right, unnot}
 use Rattle.opcode.specs.Opcode.{classOf, serviceOf, lowOf, ucHas}
-use Rattle.header.specs.Read.{bthOf, headerOf, badLength, otherService, readReason, readBy, readHeader}
+use Rattle.header.specs.Read.{bthOf, headerOf, badLength, otherService, readReason, readBy}
 use Rattle.header.specs.Check.{fullMember, pkeysMatch, wrongService, isResponse, beyondService, headerReason, admitted}
 use Rattle.header.specs.Claims.{CheckedReads, Admits, Matches, MatchesOnly}
 use Rattle.header.proofs.Reasons.{Read, no-reason, was-read, accepted, accepted-by, read-by}
-use Rattle.header.specs.declared.Header.{Header}
 use Rattle.header.specs.declared.HeaderRead.the-variants.{Accepted}
 
 -- a right service is one that reads
@@ -48,11 +47,11 @@ passes service ours pkey ready p e =
     go false true true true false false false true el et es en f = absurd (omega arith)
     go false true true true false false false false el et es en f =
         no-reason p el
-        (record
-          { tver = eqb-true (bthOf p .tver) 0 et
-          ; known = right-known (serviceOf (bthOf p .opcode)) service es
-          ; room = ltb-false (length p) (classOf (bthOf p .opcode) .length) en
-          })
+        (record {
+          tver = eqb-true (bthOf p .tver) 0 et;
+          known = right-known (serviceOf (bthOf p .opcode)) service es;
+          room = ltb-false (length p) (classOf (bthOf p .opcode) .length) en;
+        })
 
 pub checked-reads : CheckedReads
 unfolding admitted
@@ -83,9 +82,16 @@ nine : (service ours pkey : ℕ) (p : List ℕ) → badLength (length p) ≡ fal
     → headerReason service ours pkey true p ≡ 0
 unfolding headerReason
 nine service ours pkey p l R s d k r u =
-    rw (l, eq-eqb (bthOf p .tver) 0 (R .tver), eq-eqb (bthOf p .dest) ours d, k,
-        same-service (serviceOf (bthOf p .opcode)) service (R .known) s, r, u,
-        le-ltb (length p) (classOf (bthOf p .opcode) .length) (R .room))
+    rw (
+      l,
+      eq-eqb (bthOf p .tver) 0 (R .tver),
+      eq-eqb (bthOf p .dest) ours d,
+      k,
+      same-service (serviceOf (bthOf p .opcode)) service (R .known) s,
+      r,
+      u,
+      le-ltb (length p) (classOf (bthOf p .opcode) .length) (R .room),
+    )
 
 -- of the packet's own header
 of-packet : (service ours pkey : ℕ) (p : List ℕ) → readReason p ≡ 0
@@ -103,8 +109,8 @@ admits service ours pkey p h e s d k r u =
     let A = accepted p h e in
     subst
     (λ x. serviceOf (x .bth .opcode) ≡ service → x .bth .dest ≡ ours → pkeysMatch (x .bth .pkey) pkey ≡ true
-        → (lowOf (x .bth .opcode) < 13) ⊎ (18 < lowOf (x .bth .opcode)) → (service ≡ 1 → lowOf (x .bth .opcode) < 12)
-        → admitted service ours pkey true p ≡ Accepted x)
+    → (lowOf (x .bth .opcode) < 13) ⊎ (18 < lowOf (x .bth .opcode)) → (service ≡ 1 → lowOf (x .bth .opcode) < 12)
+    → admitted service ours pkey true p ≡ Accepted x)
     (A .1)
     (of-packet service ours pkey p (A .0))
     s d k r u

@@ -1,21 +1,21 @@
--- A header written and read back is the same.
+-- Reading undoes writing.
 use Prim.Native.Nat.{ℕ, _+_, _*_, _/_, _%_, _^_, _≤_, _<_}
 use mathlib.Core.Path.{_≡_, refl, sym, ap, subst, _∙_}
-use mathlib.Core.Bool.{Bool, true, false, cond, not, _&&_}
-use mathlib.Core.List.{List, [], _∷_, _++_, append-assoc, append-nil}
+use mathlib.Core.Bool.{Bool, true, false, not}
+use mathlib.Core.List.{List, [], _++_, append-assoc, append-nil}
 use native.Mathlib.Omega.{arith}
 use lib.Dec.{leb, ltb, eqb}
-use lib.ListN.{length, getD, take, drop, length-append}
+use lib.ListN.{length, take, drop, length-append}
 use lib.Seq.{take-at}
-use borrow.Author.Tests.{ltb-true, eqb-true, le-leb, lt-leb, le-ltb, eq-eqb}
+use borrow.Author.Tests.{ltb-true, eqb-true, le-leb, lt-leb}
 use Rattle.laws.proofs.Tests.{and-left, and-right, unnot}
 use Rattle.laws.proofs.Numbers.{two-value, three-value, four-value, eight-value}
 use Rattle.opcode.specs.Opcode.{classOf, serviceOf}
 use Rattle.header.specs.Bytes.{bit, four, eight}
-use Rattle.header.specs.Read.{bthOf, rethOf, atomicOf, aethOf, extensionOf, headerOf, badLength, otherService, readReason, readBy, readHeader}
-use Rattle.header.specs.Write.{flagsByte, ackByte, bthBytes, rethBytes, atomicBytes, aethBytes, extensionBytes, headerBytes, bthFits, rethFits, atomicFits, aethFits, immediateFits, rethImmediateFits, aethValueFits, widthsFit, followsBy, headerFits, headerLength, written, writtenOut}
+use Rattle.header.specs.Read.{bthOf, rethOf, atomicOf, aethOf, extensionOf, headerOf, badLength, otherService, readReason, readHeader}
+use Rattle.header.specs.Write.{bthBytes, rethBytes, atomicBytes, aethBytes, extensionBytes, headerBytes, bthFits, rethFits, atomicFits, aethFits, immediateFits, rethImmediateFits, aethValueFits, widthsFit, followsBy, headerLength, writtenOut}
 use Rattle.header.specs.Claims.{ReadPacket, ReadBack}
-use Rattle.header.proofs.Lengths.{Fits, fits, length-bth, length-is, length-header, length-words, length-most}
+use Rattle.header.proofs.Lengths.{fits, length-is, length-header, length-words, length-most}
 use Rattle.header.proofs.Reasons.{Read, good-length, no-reason, read-by}
 use Rattle.header.proofs.Writes.{was-written, done}
 use Rattle.header.specs.declared.Bth.{Bth}
@@ -161,11 +161,11 @@ extension-back b (AtomicAcknowledge a v) t h =
 reads : (p : List ℕ) (h : Header) → bthOf p ≡ h .bth → Within (h .bth) → headerLength h ≤ length p → Read p
 unfolding headerLength
 reads p h e w n =
-    record
-      { tver = ap (λ b. b .tver) e ∙ w .tver
-      ; known = ap (λ b. otherService (serviceOf (b .opcode))) e ∙ w .known
-      ; room = subst (λ b. classOf (b .opcode) .length ≤ length p) (sym e) n
-      }
+    record {
+      tver = ap (λ b. b .tver) e ∙ w .tver;
+      known = ap (λ b. otherService (serviceOf (b .opcode))) e ∙ w .known;
+      room = subst (λ b. classOf (b .opcode) .length ≤ length p) (sym e) n;
+    }
 
 -- the whole header, found again in front of any payload
 same-header : (p : List ℕ) (h : Header) → bthOf p ≡ h .bth → classOf (h .bth .opcode) .follows ≡ followsBy (h .extension)

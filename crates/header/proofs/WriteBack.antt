@@ -1,29 +1,22 @@
--- A header read and written back is the packet's first bytes.
+-- Writing undoes reading.
 use Prim.Native.Nat.{ℕ, zero, suc, _+_, _-_, _*_, _/_, _%_, _^_, _≤_, _<_}
 use mathlib.Core.Path.{_≡_, refl, sym, ap, subst, _∙_}
-use mathlib.Core.Bool.{Bool, true, false, cond, not, _&&_, true≢false}
+use mathlib.Core.Bool.{Bool, true, false}
 use mathlib.Core.List.{List, [], _∷_, _++_}
 use native.Mathlib.Omega.{arith}
-use lib.Dec.{leb, ltb, eqb}
+use lib.Dec.{leb}
 use lib.ListN.{length, getD, take, drop}
-use borrow.Author.Tests.{lt-ltb, eq-eqb, leb-true, leb-false, ltb-false, eqb-true, eqb-false}
-use Rattle.laws.proofs.Tests.{unnot}
+use borrow.Author.Tests.{lt-ltb, eq-eqb, leb-true, leb-false}
 use Rattle.laws.proofs.Numbers.{two-bytes, three-bytes, four-bytes, four-below, high-half, low-half}
 use Rattle.laws.proofs.Lists.{elements, take-elements, elements-join}
-use Rattle.opcode.specs.Opcode.{classOf, serviceOf, lengthOf}
+use Rattle.opcode.specs.Opcode.{classOf, lengthOf}
 use Rattle.opcode.proofs.Classes.{class-length, class-follows}
 use Rattle.header.specs.Bytes.{bit, Bytes, be2, be3, be4, be8, four, eight}
-use Rattle.header.specs.Read.{bthOf, rethOf, atomicOf, aethOf, extensionOf, headerOf, badLength, otherService, readReason, readBy, readHeader}
+use Rattle.header.specs.Read.{bthOf, rethOf, atomicOf, aethOf, extensionOf, headerOf}
 use Rattle.header.specs.Write.{bthBytes, rethBytes, atomicBytes, aethBytes, extensionBytes, headerBytes, bthFits, rethFits, atomicFits, aethFits, immediateFits, rethImmediateFits, aethValueFits, widthsFit, followsBy, extensionFits, headerFits, headerLength, written, writtenOut}
 use Rattle.header.specs.Claims.{WriteBack}
 use Rattle.header.proofs.Reasons.{Read, was-read, accepted}
 use Rattle.header.proofs.Writes.{both-fit, done}
-use Rattle.header.specs.declared.Bth.{Bth}
-use Rattle.header.specs.declared.Extension.{Extension}
-use Rattle.header.specs.declared.Extension.the-variants.{Bare, Remote, RemoteImmediate, Immediate, Atomic, Acknowledge, AtomicAcknowledge}
-use Rattle.header.specs.declared.Header.{Header}
-use Rattle.header.specs.declared.HeaderRead.{HeaderRead}
-use Rattle.header.specs.declared.HeaderRead.the-variants.{Accepted, Dropped}
 use Rattle.header.specs.declared.HeaderWritten.the-variants.{Done}
 
 -- the flags' byte, from its fields

@@ -1,20 +1,18 @@
 -- What writing answers and leaves, by what it tests.
 use Prim.Native.Nat.{ℕ, zero, suc, _+_, _≤_, _<_}
 use mathlib.Core.Path.{_≡_, refl, sym, ap, subst, _∙_}
-use mathlib.Core.Bool.{Bool, true, false, cond, _&&_}
-use mathlib.Core.List.{List, [], _∷_, _++_}
+use mathlib.Core.Bool.{Bool, true, false, cond}
+use mathlib.Core.List.{List, _++_}
 use native.Mathlib.Omega.{arith}
 use lib.Dec.{ltb, eqb}
-use lib.ListN.{length, drop, length-append}
+use lib.ListN.{length, drop}
 use borrow.Author.Tests.{lt-ltb, le-ltb, ltb-true, ltb-false, ne-eqb}
 use Rattle.opcode.specs.Opcode.{classOf}
-use Rattle.memory.specs.Memory.{put, placed}
-use Rattle.memory.proofs.Put.{placed-put, length-placed, length-put, put-put, put-start}
+use Rattle.memory.specs.Memory.{placed}
+use Rattle.memory.proofs.Put.{placed-put, placed-placed, put-start}
 use Rattle.header.specs.Write.{bthBytes, extensionBytes, headerBytes, bthFits, extensionFits, headerFits, headerLength, writeAnswer, writtenBy, written, writeNumber, writtenOut}
 use Rattle.header.specs.Claims.{WriteNumbers}
 use Rattle.header.proofs.Lengths.{length-bth, length-is, length-header}
-use Rattle.header.specs.declared.Bth.{Bth}
-use Rattle.header.specs.declared.Extension.{Extension}
 use Rattle.header.specs.declared.Header.{Header}
 use Rattle.header.specs.declared.HeaderWritten.the-variants.{Done, Refused}
 
@@ -76,14 +74,14 @@ unfolding headerBytes
 two-parts h out e l =
     let b = bthBytes (h .bth) in
     let x = extensionBytes (h .extension) in
-    let lb : length b ≡ 12 = length-bth (h .bth) in
+    let lb : 0 + length b ≡ 12 = omega (arith, length-bth (h .bth)) in
     let lx : headerLength h ≡ 12 + length x = length-is h e in
-    let first : placed out 0 b ≡ put out 0 b = placed-put out 0 b (omega arith) in
-    let same : length (put out 0 b) ≡ length out = length-put out 0 b (omega arith) in
-    let second : placed (put out 0 b) 12 x ≡ put (put out 0 b) 12 x = placed-put (put out 0 b) 12 x (omega arith) in
-    let joined : put (put out 0 b) 12 x ≡ put out 0 (b ++ x) = subst (λ n. put (put out 0 b) n x ≡ put out 0 (b ++ x)) lb (put-put out b x) in
+    let both : 0 + length b + length x ≤ length out = omega arith in
+    let joined : placed (placed out 0 b) 12 x ≡ placed out 0 (b ++ x) =
+    subst (λ n. placed (placed out 0 b) n x ≡ placed out 0 (b ++ x)) lb (placed-placed out 0 b x both) in
     let size : length (b ++ x) ≡ headerLength h = length-header h e in
-    ap (λ m. placed m 12 x) first ∙ (second ∙ (joined ∙ (put-start out (b ++ x) ∙ ap (λ n. (b ++ x) ++ drop n out) size)))
+    let room : 0 + length (b ++ x) ≤ length out = omega arith in
+    joined ∙ (placed-put out 0 (b ++ x) room ∙ (put-start out (b ++ x) ∙ ap (λ n. (b ++ x) ++ drop n out) size))
 
 -- what an answer of bytes written tells
 pub record Written (h : Header) (out : List ℕ) (n : ℕ) : Type 0 where

@@ -1,12 +1,12 @@
 -- Laws of bytes placed in memory.
-use Prim.Native.Nat.{ℕ, _+_, _-_, _≤_, _<_}
+use Prim.Native.Nat.{ℕ, _+_, _-_, _≤_}
 use mathlib.Core.Path.{_≡_, refl, sym, ap, subst, _∙_}
 use mathlib.Core.Bool.{Bool, true, false, cond}
-use mathlib.Core.List.{List, [], _++_, append-nil, append-assoc}
+use mathlib.Core.List.{List, _++_, append-nil, append-assoc}
 use native.Mathlib.Omega.{arith}
 use lib.Dec.{leb}
-use lib.ListN.{length, take, drop, getD, length-append, length-take, length-drop, drop-of-length-le, List·getD-append}
-use lib.Seq.{take-length, drop-drop, take-at, drop-at, getD-take, getD-drop, getD-append-add, take-append-le, drop-append-add}
+use lib.ListN.{length, take, drop, length-append, length-take, length-drop, drop-of-length-le}
+use lib.Seq.{take-length, drop-drop, take-at, drop-at, drop-append-add}
 use borrow.Author.Tests.{le-leb, lt-leb, leb-true}
 use borrow.Rule.Slice.PartMut.{putMid, midOf}
 use Rattle.memory.specs.Memory.{put, placed}
@@ -59,7 +59,7 @@ unfolding put
 placed-after m at d h =
     let l : length (take at m ++ d) ≡ at + length d = simp (length-append, length-take) (omega arith) in
     let e : take at m ++ (d ++ drop (at + length d) m) ≡ (take at m ++ d) ++ drop (at + length d) m =
-        sym (append-assoc (take at m) d (drop (at + length d) m)) in
+    sym (append-assoc (take at m) d (drop (at + length d) m)) in
     rw (placed-put m at d h, e) (drop-at (take at m ++ d) (drop (at + length d) m) (at + length d) l)
 
 -- at the start of memory
@@ -70,15 +70,30 @@ put-start m d =
     ap (λ n. d ++ drop n m) e
 
 -- two parts side by side are one
-pub put-put : (m d e : List ℕ) → put (put m 0 d) (length d) e ≡ put m 0 (d ++ e)
-put-put m d e =
-    rw (put-start m d, put-start m (d ++ e)) (go (drop (length d) m) refl)
-  where
-    go : (x : List ℕ) → drop (length d) m ≡ x → put (d ++ x) (length d) e ≡ (d ++ e) ++ drop (length (d ++ e)) m
-    go x q =
-        let l : drop (length (d ++ e)) m ≡ drop (length e) x =
-        rw (length-append d e) (sym (drop-drop (length e) (length d) m) ∙ ap (drop (length e)) q) in
-        rw l (beside d e x)
+pub put-put : (m : List ℕ) (at : ℕ) (d e : List ℕ) → at ≤ length m
+    → put (put m at d) (at + length d) e ≡ put m at (d ++ e)
+unfolding put
+put-put m at d e h =
+    let P = take at m ++ d in
+    let x = drop (at + length d) m in
+    let l : length P ≡ at + length d = simp (length-append, length-take) (omega arith) in
+    let first : put m at d ≡ P ++ x = sym (append-assoc (take at m) d x) in
+    let n : at + length d + length e ≡ at + length (d ++ e) = omega (arith, length-append d e) in
+    let rest : drop (length e) x ≡ drop (at + length (d ++ e)) m = drop-drop (length e) (at + length d) m ∙ ap (λ k. drop k m) n in
+    ap (λ z. put z (at + length d) e) first
+    ∙ (subst (λ k. put (P ++ x) k e ≡ (P ++ e) ++ drop (length e) x) l (beside P e x)
+    ∙ (ap (λ z. (P ++ e) ++ z) rest
+    ∙ (ap (λ z. z ++ drop (at + length (d ++ e)) m) (append-assoc (take at m) d e)
+    ∙ append-assoc (take at m) (d ++ e) (drop (at + length (d ++ e)) m))))
+
+pub placed-placed : (m : List ℕ) (at : ℕ) (d e : List ℕ) → at + length d + length e ≤ length m
+    → placed (placed m at d) (at + length d) e ≡ placed m at (d ++ e)
+placed-placed m at d e h =
+    let one : placed m at d ≡ put m at d = placed-put m at d (omega arith) in
+    let same : length (put m at d) ≡ length m = length-put m at d (omega arith) in
+    let two : placed (put m at d) (at + length d) e ≡ put (put m at d) (at + length d) e = placed-put (put m at d) (at + length d) e (omega arith) in
+    let whole : at + length (d ++ e) ≤ length m = omega (arith, length-append d e) in
+    ap (λ z. placed z (at + length d) e) one ∙ (two ∙ (put-put m at d e (omega arith) ∙ sym (placed-put m at (d ++ e) whole)))
 
 -- what the kit's copy leaves in a part as long as its source is the source
 module _ (m d : List ℕ) (at e : ℕ) (l : at + length d ≡ e) where

@@ -1,13 +1,11 @@
 -- Laws of the opcode's class.
-use Prim.Native.Nat.{ℕ, _+_, _*_, _%_, _≤_, _<_}
-use mathlib.Core.Path.{_≡_, refl, sym, ap, subst, _∙_}
+use Prim.Native.Nat.{ℕ, _≤_}
+use mathlib.Core.Path.{_≡_, refl}
 use mathlib.Core.Bool.{Bool, true, false, cond}
 use native.Mathlib.Omega.{arith}
-use lib.Dec.{eqb, ltb}
-use borrow.Author.Tests.{eqb-true}
+use lib.Dec.{eqb}
 use Rattle.laws.proofs.Tests.{cond-le}
 use Rattle.opcode.specs.Opcode.{serviceOf, lowOf, followsOf, lengthOf, lowClass, reservedClass, ucHas, classOf}
-use Rattle.opcode.specs.declared.OpcodeClass.{OpcodeClass}
 
 -- the header length is that of the headers that follow
 pub class-length : (opcode : ℕ) → classOf opcode .length ≡ lengthOf (classOf opcode .follows)

@@ -1,13 +1,12 @@
 -- The laws of the number circle, for every layer above.
 use Prim.Native.Nat.{ℕ, zero, suc, _+_, _-_, _%_, _≤_, _<_}
-use mathlib.Core.Path.{_≡_, refl, ap, _∙_}
+use mathlib.Core.Path.{_≡_, refl}
 use mathlib.Core.Bool.{Bool, true, false, cond}
 use native.Mathlib.Omega.{arith}
-use lib.Dec.{eqb, ltb, leb}
-use borrow.Author.Tests.{eq-eqb, ne-eqb, le-leb, lt-leb, lt-ltb, le-ltb, eqb-true, eqb-false, ltb-true, ltb-false}
-use Rattle.sequence.specs.Sequence.{space, half, distance, after, psnAfter, msnNext, classAt, psnClass}
+use lib.Dec.{eqb, ltb}
+use borrow.Author.Tests.{eq-eqb, ne-eqb, le-leb, lt-leb, eqb-true, eqb-false, ltb-true, ltb-false}
+use Rattle.sequence.specs.Sequence.{space, half, distance, after, classAt, psnClass}
 use Rattle.sequence.specs.Claims.{order, msnOf, ClassIsOrder, TooFarBehind, DistanceAfter, AfterDistance, AfterAfter, AlongStream, AfterBelow, AfterNone, MsnCounts}
-use Rattle.sequence.specs.declared.Class.{Class}
 use Rattle.sequence.specs.declared.Class.the-variants.{Expected, Ahead, Duplicate}
 
 -- summing remainders, which no machine word overflows, is going on

@@ -5,7 +5,6 @@ use header::AtomicEth;
 use header::Bth;
 use header::Reth;
 ghost use mathlib.Core.Path.{_≡_};
-ghost use mathlib.Core.List.{_++_};
 ghost use Prim.Native.Nat.{_<_};
 ghost use Rattle.header.specs.Bytes.{four, eight, bit};
 ghost use Rattle.header.specs.Write.{bthBytes, rethBytes, atomicBytes, aethBytes};
@@ -70,37 +69,6 @@ pub fn reth_bytes(reth: Reth) -> [u8; 16]
         (n / 65536 % 256) as u8,
         (n / 256 % 256) as u8,
         (n % 256) as u8,
-    ]
-}
-
-pub fn reth_immediate_bytes(reth: Reth, i: u32) -> [u8; 20]
-    ensures { λ r. ⌜ r ≡ rethBytes reth ++ four i ⌝ }
-{
-    let h = reth.address / 4294967296;
-    let l = reth.address;
-    let k = reth.key;
-    let n = reth.length;
-    [
-        (h / 16777216 % 256) as u8,
-        (h / 65536 % 256) as u8,
-        (h / 256 % 256) as u8,
-        (h % 256) as u8,
-        (l / 16777216 % 256) as u8,
-        (l / 65536 % 256) as u8,
-        (l / 256 % 256) as u8,
-        (l % 256) as u8,
-        (k / 16777216 % 256) as u8,
-        (k / 65536 % 256) as u8,
-        (k / 256 % 256) as u8,
-        (k % 256) as u8,
-        (n / 16777216 % 256) as u8,
-        (n / 65536 % 256) as u8,
-        (n / 256 % 256) as u8,
-        (n % 256) as u8,
-        (i / 16777216 % 256) as u8,
-        (i / 65536 % 256) as u8,
-        (i / 256 % 256) as u8,
-        (i % 256) as u8,
     ]
 }
 
@@ -171,18 +139,11 @@ pub fn aeth_bytes(a: Aeth) -> [u8; 4]
     ]
 }
 
-pub fn aeth_value_bytes(a: Aeth, v: u64) -> [u8; 12]
-    ensures { λ r. ⌜ r ≡ aethBytes a ++ eight v ⌝ }
+pub fn value_bytes(v: u64) -> [u8; 8]
+    ensures { λ r. ⌜ r ≡ eight v ⌝ }
 {
-    let syndrome = a.syndrome;
-    let msn = a.msn;
-    let m = msn.0;
     let h = v / 4294967296;
     [
-        syndrome,
-        (m / 65536 % 256) as u8,
-        (m / 256 % 256) as u8,
-        (m % 256) as u8,
         (h / 16777216 % 256) as u8,
         (h / 65536 % 256) as u8,
         (h / 256 % 256) as u8,

@@ -3,20 +3,15 @@ use Rattle.laws.proofs.Auto.{tested}
 use Rattle.header.specs.Read.{badLength}
 use Rattle.decode.proofs.bad_length.Statement.{statement}
 use Rattle.decode.proofs.bad_length.Tie as tie
-use Rattle.decode.proofs.bad_length.Reads as reads
-use Rattle.decode.proofs.bad_length.Lts as lts
 
--- src/lib.rt:120:9
 returns : tie.Need-returns
 unfolding badLength
 returns c = search (needs, tested)
 
--- src/lib.rt:123:9
 returns-2 : tie.Need-returns-2
 unfolding badLength
 returns-2 c = search (needs, tested)
 
--- src/lib.rt:116:1
 returns-3 : tie.Need-returns-3
 unfolding badLength
 returns-3 c = search (needs, tested)

@@ -3,20 +3,14 @@ use Rattle.header.specs.Check.{beyondService}
 use borrow.Author.Needs.{needs}
 use Rattle.decode.proofs.beyond_service.Statement.{statement}
 use Rattle.decode.proofs.beyond_service.Tie as tie
-use Rattle.decode.proofs.beyond_service.Reads as reads
-use Rattle.decode.proofs.beyond_service.Lts as lts
-use Rattle.opcode.proofs.uc_has.Reads as uc-has-reads
 
--- src/lib.rt:157:9
 returns : tie.Need-returns
 unfolding beyondService
 returns c = simp (ne-eqb _ _ (c .if1 .taken))
 
--- src/lib.rt:159:9
 uc-has-requires : tie.Need-uc-has-requires
 uc-has-requires c κs = search needs
 
--- src/lib.rt:153:1
 returns-2 : tie.Need-returns-2
 unfolding beyondService
 returns-2 c = simp (eq-eqb _ _ (c .before .if1 .left), ← c .uc-has .ensures)

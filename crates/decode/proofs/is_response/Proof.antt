@@ -3,15 +3,11 @@ use Rattle.laws.proofs.Auto.{tested}
 use Rattle.header.specs.Check.{isResponse}
 use Rattle.decode.proofs.is_response.Statement.{statement}
 use Rattle.decode.proofs.is_response.Tie as tie
-use Rattle.decode.proofs.is_response.Reads as reads
-use Rattle.decode.proofs.is_response.Lts as lts
 
--- src/lib.rt:138:9
 returns : tie.Need-returns
 unfolding isResponse
 returns c = search (needs, tested)
 
--- src/lib.rt:134:1
 returns-2 : tie.Need-returns-2
 unfolding isResponse
 returns-2 c = search (needs, tested)

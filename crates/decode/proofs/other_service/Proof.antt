@@ -3,10 +3,7 @@ use Rattle.laws.proofs.Auto.{tested}
 use Rattle.header.specs.Read.{otherService}
 use Rattle.decode.proofs.other_service.Statement.{statement}
 use Rattle.decode.proofs.other_service.Tie as tie
-use Rattle.decode.proofs.other_service.Reads as reads
-use Rattle.decode.proofs.other_service.Lts as lts
 
--- src/lib.rt:128:1
 returns : tie.Need-returns
 unfolding otherService
 returns c = search (needs, tested)

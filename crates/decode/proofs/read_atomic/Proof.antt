@@ -2,28 +2,19 @@ use Rattle.header.specs.Read.{atomicOf}
 use borrow.Author.Needs.{needs}
 use Rattle.decode.proofs.read_atomic.Statement.{statement}
 use Rattle.decode.proofs.read_atomic.Tie as tie
-use Rattle.decode.proofs.read_atomic.Reads as reads
-use Rattle.decode.proofs.read_atomic.Lts as lts
-use Rattle.decode.proofs.field.be32.Reads as be32-reads
-use Rattle.decode.proofs.field.be64.Reads as be64-reads
 
--- src/lib.rt:66:18
 be64-requires : tie.Need-be64-requires
 be64-requires c κs = search needs
 
--- src/lib.rt:67:14
 be32-requires : tie.Need-be32-requires
 be32-requires c κs = search needs
 
--- src/lib.rt:68:15
 be64-requires-2 : tie.Need-be64-requires-2
 be64-requires-2 c κs = search needs
 
--- src/lib.rt:69:18
 be64-requires-3 : tie.Need-be64-requires-3
 be64-requires-3 c κs = search needs
 
--- src/lib.rt:61:1
 returns : tie.Need-returns
 unfolding atomicOf
 returns c = cc

@@ -1,91 +1,67 @@
 use native.Mathlib.Omega.{arith}
 use Rattle.opcode.specs.Opcode.{lengthOf}
 use Rattle.decode.proofs.Room.{room}
-use borrow.Author.Needs.{needs}
-use Rattle.laws.proofs.Auto.{tested}
 use borrow.Author.Tests.{eq-eqb, ne-eqb}
 use Rattle.header.specs.Read.{extensionOf}
 use Rattle.decode.proofs.read_extension.Statement.{statement}
 use Rattle.decode.proofs.read_extension.Tie as tie
-use Rattle.decode.proofs.read_extension.Reads as reads
-use Rattle.decode.proofs.read_extension.Lts as lts
-use Rattle.decode.proofs.field.be32.Reads as be32-reads
-use Rattle.decode.proofs.field.be64.Reads as be64-reads
-use Rattle.decode.proofs.read_aeth.Reads as read-aeth-reads
-use Rattle.decode.proofs.read_atomic.Reads as read-atomic-reads
-use Rattle.decode.proofs.read_reth.Reads as read-reth-reads
 
--- src/lib.rt:88:13
 read-reth-requires : tie.Need-read-reth-requires
 unfolding lengthOf
 read-reth-requires c κs = room (c .before .before .args .follows) 1 (c .if1 .taken) (c .before .before .pre)
 
--- src/lib.rt:89:9
 returns : tie.Need-returns
 unfolding extensionOf
 returns c = simp (eq-eqb _ _ (c .before .if1 .taken), ← c .read-reth .ensures)
 
--- src/lib.rt:92:13
 read-reth-requires-2 : tie.Need-read-reth-requires-2
 unfolding lengthOf
 read-reth-requires-2 c κs = omega (arith, room (c .before .before .before .args .follows) 2 (c .if2 .taken) (c .before .before .before .pre))
 
--- src/lib.rt:93:13
 be32-requires : tie.Need-be32-requires
 unfolding lengthOf
 be32-requires c κs = room (c .before .before .before .before .args .follows) 2 (c .before .if2 .taken) (c .before .before .before .before .pre)
 
--- src/lib.rt:94:9
 returns-2 : tie.Need-returns-2
 unfolding extensionOf
 returns-2 c = simp (ne-eqb _ _ (c .before .before .before .if1 .left), eq-eqb _ _ (c .before .before .if2 .taken), ← c .before .read-reth2 .ensures, ← c .be32 .ensures)
 
--- src/lib.rt:97:13
 be32-requires-2 : tie.Need-be32-requires-2
 unfolding lengthOf
 be32-requires-2 c κs = room (c .before .before .before .before .args .follows) 3 (c .if3 .taken) (c .before .before .before .before .pre)
 
--- src/lib.rt:98:9
 returns-3 : tie.Need-returns-3
 unfolding extensionOf
 returns-3 c = simp (ne-eqb _ _ (c .before .before .before .if1 .left), ne-eqb _ _ (c .before .before .if2 .left), eq-eqb _ _ (c .before .if3 .taken), ← c .be322 .ensures)
 
--- src/lib.rt:101:13
 read-atomic-requires : tie.Need-read-atomic-requires
 unfolding lengthOf
 read-atomic-requires c κs = room (c .before .before .before .before .before .args .follows) 4 (c .if4 .taken) (c .before .before .before .before .before .pre)
 
--- src/lib.rt:102:9
 returns-4 : tie.Need-returns-4
 unfolding extensionOf
 returns-4 c = simp (ne-eqb _ _ (c .before .before .before .before .if1 .left), ne-eqb _ _ (c .before .before .before .if2 .left), ne-eqb _ _ (c .before .before .if3 .left), eq-eqb _ _ (c .before .if4 .taken), ← c .read-atomic .ensures)
 
--- src/lib.rt:105:13
 read-aeth-requires : tie.Need-read-aeth-requires
 unfolding lengthOf
 read-aeth-requires c κs = room (c .before .before .before .before .before .before .args .follows) 5 (c .if5 .taken) (c .before .before .before .before .before .before .pre)
 
--- src/lib.rt:106:9
 returns-5 : tie.Need-returns-5
 unfolding extensionOf
 returns-5 c = simp (ne-eqb _ _ (c .before .before .before .before .before .if1 .left), ne-eqb _ _ (c .before .before .before .before .if2 .left), ne-eqb _ _ (c .before .before .before .if3 .left), ne-eqb _ _ (c .before .before .if4 .left), eq-eqb _ _ (c .before .if5 .taken), ← c .read-aeth .ensures)
 
--- src/lib.rt:109:13
 read-aeth-requires-2 : tie.Need-read-aeth-requires-2
 unfolding lengthOf
 read-aeth-requires-2 c κs = omega (arith, room (c .before .before .before .before .before .before .before .args .follows) 6 (c .if6 .taken) (c .before .before .before .before .before .before .before .pre))
 
--- src/lib.rt:110:13
 be64-requires : tie.Need-be64-requires
 unfolding lengthOf
 be64-requires c κs = room (c .before .before .before .before .before .before .before .before .args .follows) 6 (c .before .if6 .taken) (c .before .before .before .before .before .before .before .before .pre)
 
--- src/lib.rt:111:9
 returns-6 : tie.Need-returns-6
 unfolding extensionOf
 returns-6 c = simp (ne-eqb _ _ (c .before .before .before .before .before .before .before .if1 .left), ne-eqb _ _ (c .before .before .before .before .before .before .if2 .left), ne-eqb _ _ (c .before .before .before .before .before .if3 .left), ne-eqb _ _ (c .before .before .before .before .if4 .left), ne-eqb _ _ (c .before .before .before .if5 .left), eq-eqb _ _ (c .before .before .if6 .taken), ← c .before .read-aeth2 .ensures, ← c .be64 .ensures)
 
--- src/lib.rt:83:1
 returns-7 : tie.Need-returns-7
 unfolding extensionOf
 returns-7 c = simp (ne-eqb _ _ (c .before .before .before .before .before .if1 .left), ne-eqb _ _ (c .before .before .before .before .if2 .left), ne-eqb _ _ (c .before .before .before .if3 .left), ne-eqb _ _ (c .before .before .if4 .left), ne-eqb _ _ (c .before .if5 .left), ne-eqb _ _ (c .if6 .left))

@@ -2,20 +2,14 @@ use Rattle.header.specs.Check.{wrongService}
 use borrow.Author.Needs.{needs}
 use Rattle.decode.proofs.wrong_service.Statement.{statement}
 use Rattle.decode.proofs.wrong_service.Tie as tie
-use Rattle.decode.proofs.wrong_service.Reads as reads
-use Rattle.decode.proofs.wrong_service.Lts as lts
-use Rattle.decode.proofs.other_service.Reads as other-service-reads
 
--- src/lib.rt:137:9
 other-service-requires : tie.Need-other-service-requires
 other-service-requires c κs = search needs
 
--- src/lib.rt:139:9
 returns : tie.Need-returns
 unfolding wrongService
 returns c = simp (← c .before .other-service .ensures, c .if1 .taken)
 
--- src/lib.rt:134:1
 returns-2 : tie.Need-returns-2
 unfolding wrongService
 returns-2 c = simp (← c .before .other-service .ensures, c .if1 .left)

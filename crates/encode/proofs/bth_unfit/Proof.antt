@@ -6,45 +6,37 @@ use Rattle.header.specs.Read.{otherService}
 use Rattle.header.specs.Write.{bthFits}
 use Rattle.encode.proofs.bth_unfit.Statement.{statement}
 use Rattle.encode.proofs.bth_unfit.Tie as tie
-use Rattle.encode.proofs.bth_unfit.Reads as reads
-use Rattle.encode.proofs.bth_unfit.Lts as lts
 
--- src/lib.rt:22:9
 returns : tie.Need-returns
 unfolding bthFits otherService
 returns c =
     let A = c .before .before .args in
     simp (lt-ltb (A .b .opcode) (2 ^ 8) (omega arith), lt-ltb (A .b .pkey) (2 ^ 16) (omega arith), lt-ltb (A .b .reserved8) (2 ^ 8) (omega arith), lt-leb _ _ (c .if1 .taken), lt-ltb _ _ (c .if1 .taken))
 
--- src/lib.rt:25:9
 returns-2 : tie.Need-returns-2
 unfolding bthFits otherService
 returns-2 c =
     let A = c .before .before .before .before .args in
     simp (lt-ltb (A .b .opcode) (2 ^ 8) (omega arith), lt-ltb (A .b .pkey) (2 ^ 16) (omega arith), lt-ltb (A .b .reserved8) (2 ^ 8) (omega arith), le-ltb _ _ (c .before .before .if1 .left), le-leb _ _ (c .before .before .if1 .left), le-ltb _ _ (c .if2 .taken), le-leb _ _ (c .if2 .taken))
 
--- src/lib.rt:28:9
 returns-3 : tie.Need-returns-3
 unfolding bthFits otherService
 returns-3 c =
     let A = c .before .before .before .before .before .before .args in
     simp (lt-ltb (A .b .opcode) (2 ^ 8) (omega arith), lt-ltb (A .b .pkey) (2 ^ 16) (omega arith), lt-ltb (A .b .reserved8) (2 ^ 8) (omega arith), le-ltb _ _ (c .before .before .before .before .if1 .left), le-leb _ _ (c .before .before .before .before .if1 .left), lt-leb _ _ (c .before .before .if2 .left), lt-ltb _ _ (c .before .before .if2 .left), ne-eqb _ _ (c .if3 .taken))
 
--- src/lib.rt:31:9
 returns-4 : tie.Need-returns-4
 unfolding bthFits otherService
 returns-4 c =
     let A = c .before .before .before .before .before .before .before .before .args in
     simp (lt-ltb (A .b .opcode) (2 ^ 8) (omega arith), lt-ltb (A .b .pkey) (2 ^ 16) (omega arith), lt-ltb (A .b .reserved8) (2 ^ 8) (omega arith), le-ltb _ _ (c .before .before .before .before .before .before .if1 .left), le-leb _ _ (c .before .before .before .before .before .before .if1 .left), lt-leb _ _ (c .before .before .before .before .if2 .left), lt-ltb _ _ (c .before .before .before .before .if2 .left), eq-eqb _ _ (c .before .before .if3 .left), le-ltb _ _ (c .if4 .taken), le-leb _ _ (c .if4 .taken))
 
--- src/lib.rt:34:9
 returns-5 : tie.Need-returns-5
 unfolding bthFits otherService
 returns-5 c =
     let A = c .before .before .before .before .before .before .before .before .before .before .args in
     simp (lt-ltb (A .b .opcode) (2 ^ 8) (omega arith), lt-ltb (A .b .pkey) (2 ^ 16) (omega arith), lt-ltb (A .b .reserved8) (2 ^ 8) (omega arith), le-ltb _ _ (c .before .before .before .before .before .before .before .before .if1 .left), le-leb _ _ (c .before .before .before .before .before .before .before .before .if1 .left), lt-leb _ _ (c .before .before .before .before .before .before .if2 .left), lt-ltb _ _ (c .before .before .before .before .before .before .if2 .left), eq-eqb _ _ (c .before .before .before .before .if3 .left), lt-leb _ _ (c .before .before .if4 .left), lt-ltb _ _ (c .before .before .if4 .left), le-ltb _ _ (c .if5 .taken), le-leb _ _ (c .if5 .taken))
 
--- src/lib.rt:18:1
 returns-6 : tie.Need-returns-6
 unfolding bthFits otherService
 returns-6 c =

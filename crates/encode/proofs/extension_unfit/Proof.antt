@@ -3,25 +3,17 @@ use Rattle.header.specs.Write.{extensionFits}
 use borrow.Author.Needs.{needs}
 use Rattle.encode.proofs.extension_unfit.Statement.{statement}
 use Rattle.encode.proofs.extension_unfit.Tie as tie
-use Rattle.encode.proofs.extension_unfit.Reads as reads
-use Rattle.encode.proofs.extension_unfit.Lts as lts
-use Rattle.encode.proofs.follows_by.Reads as follows-by-reads
-use Rattle.encode.proofs.widths_unfit.Reads as widths-unfit-reads
 
--- src/lib.rt:72:9
 follows-by-requires : tie.Need-follows-by-requires
 follows-by-requires c κs = search needs
 
--- src/lib.rt:74:9
 returns : tie.Need-returns
 unfolding extensionFits
 returns c = simp (← c .before .follows-by .ensures, ne-eqb _ _ (c .if1 .taken))
 
--- src/lib.rt:76:5
 widths-unfit-requires : tie.Need-widths-unfit-requires
 widths-unfit-requires c κs = search needs
 
--- src/lib.rt:69:1
 returns-2 : tie.Need-returns-2
 unfolding extensionFits
 returns-2 c = simp (← c .before .before .follows-by .ensures, eq-eqb _ _ (c .before .if1 .left), ← c .widths-unfit .ensures)

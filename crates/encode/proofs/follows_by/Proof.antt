@@ -2,68 +2,52 @@ use Rattle.header.specs.Write.{followsBy}
 use borrow.Author.Needs.{needs}
 use Rattle.encode.proofs.follows_by.Statement.{statement}
 use Rattle.encode.proofs.follows_by.Tie as tie
-use Rattle.encode.proofs.follows_by.Reads as reads
-use Rattle.encode.proofs.follows_by.Lts as lts
 
--- src/lib.rt:44:28
 enum-told : tie.Need-enum-told
 enum-told c = search needs
 
--- src/lib.rt:45:33
 enum-told-2 : tie.Need-enum-told-2
 enum-told-2 c = search needs
 
--- src/lib.rt:46:45
 enum-told-3 : tie.Need-enum-told-3
 enum-told-3 c = search needs
 
--- src/lib.rt:47:36
 enum-told-4 : tie.Need-enum-told-4
 enum-told-4 c = search needs
 
--- src/lib.rt:48:33
 enum-told-5 : tie.Need-enum-told-5
 enum-told-5 c = search needs
 
--- src/lib.rt:49:38
 enum-told-6 : tie.Need-enum-told-6
 enum-told-6 c = search needs
 
--- src/lib.rt:50:47
 enum-told-7 : tie.Need-enum-told-7
 enum-told-7 c = search needs
 
--- src/lib.rt:40:1
 returns : tie.Need-returns
 unfolding followsBy
 returns c = simp (c .enum-told .given .1)
 
--- src/lib.rt:40:1
 returns-2 : tie.Need-returns-2
 unfolding followsBy
 returns-2 c = simp (c .enum-told2 .given .1)
 
--- src/lib.rt:40:1
 returns-3 : tie.Need-returns-3
 unfolding followsBy
 returns-3 c = simp (c .enum-told3 .given .1)
 
--- src/lib.rt:40:1
 returns-4 : tie.Need-returns-4
 unfolding followsBy
 returns-4 c = simp (c .enum-told4 .given .1)
 
--- src/lib.rt:40:1
 returns-5 : tie.Need-returns-5
 unfolding followsBy
 returns-5 c = simp (c .enum-told5 .given .1)
 
--- src/lib.rt:40:1
 returns-6 : tie.Need-returns-6
 unfolding followsBy
 returns-6 c = simp (c .enum-told6 .given .1)
 
--- src/lib.rt:40:1
 returns-7 : tie.Need-returns-7
 unfolding followsBy
 returns-7 c = simp (c .enum-told7 .given .1)

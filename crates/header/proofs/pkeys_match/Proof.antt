@@ -3,25 +3,19 @@ use Rattle.laws.proofs.Auto.{tested}
 use Rattle.header.specs.Check.{pkeysMatch, fullMember}
 use Rattle.header.proofs.pkeys_match.Statement.{statement}
 use Rattle.header.proofs.pkeys_match.Tie as tie
-use Rattle.header.proofs.pkeys_match.Reads as reads
-use Rattle.header.proofs.pkeys_match.Lts as lts
 
--- src/lib.rt:79:9
 returns : tie.Need-returns
 unfolding pkeysMatch fullMember
 returns c = search (needs, tested)
 
--- src/lib.rt:82:9
 returns-2 : tie.Need-returns-2
 unfolding pkeysMatch fullMember
 returns-2 c = search (needs, tested)
 
--- src/lib.rt:85:9
 returns-3 : tie.Need-returns-3
 unfolding pkeysMatch fullMember
 returns-3 c = search (needs, tested)
 
--- src/lib.rt:75:1
 returns-4 : tie.Need-returns-4
 unfolding pkeysMatch fullMember
 returns-4 c = search (needs, tested)

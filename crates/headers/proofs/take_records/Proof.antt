@@ -1,7 +1,6 @@
 -- `headers::take_records` is safe and ends. The measure is what the count has left to its last number.
 -- Nothing has to hold from turn to turn. Assumes nothing.
 use Prim.Native.Nat.{_-_, _^_}
-use borrow.Author.Needs.{needs}
 use native.Mathlib.Omega.{arith}
 use Rattle.headers.proofs.take_records.Statement.{statement}
 use Rattle.headers.proofs.take_records.Tie as tie

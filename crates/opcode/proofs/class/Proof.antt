@@ -3,48 +3,34 @@ use Rattle.opcode.specs.Opcode.{classOf}
 use borrow.Author.Needs.{needs}
 use Rattle.opcode.proofs.class.Statement.{statement}
 use Rattle.opcode.proofs.class.Tie as tie
-use Rattle.opcode.proofs.class.Reads as reads
-use Rattle.opcode.proofs.class.Lts as lts
-use Rattle.opcode.proofs.low_class.Reads as low-class-reads
-use Rattle.opcode.proofs.reserved_class.Reads as reserved-class-reads
-use Rattle.opcode.proofs.uc_has.Reads as uc-has-reads
 
--- src/lib.rt:241:9
 low-class-requires : tie.Need-low-class-requires
 low-class-requires c κs = search needs
 
--- src/lib.rt:241:9
 returns : tie.Need-returns
 unfolding classOf
 returns c = simp (eq-eqb _ _ (c .before .if1 .taken), ← c .low-class .ensures)
 
--- src/lib.rt:244:9
 reserved-class-requires : tie.Need-reserved-class-requires
 reserved-class-requires c κs = search needs
 
--- src/lib.rt:244:9
 returns-2 : tie.Need-returns-2
 unfolding classOf
 returns-2 c = simp (ne-eqb _ _ (c .before .before .if1 .left), ne-eqb _ _ (c .before .if2 .taken), ← c .reserved-class .ensures)
 
--- src/lib.rt:246:9
 uc-has-requires : tie.Need-uc-has-requires
 uc-has-requires c κs = search needs
 
--- src/lib.rt:248:9
 low-class-requires-2 : tie.Need-low-class-requires-2
 low-class-requires-2 c κs = search needs
 
--- src/lib.rt:248:9
 returns-3 : tie.Need-returns-3
 unfolding classOf
 returns-3 c = simp (ne-eqb _ _ (c .before .before .before .before .if1 .left), eq-eqb _ _ (c .before .before .before .if2 .left), ← c .before .before .uc-has .ensures, c .before .if3 .taken, ← c .low-class2 .ensures)
 
--- src/lib.rt:250:5
 reserved-class-requires-2 : tie.Need-reserved-class-requires-2
 reserved-class-requires-2 c κs = search needs
 
--- src/lib.rt:235:1
 returns-4 : tie.Need-returns-4
 unfolding classOf
 returns-4 c = simp (ne-eqb _ _ (c .before .before .before .before .if1 .left), eq-eqb _ _ (c .before .before .before .if2 .left), ← c .before .before .uc-has .ensures, c .before .if3 .left, ← c .reserved-class2 .ensures)

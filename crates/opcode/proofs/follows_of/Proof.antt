@@ -3,80 +3,63 @@ use Rattle.laws.proofs.Auto.{tested}
 use Rattle.opcode.specs.Opcode.{followsOf}
 use Rattle.opcode.proofs.follows_of.Statement.{statement}
 use Rattle.opcode.proofs.follows_of.Tie as tie
-use Rattle.opcode.proofs.follows_of.Reads as reads
-use Rattle.opcode.proofs.follows_of.Lts as lts
 
--- src/lib.rt:114:9
 returns : tie.Need-returns
 unfolding followsOf
 returns c = search (needs, tested)
 
--- src/lib.rt:117:9
 returns-2 : tie.Need-returns-2
 unfolding followsOf
 returns-2 c = search (needs, tested)
 
--- src/lib.rt:120:9
 returns-3 : tie.Need-returns-3
 unfolding followsOf
 returns-3 c = search (needs, tested)
 
--- src/lib.rt:123:9
 returns-4 : tie.Need-returns-4
 unfolding followsOf
 returns-4 c = search (needs, tested)
 
--- src/lib.rt:126:9
 returns-5 : tie.Need-returns-5
 unfolding followsOf
 returns-5 c = search (needs, tested)
 
--- src/lib.rt:129:9
 returns-6 : tie.Need-returns-6
 unfolding followsOf
 returns-6 c = search (needs, tested)
 
--- src/lib.rt:132:9
 returns-7 : tie.Need-returns-7
 unfolding followsOf
 returns-7 c = search (needs, tested)
 
--- src/lib.rt:135:9
 returns-8 : tie.Need-returns-8
 unfolding followsOf
 returns-8 c = search (needs, tested)
 
--- src/lib.rt:138:9
 returns-9 : tie.Need-returns-9
 unfolding followsOf
 returns-9 c = search (needs, tested)
 
--- src/lib.rt:141:9
 returns-10 : tie.Need-returns-10
 unfolding followsOf
 returns-10 c = search (needs, tested)
 
--- src/lib.rt:144:9
 returns-11 : tie.Need-returns-11
 unfolding followsOf
 returns-11 c = search (needs, tested)
 
--- src/lib.rt:147:9
 returns-12 : tie.Need-returns-12
 unfolding followsOf
 returns-12 c = search (needs, tested)
 
--- src/lib.rt:150:9
 returns-13 : tie.Need-returns-13
 unfolding followsOf
 returns-13 c = search (needs, tested)
 
--- src/lib.rt:153:9
 returns-14 : tie.Need-returns-14
 unfolding followsOf
 returns-14 c = search (needs, tested)
 
--- src/lib.rt:110:1
 returns-15 : tie.Need-returns-15
 unfolding followsOf
 returns-15 c = search (needs, tested)

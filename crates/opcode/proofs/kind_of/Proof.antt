@@ -3,50 +3,39 @@ use Rattle.laws.proofs.Auto.{tested}
 use Rattle.opcode.specs.Opcode.{kindOf}
 use Rattle.opcode.proofs.kind_of.Statement.{statement}
 use Rattle.opcode.proofs.kind_of.Tie as tie
-use Rattle.opcode.proofs.kind_of.Reads as reads
-use Rattle.opcode.proofs.kind_of.Lts as lts
 
--- src/lib.rt:47:9
 returns : tie.Need-returns
 unfolding kindOf
 returns c = search (needs, tested)
 
--- src/lib.rt:50:9
 returns-2 : tie.Need-returns-2
 unfolding kindOf
 returns-2 c = search (needs, tested)
 
--- src/lib.rt:53:9
 returns-3 : tie.Need-returns-3
 unfolding kindOf
 returns-3 c = search (needs, tested)
 
--- src/lib.rt:56:9
 returns-4 : tie.Need-returns-4
 unfolding kindOf
 returns-4 c = search (needs, tested)
 
--- src/lib.rt:59:9
 returns-5 : tie.Need-returns-5
 unfolding kindOf
 returns-5 c = search (needs, tested)
 
--- src/lib.rt:62:9
 returns-6 : tie.Need-returns-6
 unfolding kindOf
 returns-6 c = search (needs, tested)
 
--- src/lib.rt:65:9
 returns-7 : tie.Need-returns-7
 unfolding kindOf
 returns-7 c = search (needs, tested)
 
--- src/lib.rt:68:9
 returns-8 : tie.Need-returns-8
 unfolding kindOf
 returns-8 c = search (needs, tested)
 
--- src/lib.rt:43:1
 returns-9 : tie.Need-returns-9
 unfolding kindOf
 returns-9 c = search (needs, tested)

@@ -3,40 +3,31 @@ use Rattle.laws.proofs.Auto.{tested}
 use Rattle.opcode.specs.Opcode.{lengthOf}
 use Rattle.opcode.proofs.length_of.Statement.{statement}
 use Rattle.opcode.proofs.length_of.Tie as tie
-use Rattle.opcode.proofs.length_of.Reads as reads
-use Rattle.opcode.proofs.length_of.Lts as lts
 
--- src/lib.rt:163:9
 returns : tie.Need-returns
 unfolding lengthOf
 returns c = search (needs, tested)
 
--- src/lib.rt:166:9
 returns-2 : tie.Need-returns-2
 unfolding lengthOf
 returns-2 c = search (needs, tested)
 
--- src/lib.rt:169:9
 returns-3 : tie.Need-returns-3
 unfolding lengthOf
 returns-3 c = search (needs, tested)
 
--- src/lib.rt:172:9
 returns-4 : tie.Need-returns-4
 unfolding lengthOf
 returns-4 c = search (needs, tested)
 
--- src/lib.rt:175:9
 returns-5 : tie.Need-returns-5
 unfolding lengthOf
 returns-5 c = search (needs, tested)
 
--- src/lib.rt:178:9
 returns-6 : tie.Need-returns-6
 unfolding lengthOf
 returns-6 c = search (needs, tested)
 
--- src/lib.rt:159:1
 returns-7 : tie.Need-returns-7
 unfolding lengthOf
 returns-7 c = search (needs, tested)

@@ -3,25 +3,19 @@ use Rattle.laws.proofs.Auto.{tested}
 use Rattle.opcode.specs.Opcode.{placeIn}
 use Rattle.opcode.proofs.place_in.Statement.{statement}
 use Rattle.opcode.proofs.place_in.Tie as tie
-use Rattle.opcode.proofs.place_in.Reads as reads
-use Rattle.opcode.proofs.place_in.Lts as lts
 
--- src/lib.rt:78:9
 returns : tie.Need-returns
 unfolding placeIn
 returns c = search (needs, tested)
 
--- src/lib.rt:81:9
 returns-2 : tie.Need-returns-2
 unfolding placeIn
 returns-2 c = search (needs, tested)
 
--- src/lib.rt:84:9
 returns-3 : tie.Need-returns-3
 unfolding placeIn
 returns-3 c = search (needs, tested)
 
--- src/lib.rt:74:1
 returns-4 : tie.Need-returns-4
 unfolding placeIn
 returns-4 c = search (needs, tested)

@@ -3,44 +3,33 @@ use Rattle.opcode.specs.Opcode.{placeOf}
 use borrow.Author.Needs.{needs}
 use Rattle.opcode.proofs.place_of.Statement.{statement}
 use Rattle.opcode.proofs.place_of.Tie as tie
-use Rattle.opcode.proofs.place_of.Reads as reads
-use Rattle.opcode.proofs.place_of.Lts as lts
-use Rattle.opcode.proofs.place_in.Reads as place-in-reads
 
--- src/lib.rt:93:9
 place-in-requires : tie.Need-place-in-requires
 place-in-requires c κs = search needs
 
--- src/lib.rt:93:9
 returns : tie.Need-returns
 unfolding placeOf
 returns c = simp (lt-leb _ _ (c .before .if1 .taken), lt-ltb _ _ (c .before .if1 .taken), ← c .place-in .ensures)
 
--- src/lib.rt:96:9
 place-in-requires-2 : tie.Need-place-in-requires-2
 place-in-requires-2 c κs = search needs
 
--- src/lib.rt:96:9
 returns-2 : tie.Need-returns-2
 unfolding placeOf
 returns-2 c = simp (le-ltb _ _ (c .before .before .if1 .left), le-leb _ _ (c .before .before .if1 .left), lt-leb _ _ (c .before .if2 .taken), lt-ltb _ _ (c .before .if2 .taken), ← c .place-in2 .ensures)
 
--- src/lib.rt:99:9
 returns-3 : tie.Need-returns-3
 unfolding placeOf
 returns-3 c = simp (le-ltb _ _ (c .before .before .if1 .left), le-leb _ _ (c .before .before .if1 .left), le-ltb _ _ (c .before .if2 .left), le-leb _ _ (c .before .if2 .left), eq-eqb _ _ (c .if3 .taken))
 
--- src/lib.rt:102:9
 returns-4 : tie.Need-returns-4
 unfolding placeOf
 returns-4 c = simp (le-ltb _ _ (c .before .before .before .if1 .left), le-leb _ _ (c .before .before .before .if1 .left), le-ltb _ _ (c .before .before .if2 .left), le-leb _ _ (c .before .before .if2 .left), ne-eqb _ _ (c .before .if3 .left), eq-eqb _ _ (c .if4 .taken))
 
--- src/lib.rt:105:9
 returns-5 : tie.Need-returns-5
 unfolding placeOf
 returns-5 c = simp (le-ltb _ _ (c .before .before .before .before .if1 .left), le-leb _ _ (c .before .before .before .before .if1 .left), le-ltb _ _ (c .before .before .before .if2 .left), le-leb _ _ (c .before .before .before .if2 .left), ne-eqb _ _ (c .before .before .if3 .left), ne-eqb _ _ (c .before .if4 .left), eq-eqb _ _ (c .if5 .taken))
 
--- src/lib.rt:89:1
 returns-6 : tie.Need-returns-6
 unfolding placeOf
 returns-6 c = simp (le-ltb _ _ (c .before .before .before .before .if1 .left), le-leb _ _ (c .before .before .before .before .if1 .left), le-ltb _ _ (c .before .before .before .if2 .left), le-leb _ _ (c .before .before .before .if2 .left), ne-eqb _ _ (c .before .before .if3 .left), ne-eqb _ _ (c .before .if4 .left), ne-eqb _ _ (c .if5 .left))

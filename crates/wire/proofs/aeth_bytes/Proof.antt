@@ -3,22 +3,16 @@ use Rattle.header.specs.Write.{aethBytes}
 use borrow.Author.Needs.{needs}
 use Rattle.wire.proofs.aeth_bytes.Statement.{statement}
 use Rattle.wire.proofs.aeth_bytes.Tie as tie
-use Rattle.wire.proofs.aeth_bytes.Reads as reads
-use Rattle.wire.proofs.aeth_bytes.Lts as lts
 
--- src/part.rt:168:9
 cast-t7 : tie.Need-cast-t7
 cast-t7 c = search needs
 
--- src/part.rt:169:9
 cast-t10 : tie.Need-cast-t10
 cast-t10 c = search needs
 
--- src/part.rt:170:9
 cast-t12 : tie.Need-cast-t12
 cast-t12 c = search needs
 
--- src/part.rt:160:1
 returns : tie.Need-returns
 unfolding aethBytes
 returns c = refl

@@ -3,122 +3,91 @@ use Rattle.header.specs.Write.{atomicBytes}
 use borrow.Author.Needs.{needs}
 use Rattle.wire.proofs.atomic_bytes.Statement.{statement}
 use Rattle.wire.proofs.atomic_bytes.Tie as tie
-use Rattle.wire.proofs.atomic_bytes.Reads as reads
-use Rattle.wire.proofs.atomic_bytes.Lts as lts
 
--- src/part.rt:129:9
 cast-t11 : tie.Need-cast-t11
 cast-t11 c = search needs
 
--- src/part.rt:130:9
 cast-t14 : tie.Need-cast-t14
 cast-t14 c = search needs
 
--- src/part.rt:131:9
 cast-t17 : tie.Need-cast-t17
 cast-t17 c = search needs
 
--- src/part.rt:132:9
 cast-t19 : tie.Need-cast-t19
 cast-t19 c = search needs
 
--- src/part.rt:133:9
 cast-t22 : tie.Need-cast-t22
 cast-t22 c = search needs
 
--- src/part.rt:134:9
 cast-t25 : tie.Need-cast-t25
 cast-t25 c = search needs
 
--- src/part.rt:135:9
 cast-t28 : tie.Need-cast-t28
 cast-t28 c = search needs
 
--- src/part.rt:136:9
 cast-t30 : tie.Need-cast-t30
 cast-t30 c = search needs
 
--- src/part.rt:137:9
 cast-t33 : tie.Need-cast-t33
 cast-t33 c = search needs
 
--- src/part.rt:138:9
 cast-t36 : tie.Need-cast-t36
 cast-t36 c = search needs
 
--- src/part.rt:139:9
 cast-t39 : tie.Need-cast-t39
 cast-t39 c = search needs
 
--- src/part.rt:140:9
 cast-t41 : tie.Need-cast-t41
 cast-t41 c = search needs
 
--- src/part.rt:141:9
 cast-t44 : tie.Need-cast-t44
 cast-t44 c = search needs
 
--- src/part.rt:142:9
 cast-t47 : tie.Need-cast-t47
 cast-t47 c = search needs
 
--- src/part.rt:143:9
 cast-t50 : tie.Need-cast-t50
 cast-t50 c = search needs
 
--- src/part.rt:144:9
 cast-t52 : tie.Need-cast-t52
 cast-t52 c = search needs
 
--- src/part.rt:145:9
 cast-t55 : tie.Need-cast-t55
 cast-t55 c = search needs
 
--- src/part.rt:146:9
 cast-t58 : tie.Need-cast-t58
 cast-t58 c = search needs
 
--- src/part.rt:147:9
 cast-t61 : tie.Need-cast-t61
 cast-t61 c = search needs
 
--- src/part.rt:148:9
 cast-t63 : tie.Need-cast-t63
 cast-t63 c = search needs
 
--- src/part.rt:149:9
 cast-t66 : tie.Need-cast-t66
 cast-t66 c = search needs
 
--- src/part.rt:150:9
 cast-t69 : tie.Need-cast-t69
 cast-t69 c = search needs
 
--- src/part.rt:151:9
 cast-t72 : tie.Need-cast-t72
 cast-t72 c = search needs
 
--- src/part.rt:152:9
 cast-t74 : tie.Need-cast-t74
 cast-t74 c = search needs
 
--- src/part.rt:153:9
 cast-t77 : tie.Need-cast-t77
 cast-t77 c = search needs
 
--- src/part.rt:154:9
 cast-t80 : tie.Need-cast-t80
 cast-t80 c = search needs
 
--- src/part.rt:155:9
 cast-t83 : tie.Need-cast-t83
 cast-t83 c = search needs
 
--- src/part.rt:156:9
 cast-t85 : tie.Need-cast-t85
 cast-t85 c = search needs
 
--- src/part.rt:118:1
 returns : tie.Need-returns
 unfolding atomicBytes
 returns c = refl

@@ -2,87 +2,64 @@ use Rattle.header.specs.Write.{bthBytes}
 use borrow.Author.Needs.{needs}
 use Rattle.wire.proofs.bth_bytes.Statement.{statement}
 use Rattle.wire.proofs.bth_bytes.Tie as tie
-use Rattle.wire.proofs.bth_bytes.Reads as reads
-use Rattle.wire.proofs.bth_bytes.Lts as lts
-use Rattle.wire.proofs.bit_of.Reads as bit-of-reads
 
--- src/part.rt:26:9
 bit-of-requires : tie.Need-bit-of-requires
 bit-of-requires c κs = search needs
 
--- src/part.rt:27:9
 bit-of-requires-2 : tie.Need-bit-of-requires-2
 bit-of-requires-2 c κs = search needs
 
--- src/part.rt:28:9
 bit-of-requires-3 : tie.Need-bit-of-requires-3
 bit-of-requires-3 c κs = search needs
 
--- src/part.rt:35:9
 mul-t9 : tie.Need-mul-t9
 mul-t9 c = search needs
 
--- src/part.rt:35:20
 mul-t10 : tie.Need-mul-t10
 mul-t10 c = search needs
 
--- src/part.rt:35:9
 add-t11 : tie.Need-add-t11
 add-t11 c = search needs
 
--- src/part.rt:35:34
 mul-t13 : tie.Need-mul-t13
 mul-t13 c = search needs
 
--- src/part.rt:35:9
 add-t14 : tie.Need-add-t14
 add-t14 c = search needs
 
--- src/part.rt:35:9
 add-t16 : tie.Need-add-t16
 add-t16 c = search needs
 
--- src/part.rt:36:9
 cast-t19 : tie.Need-cast-t19
 cast-t19 c = search needs
 
--- src/part.rt:37:9
 cast-t21 : tie.Need-cast-t21
 cast-t21 c = search needs
 
--- src/part.rt:39:9
 cast-t24 : tie.Need-cast-t24
 cast-t24 c = search needs
 
--- src/part.rt:40:9
 cast-t27 : tie.Need-cast-t27
 cast-t27 c = search needs
 
--- src/part.rt:41:9
 cast-t29 : tie.Need-cast-t29
 cast-t29 c = search needs
 
--- src/part.rt:42:9
 mul-t30 : tie.Need-mul-t30
 mul-t30 c = search needs
 
--- src/part.rt:42:9
 add-t32 : tie.Need-add-t32
 add-t32 c = search needs
 
--- src/part.rt:43:9
 cast-t35 : tie.Need-cast-t35
 cast-t35 c = search needs
 
--- src/part.rt:44:9
 cast-t38 : tie.Need-cast-t38
 cast-t38 c = search needs
 
--- src/part.rt:45:9
 cast-t40 : tie.Need-cast-t40
 cast-t40 c = search needs
 
--- src/part.rt:23:1
 returns : tie.Need-returns
 unfolding bthBytes
 returns c = simp (c .before .before .before .before .before .before .bit-of .ensures .0, c .before .before .before .before .before .bit-of2 .ensures .0, c .before .before .before .before .bit-of3 .ensures .0)

@@ -5,10 +5,7 @@ use Rattle.header.specs.Write.{aethFits}
 use Rattle.laws.proofs.Tests.{not-ltb}
 use Rattle.encode.proofs.width.aeth_unfit.Statement.{statement}
 use Rattle.encode.proofs.width.aeth_unfit.Tie as tie
-use Rattle.encode.proofs.width.aeth_unfit.Reads as reads
-use Rattle.encode.proofs.width.aeth_unfit.Lts as lts
 
--- src/width.rt:37:1
 returns : tie.Need-returns
 unfolding aethFits
 returns c =

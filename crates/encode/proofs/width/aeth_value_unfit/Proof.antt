@@ -5,10 +5,7 @@ use borrow.Author.Tests.{lt-ltb}
 use Rattle.laws.proofs.Tests.{not-ltb, and-true}
 use Rattle.encode.proofs.width.aeth_value_unfit.Statement.{statement}
 use Rattle.encode.proofs.width.aeth_value_unfit.Tie as tie
-use Rattle.encode.proofs.width.aeth_value_unfit.Reads as reads
-use Rattle.encode.proofs.width.aeth_value_unfit.Lts as lts
 
--- src/width.rt:44:1
 returns : tie.Need-returns
 unfolding aethValueFits aethFits
 returns c =

@@ -4,10 +4,7 @@ use borrow.Author.Tests.{lt-ltb}
 use Rattle.header.specs.Write.{atomicFits}
 use Rattle.encode.proofs.width.atomic_unfit.Statement.{statement}
 use Rattle.encode.proofs.width.atomic_unfit.Tie as tie
-use Rattle.encode.proofs.width.atomic_unfit.Reads as reads
-use Rattle.encode.proofs.width.atomic_unfit.Lts as lts
 
--- src/width.rt:31:1
 returns : tie.Need-returns
 unfolding atomicFits
 returns c =

@@ -4,10 +4,7 @@ use borrow.Author.Tests.{lt-ltb}
 use Rattle.header.specs.Write.{rethFits}
 use Rattle.encode.proofs.width.reth_unfit.Statement.{statement}
 use Rattle.encode.proofs.width.reth_unfit.Tie as tie
-use Rattle.encode.proofs.width.reth_unfit.Reads as reads
-use Rattle.encode.proofs.width.reth_unfit.Lts as lts
 
--- src/width.rt:13:1
 returns : tie.Need-returns
 unfolding rethFits
 returns c =

@@ -2,14 +2,10 @@ use Rattle.sequence.proofs.Circle.{reduced}
 use borrow.Author.Needs.{needs}
 use Rattle.sequence.proofs.Msn.next.Statement.{statement}
 use Rattle.sequence.proofs.Msn.next.Tie as tie
-use Rattle.sequence.proofs.Msn.next.Reads as reads
-use Rattle.sequence.proofs.Msn.next.Lts as lts
 
--- src/lib.rt:65:14
 add-t3 : tie.Need-add-t3
 add-t3 c = search needs
 
--- src/lib.rt:62:5
 returns : tie.Need-returns
 returns c = λ i. record { 0 = reduced (c .before .args .self .0) 1 i }
 

@@ -5,20 +5,15 @@ use Rattle.sequence.specs.Sequence.{space, after}
 use borrow.Author.Needs.{needs}
 use Rattle.sequence.proofs.Psn.next.Statement.{statement}
 use Rattle.sequence.proofs.Psn.next.Tie as tie
-use Rattle.sequence.proofs.Psn.next.Reads as reads
-use Rattle.sequence.proofs.Psn.next.Lts as lts
 
--- src/lib.rt:49:13
 returns : tie.Need-returns
 returns c =
     let wraps : 0 ≡ after (c .before .before .before .args .self .0) 1 = omega arith in
     λ i. record { 0 = wraps i }
 
--- src/lib.rt:51:13
 add-t5 : tie.Need-add-t5
 add-t5 c = search needs
 
--- src/lib.rt:43:5
 returns-2 : tie.Need-returns-2
 returns-2 c =
     let n = c .before .before .before .args .self .0 in
