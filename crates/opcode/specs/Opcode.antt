@@ -39,15 +39,22 @@ placeOf low =
     (cond (eqb low 14) 1
     (cond (eqb low 15) 2 4))))
 
--- after the BTH: 0 nothing, 1 RETH, 2 RETH and Immediate, 3 Immediate, 4 AtomicETH, 5 AETH, 6 AETH and AtomicAckETH
-unfoldable pub followsOf : ℕ → ℕ
-followsOf low =
+-- the headers after the BTH have a number: 0 none, 1 RETH, 2 RETH and Immediate, 3 Immediate, 4 AtomicETH, 5 AETH,
+-- 6 AETH and AtomicAckETH. SENDs and WRITEs have an Immediate in the Imm forms, and a WRITE that begins a message a
+-- RETH before it
+unfoldable pub sendWriteFollows : ℕ → ℕ
+sendWriteFollows low =
     cond (eqb low 3) 3
     (cond (eqb low 5) 3
     (cond (eqb low 6) 1
     (cond (eqb low 9) 3
     (cond (eqb low 10) 1
-    (cond (eqb low 11) 2
+    (cond (eqb low 11) 2 0)))))
+
+-- a READ request has a RETH, atomics an AtomicETH, and of the responses all but a READ's Middle an AETH
+unfoldable pub followsOf : ℕ → ℕ
+followsOf low =
+    cond (ltb low 12) (sendWriteFollows low)
     (cond (eqb low 12) 1
     (cond (eqb low 13) 5
     (cond (eqb low 15) 5
@@ -55,7 +62,7 @@ followsOf low =
     (cond (eqb low 17) 5
     (cond (eqb low 18) 6
     (cond (eqb low 19) 4
-    (cond (eqb low 20) 4 0)))))))))))))
+    (cond (eqb low 20) 4 0))))))))
 
 -- BTH 12 bytes, RETH 16, Immediate 4, AtomicETH 28, AETH 4, AtomicAckETH 8
 unfoldable pub lengthOf : ℕ → ℕ

@@ -1,7 +1,7 @@
 // What an opcode says of its packet: kind of request or response, place in the message, the headers
 // after the BTH, and the length of all headers.
 ghost use mathlib.Core.Path.{_≡_};
-ghost use Rattle.opcode.specs.Opcode.{kindOf, placeIn, placeOf, followsOf, lengthOf, lowClass, reservedClass, ucHas, classOf};
+ghost use Rattle.opcode.specs.Opcode.{kindOf, placeIn, placeOf, sendWriteFollows, followsOf, lengthOf, lowClass, reservedClass, ucHas, classOf};
 
 // Services, the opcode's bits 7 to 5.
 pub const RC: u8 = 0;
@@ -125,8 +125,8 @@ fn place_of(low: u8) -> u8
     ONLY
 }
 
-fn follows_of(low: u8) -> u8
-    ensures { λ r. ⌜ r ≡ followsOf low ⌝ }
+fn send_write_follows(low: u8) -> u8
+    ensures { λ r. ⌜ r ≡ sendWriteFollows low ⌝ }
 {
     if low == 3 {
         return IMMEDIATE;
@@ -145,6 +145,15 @@ fn follows_of(low: u8) -> u8
     }
     if low == 11 {
         return RETH_IMMEDIATE;
+    }
+    NONE
+}
+
+fn follows_of(low: u8) -> u8
+    ensures { λ r. ⌜ r ≡ followsOf low ⌝ }
+{
+    if low < 12 {
+        return send_write_follows(low);
     }
     if low == 12 {
         return RETH;

@@ -1,73 +1,57 @@
-use borrow.Author.Needs.{needs}
-use Rattle.laws.proofs.Auto.{tested}
+use borrow.Author.Tests.{eq-eqb, le-leb, le-ltb, lt-leb, lt-ltb, ne-eqb}
 use Rattle.opcode.specs.Opcode.{followsOf}
+use borrow.Author.Needs.{needs}
 use Rattle.opcode.proofs.follows_of.Statement.{statement}
 use Rattle.opcode.proofs.follows_of.Tie as tie
 
+send-write-follows-requires : tie.Need-send-write-follows-requires
+send-write-follows-requires c κs = search needs
+
 returns : tie.Need-returns
 unfolding followsOf
-returns c = search (needs, tested)
+returns c = simp (lt-leb _ _ (c .before .if1 .taken), lt-ltb _ _ (c .before .if1 .taken), ← c .send-write-follows .ensures)
 
 returns-2 : tie.Need-returns-2
 unfolding followsOf
-returns-2 c = search (needs, tested)
+returns-2 c = simp (le-ltb _ _ (c .before .if1 .left), le-leb _ _ (c .before .if1 .left), eq-eqb _ _ (c .if2 .taken))
 
 returns-3 : tie.Need-returns-3
 unfolding followsOf
-returns-3 c = search (needs, tested)
+returns-3 c = simp (le-ltb _ _ (c .before .before .if1 .left), le-leb _ _ (c .before .before .if1 .left), ne-eqb _ _ (c .before .if2 .left), eq-eqb _ _ (c .if3 .taken))
 
 returns-4 : tie.Need-returns-4
 unfolding followsOf
-returns-4 c = search (needs, tested)
+returns-4 c = simp (le-ltb _ _ (c .before .before .before .if1 .left), le-leb _ _ (c .before .before .before .if1 .left), ne-eqb _ _ (c .before .before .if2 .left), ne-eqb _ _ (c .before .if3 .left), eq-eqb _ _ (c .if4 .taken))
 
 returns-5 : tie.Need-returns-5
 unfolding followsOf
-returns-5 c = search (needs, tested)
+returns-5 c = simp (le-ltb _ _ (c .before .before .before .before .if1 .left), le-leb _ _ (c .before .before .before .before .if1 .left), ne-eqb _ _ (c .before .before .before .if2 .left), ne-eqb _ _ (c .before .before .if3 .left), ne-eqb _ _ (c .before .if4 .left), eq-eqb _ _ (c .if5 .taken))
 
 returns-6 : tie.Need-returns-6
 unfolding followsOf
-returns-6 c = search (needs, tested)
+returns-6 c = simp (le-ltb _ _ (c .before .before .before .before .before .if1 .left), le-leb _ _ (c .before .before .before .before .before .if1 .left), ne-eqb _ _ (c .before .before .before .before .if2 .left), ne-eqb _ _ (c .before .before .before .if3 .left), ne-eqb _ _ (c .before .before .if4 .left), ne-eqb _ _ (c .before .if5 .left), eq-eqb _ _ (c .if6 .taken))
 
 returns-7 : tie.Need-returns-7
 unfolding followsOf
-returns-7 c = search (needs, tested)
+returns-7 c = simp (le-ltb _ _ (c .before .before .before .before .before .before .if1 .left), le-leb _ _ (c .before .before .before .before .before .before .if1 .left), ne-eqb _ _ (c .before .before .before .before .before .if2 .left), ne-eqb _ _ (c .before .before .before .before .if3 .left), ne-eqb _ _ (c .before .before .before .if4 .left), ne-eqb _ _ (c .before .before .if5 .left), ne-eqb _ _ (c .before .if6 .left), eq-eqb _ _ (c .if7 .taken))
 
 returns-8 : tie.Need-returns-8
 unfolding followsOf
-returns-8 c = search (needs, tested)
+returns-8 c = simp (le-ltb _ _ (c .before .before .before .before .before .before .before .if1 .left), le-leb _ _ (c .before .before .before .before .before .before .before .if1 .left), ne-eqb _ _ (c .before .before .before .before .before .before .if2 .left), ne-eqb _ _ (c .before .before .before .before .before .if3 .left), ne-eqb _ _ (c .before .before .before .before .if4 .left), ne-eqb _ _ (c .before .before .before .if5 .left), ne-eqb _ _ (c .before .before .if6 .left), ne-eqb _ _ (c .before .if7 .left), eq-eqb _ _ (c .if8 .taken))
 
 returns-9 : tie.Need-returns-9
 unfolding followsOf
-returns-9 c = search (needs, tested)
+returns-9 c = simp (le-ltb _ _ (c .before .before .before .before .before .before .before .before .if1 .left), le-leb _ _ (c .before .before .before .before .before .before .before .before .if1 .left), ne-eqb _ _ (c .before .before .before .before .before .before .before .if2 .left), ne-eqb _ _ (c .before .before .before .before .before .before .if3 .left), ne-eqb _ _ (c .before .before .before .before .before .if4 .left), ne-eqb _ _ (c .before .before .before .before .if5 .left), ne-eqb _ _ (c .before .before .before .if6 .left), ne-eqb _ _ (c .before .before .if7 .left), ne-eqb _ _ (c .before .if8 .left), eq-eqb _ _ (c .if9 .taken))
 
 returns-10 : tie.Need-returns-10
 unfolding followsOf
-returns-10 c = search (needs, tested)
-
-returns-11 : tie.Need-returns-11
-unfolding followsOf
-returns-11 c = search (needs, tested)
-
-returns-12 : tie.Need-returns-12
-unfolding followsOf
-returns-12 c = search (needs, tested)
-
-returns-13 : tie.Need-returns-13
-unfolding followsOf
-returns-13 c = search (needs, tested)
-
-returns-14 : tie.Need-returns-14
-unfolding followsOf
-returns-14 c = search (needs, tested)
-
-returns-15 : tie.Need-returns-15
-unfolding followsOf
-returns-15 c = search (needs, tested)
+returns-10 c = simp (le-ltb _ _ (c .before .before .before .before .before .before .before .before .if1 .left), le-leb _ _ (c .before .before .before .before .before .before .before .before .if1 .left), ne-eqb _ _ (c .before .before .before .before .before .before .before .if2 .left), ne-eqb _ _ (c .before .before .before .before .before .before .if3 .left), ne-eqb _ _ (c .before .before .before .before .before .if4 .left), ne-eqb _ _ (c .before .before .before .before .if5 .left), ne-eqb _ _ (c .before .before .before .if6 .left), ne-eqb _ _ (c .before .before .if7 .left), ne-eqb _ _ (c .before .if8 .left), ne-eqb _ _ (c .if9 .left))
 
 pub follows-of-spec : {M : Type 1} → statement M
 follows-of-spec =
     tie.close
     (tie.spec
+    send-write-follows-requires
     returns
     returns-2
     returns-3
@@ -77,9 +61,4 @@ follows-of-spec =
     returns-7
     returns-8
     returns-9
-    returns-10
-    returns-11
-    returns-12
-    returns-13
-    returns-14
-    returns-15)
+    returns-10)
