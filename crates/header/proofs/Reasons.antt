@@ -8,7 +8,8 @@ use lib.Dec.{ltb, eqb}
 use lib.ListN.{length}
 use borrow.Author.Tests.{eq-eqb, le-ltb, eqb-true, ltb-false}
 use Rattle.opcode.specs.Opcode.{classOf, serviceOf}
-use Rattle.header.specs.Read.{bthOf, headerOf, badLength, otherService, readReason, readBy, readHeader}
+use Rattle.header.specs.Read.{bthOf, headerOf, badLength, otherService, readReason, readBy, readNumber, readHeader}
+use Rattle.header.specs.Claims.{ReadNumbers}
 use Rattle.header.specs.declared.Header.{Header}
 use Rattle.header.specs.declared.HeaderRead.the-variants.{Accepted, Dropped}
 
@@ -61,3 +62,11 @@ accepted p h e = accepted-by (readReason p) p h e
 pub read-by : (p : List ℕ) (h : Header) → readReason p ≡ 0 → headerOf p ≡ h → readHeader p ≡ Accepted h
 unfolding readHeader readBy
 read-by p h o e = rw o (ap Accepted e)
+
+pub read-numbers : ReadNumbers
+unfolding readBy readNumber
+read-numbers reason p = go (eqb reason 0)
+  where
+    go : (b : Bool) → readNumber (cond b (Accepted (headerOf p)) (Dropped reason)) ≡ cond b 0 5
+    go true = refl
+    go false = refl

@@ -1,9 +1,10 @@
 -- What is proved of reading and writing, each statement by a name; the proofs stand in proofs/.
 use Prim.Native.Nat.{ℕ, _+_, _%_, _^_, _≤_, _<_}
-use mathlib.Core.Bool.{Bool, true}
+use mathlib.Core.Bool.{Bool, true, cond}
 use mathlib.Core.Path.{_≡_}
 use mathlib.Core.List.{List, _++_}
 use mathlib.Core.Logic.{_⊎_}
+use lib.Dec.{eqb}
 use lib.ListN.{length, getD, take, drop}
 use Rattle.opcode.specs.Opcode.{classOf, serviceOf, lowOf}
 use Rattle.header.specs.Bytes.{Bytes}
@@ -82,7 +83,10 @@ Writes =
     → (n : ℕ) → headerLength h ≤ n
     → written h n ≡ Done (headerLength h)
 
--- The number of writing's answer.
+-- The numbers of the answers: a packet that is dropped for any reason is the quiet drop.
+abbrev pub ReadNumbers : Type 0
+ReadNumbers = (reason : ℕ) (p : List ℕ) → readNumber (readBy reason p) ≡ cond (eqb reason 0) 0 5
+
 abbrev pub WriteNumbers : Type 0
 WriteNumbers = (h : Header) (n : ℕ) → writeNumber (written h n) ≡ writeAnswer h n
 

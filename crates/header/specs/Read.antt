@@ -63,7 +63,7 @@ headerOf p = record { bth = bthOf p; extension = extensionOf (classOf (bthOf p .
 unfoldable pub badLength : ℕ → Bool
 badLength n = cond (ltb n 12) true (cond (ltb 4128 n) true (not (eqb (n % 4) 0)))
 
--- RC 000 or UC 001
+-- service bits that are neither RC, 000, nor UC, 001
 unfoldable pub otherService : ℕ → Bool
 otherService service = ltb 1 service
 
