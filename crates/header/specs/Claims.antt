@@ -8,7 +8,7 @@ use lib.Dec.{eqb}
 use lib.ListN.{length, getD, take, drop}
 use Rattle.opcode.specs.Opcode.{classOf, serviceOf, lowOf}
 use Rattle.header.specs.Bytes.{Bytes}
-use Rattle.header.specs.Read.{headerOf, readHeader}
+use Rattle.header.specs.Read.{headerOf, readBy, readNumber, readHeader}
 use Rattle.header.specs.Write.{followsBy, headerFits, headerLength, headerBytes, writeAnswer, written, writeNumber, writtenOut}
 use Rattle.header.specs.Check.{pkeysMatch, admitted}
 use Rattle.header.specs.declared.Bth.{Bth}
