@@ -1,5 +1,6 @@
 pub mod Lengths
 pub mod Reasons
+pub mod Widths
 pub mod Writes
 pub mod Accepts
 pub mod ReadBack

@@ -1,22 +1,22 @@
 -- Reading undoes writing.
-use Prim.Native.Nat.{ℕ, _+_, _*_, _/_, _%_, _^_, _≤_, _<_}
+use Prim.Native.Nat.{ℕ, _+_, _*_, _/_, _%_, _≤_, _<_}
 use mathlib.Core.Path.{_≡_, refl, sym, ap, subst, _∙_}
-use mathlib.Core.Bool.{Bool, true, false, not}
+use mathlib.Core.Bool.{Bool, true, false}
 use mathlib.Core.List.{List, [], _++_, append-assoc, append-nil}
 use native.Mathlib.Omega.{arith}
-use lib.Dec.{leb, ltb, eqb}
+use lib.Dec.{leb}
 use lib.ListN.{length, take, drop, length-append}
 use lib.Seq.{take-at}
-use borrow.Author.Tests.{ltb-true, eqb-true, le-leb, lt-leb}
-use Rattle.laws.proofs.Tests.{and-left, and-right, unnot}
+use borrow.Author.Tests.{le-leb, lt-leb}
 use Rattle.laws.proofs.Numbers.{two-value, three-value, four-value, eight-value}
 use Rattle.opcode.specs.Opcode.{classOf, serviceOf}
 use Rattle.header.specs.Bytes.{bit, four, eight}
 use Rattle.header.specs.Read.{bthOf, rethOf, atomicOf, aethOf, extensionOf, headerOf, badLength, otherService, readReason, readHeader}
-use Rattle.header.specs.Write.{bthBytes, rethBytes, atomicBytes, aethBytes, extensionBytes, headerBytes, bthFits, rethFits, atomicFits, aethFits, immediateFits, rethImmediateFits, aethValueFits, widthsFit, followsBy, headerLength, writtenOut}
-use Rattle.header.specs.Claims.{ReadPacket, ReadBack}
+use Rattle.header.specs.Write.{bthBytes, rethBytes, atomicBytes, aethBytes, extensionBytes, headerBytes, followsBy, headerLength, writtenOut}
+use Rattle.header.specs.Claims.{BthWidths, RethWidths, AethWidths, Widths, ReadPacket, ReadBack}
 use Rattle.header.proofs.Lengths.{fits, length-is, length-header, length-words, length-most}
 use Rattle.header.proofs.Reasons.{Read, good-length, no-reason, read-by}
+use Rattle.header.proofs.Widths.{known, bth-widths, widths-of}
 use Rattle.header.proofs.Writes.{was-written, done}
 use Rattle.header.specs.declared.Bth.{Bth}
 use Rattle.header.specs.declared.Reth.{Reth}
@@ -64,38 +64,8 @@ rest-back : (a : Bool) (r : ℕ) → r < 128 → (bit a * 128 + r % 128) % 128 �
 rest-back true r h = omega arith
 rest-back false r h = omega arith
 
--- what a BTH that fits keeps to
-record Within (b : Bth) : Type 0 where
-  known : otherService (serviceOf (b .opcode)) ≡ false
-  pad : b .pad < 2 ^ 2
-  tver : b .tver ≡ 0
-  pkey : b .pkey < 2 ^ 16
-  dest : b .dest < 2 ^ 24
-  rest : b .reserved7 < 2 ^ 7
-  psn : b .psn .0 < 2 ^ 24
-
-within : (b : Bth) → bthFits b ≡ true → Within b
-unfolding bthFits
-within b h0 =
-    let h1 = and-right (ltb (b .opcode) (2 ^ 8)) _ h0 in
-    let h2 = and-right (not (otherService (serviceOf (b .opcode)))) _ h1 in
-    let h3 = and-right (ltb (b .pad) (2 ^ 2)) _ h2 in
-    let h4 = and-right (eqb (b .tver) 0) _ h3 in
-    let h5 = and-right (ltb (b .pkey) (2 ^ 16)) _ h4 in
-    let h6 = and-right (ltb (b .reserved8) (2 ^ 8)) _ h5 in
-    let h7 = and-right (ltb (b .dest) (2 ^ 24)) _ h6 in
-    record {
-      known = unnot (otherService (serviceOf (b .opcode))) (and-left (not (otherService (serviceOf (b .opcode)))) _ h1);
-      pad = ltb-true (b .pad) (2 ^ 2) (and-left (ltb (b .pad) (2 ^ 2)) _ h2);
-      tver = eqb-true (b .tver) 0 (and-left (eqb (b .tver) 0) _ h3);
-      pkey = ltb-true (b .pkey) (2 ^ 16) (and-left (ltb (b .pkey) (2 ^ 16)) _ h4);
-      dest = ltb-true (b .dest) (2 ^ 24) (and-left (ltb (b .dest) (2 ^ 24)) _ h6);
-      rest = ltb-true (b .reserved7) (2 ^ 7) (and-left (ltb (b .reserved7) (2 ^ 7)) _ h7);
-      psn = ltb-true (b .psn .0) (2 ^ 24) (and-right (ltb (b .reserved7) (2 ^ 7)) (ltb (b .psn .0) (2 ^ 24)) h7);
-    }
-
 -- the BTH
-bth-back : (b : Bth) (r : List ℕ) → Within b → bthOf (bthBytes b ++ r) ≡ b
+bth-back : (b : Bth) (r : List ℕ) → BthWidths b → bthOf (bthBytes b ++ r) ≡ b
 unfolding bthOf bthBytes
 bth-back b r w =
     λ i. record {
@@ -108,62 +78,49 @@ bth-back b r w =
       reserved8 = b .reserved8;
       dest = three-value (b .dest) (w .dest) i;
       ackreq = ack-back (b .ackreq) (b .reserved7) i;
-      reserved7 = rest-back (b .ackreq) (b .reserved7) (w .rest) i;
+      reserved7 = rest-back (b .ackreq) (b .reserved7) (w .reserved7) i;
       psn = record { 0 = three-value (b .psn .0) (w .psn) i };
     }
 
 -- the headers after it, behind any twelve bytes
 module _ (b : Bth) where
-  reth-back : (r : Reth) (x : List ℕ) → rethFits r ≡ true → rethOf (bthBytes b ++ (rethBytes r ++ x)) ≡ r
-  unfolding rethOf bthBytes rethBytes rethFits
-  reth-back r x h =
-      let h1 = and-right (ltb (r .address) (2 ^ 64)) _ h in
-      let a = ltb-true (r .address) (2 ^ 64) (and-left (ltb (r .address) (2 ^ 64)) _ h) in
-      let k = ltb-true (r .key) (2 ^ 32) (and-left (ltb (r .key) (2 ^ 32)) _ h1) in
-      let l = ltb-true (r .length) (2 ^ 32) (and-right (ltb (r .key) (2 ^ 32)) (ltb (r .length) (2 ^ 32)) h1) in
-      λ i. record { address = eight-value (r .address) a i; key = four-value (r .key) k i; length = four-value (r .length) l i }
+  reth-back : (r : Reth) (x : List ℕ) → RethWidths r → rethOf (bthBytes b ++ (rethBytes r ++ x)) ≡ r
+  unfolding rethOf bthBytes rethBytes
+  reth-back r x w =
+      λ i. record { address = eight-value (r .address) (w .0) i; key = four-value (r .key) (w .1) i; length = four-value (r .length) (w .2) i }
 
-  atomic-back : (a : AtomicEth) (x : List ℕ) → atomicFits a ≡ true → atomicOf (bthBytes b ++ (atomicBytes a ++ x)) ≡ a
-  unfolding atomicOf bthBytes atomicBytes atomicFits
-  atomic-back a x h =
-      let h1 = and-right (ltb (a .address) (2 ^ 64)) _ h in
-      let h2 = and-right (ltb (a .key) (2 ^ 32)) _ h1 in
-      let d = ltb-true (a .address) (2 ^ 64) (and-left (ltb (a .address) (2 ^ 64)) _ h) in
-      let k = ltb-true (a .key) (2 ^ 32) (and-left (ltb (a .key) (2 ^ 32)) _ h1) in
-      let s = ltb-true (a .swap) (2 ^ 64) (and-left (ltb (a .swap) (2 ^ 64)) _ h2) in
-      let c = ltb-true (a .compare) (2 ^ 64) (and-right (ltb (a .swap) (2 ^ 64)) (ltb (a .compare) (2 ^ 64)) h2) in
-      λ i. record { address = eight-value (a .address) d i; key = four-value (a .key) k i; swap = eight-value (a .swap) s i; compare = eight-value (a .compare) c i }
+  atomic-back : (a : AtomicEth) (x : List ℕ) → Widths (Atomic a) → atomicOf (bthBytes b ++ (atomicBytes a ++ x)) ≡ a
+  unfolding atomicOf bthBytes atomicBytes
+  atomic-back a x w =
+      λ i. record {
+        address = eight-value (a .address) (w .0) i;
+        key = four-value (a .key) (w .1) i;
+        swap = eight-value (a .swap) (w .2) i;
+        compare = eight-value (a .compare) (w .3) i;
+      }
 
-  aeth-back : (a : Aeth) (x : List ℕ) → aethFits a ≡ true → aethOf (bthBytes b ++ (aethBytes a ++ x)) ≡ a
-  unfolding aethOf bthBytes aethBytes aethFits
-  aeth-back a x h =
-      let m = ltb-true (a .msn .0) (2 ^ 24) (and-right (ltb (a .syndrome) (2 ^ 8)) (ltb (a .msn .0) (2 ^ 24)) h) in
-      λ i. record { syndrome = a .syndrome; msn = record { 0 = three-value (a .msn .0) m i } }
+  aeth-back : (a : Aeth) (x : List ℕ) → AethWidths a → aethOf (bthBytes b ++ (aethBytes a ++ x)) ≡ a
+  unfolding aethOf bthBytes aethBytes
+  aeth-back a x w = λ i. record { syndrome = a .syndrome; msn = record { 0 = three-value (a .msn .0) (w .1) i } }
 
-extension-back : (b : Bth) (e : Extension) (t : List ℕ) → widthsFit e ≡ true
+extension-back : (b : Bth) (e : Extension) (t : List ℕ) → Widths e
     → extensionOf (followsBy e) (bthBytes b ++ (extensionBytes e ++ t)) ≡ e
-unfolding extensionOf followsBy extensionBytes widthsFit bthBytes rethBytes aethBytes immediateFits rethImmediateFits aethValueFits
-extension-back b Bare t h = refl
-extension-back b (Remote r) t h = ap Remote (reth-back b r t h)
-extension-back b (RemoteImmediate r i) t h =
-    let k = ltb-true i (2 ^ 32) (and-right (rethFits r) (ltb i (2 ^ 32)) h) in
-    let l = reth-back b r (four i ++ t) (and-left (rethFits r) (ltb i (2 ^ 32)) h) in
-    λ j. RemoteImmediate (l j) (four-value i k j)
-extension-back b (Immediate i) t h = ap Immediate (four-value i (ltb-true i (2 ^ 32) h))
-extension-back b (Atomic a) t h = ap Atomic (atomic-back b a t h)
-extension-back b (Acknowledge a) t h = ap Acknowledge (aeth-back b a t h)
-extension-back b (AtomicAcknowledge a v) t h =
-    let k = ltb-true v (2 ^ 64) (and-right (aethFits a) (ltb v (2 ^ 64)) h) in
-    let l = aeth-back b a (eight v ++ t) (and-left (aethFits a) (ltb v (2 ^ 64)) h) in
-    λ j. AtomicAcknowledge (l j) (eight-value v k j)
+unfolding extensionOf followsBy extensionBytes bthBytes rethBytes aethBytes
+extension-back b Bare t w = refl
+extension-back b (Remote r) t w = ap Remote (reth-back b r t w)
+extension-back b (RemoteImmediate r i) t w = λ j. RemoteImmediate (reth-back b r (four i ++ t) (w .0) j) (four-value i (w .1) j)
+extension-back b (Immediate i) t w = ap Immediate (four-value i w)
+extension-back b (Atomic a) t w = ap Atomic (atomic-back b a t w)
+extension-back b (Acknowledge a) t w = ap Acknowledge (aeth-back b a t w)
+extension-back b (AtomicAcknowledge a v) t w = λ j. AtomicAcknowledge (aeth-back b a (eight v ++ t) (w .0) j) (eight-value v (w .1) j)
 
 -- no check fails on it
-reads : (p : List ℕ) (h : Header) → bthOf p ≡ h .bth → Within (h .bth) → headerLength h ≤ length p → Read p
+reads : (p : List ℕ) (h : Header) → bthOf p ≡ h .bth → BthWidths (h .bth) → headerLength h ≤ length p → Read p
 unfolding headerLength
 reads p h e w n =
     record {
       tver = ap (λ b. b .tver) e ∙ w .tver;
-      known = ap (λ b. otherService (serviceOf (b .opcode))) e ∙ w .known;
+      known = ap (λ b. otherService (serviceOf (b .opcode))) e ∙ known (h .bth .opcode) (w .opcode);
       room = subst (λ b. classOf (b .opcode) .length ≤ length p) (sym e) n;
     }
 
@@ -180,12 +137,12 @@ pub read-packet : ReadPacket
 unfolding headerBytes
 read-packet h t good words room =
     let F = fits h good in
-    let w = within (h .bth) (F .bth) in
+    let w = bth-widths (h .bth) (F .bth) in
     let b = bthBytes (h .bth) in
     let x = extensionBytes (h .extension) in
     let q : (b ++ x) ++ t ≡ b ++ (x ++ t) = append-assoc b x t in
     let e : bthOf (b ++ (x ++ t)) ≡ h .bth = bth-back (h .bth) (x ++ t) w in
-    let z : headerOf (b ++ (x ++ t)) ≡ h = same-header (b ++ (x ++ t)) h e (F .follows) (extension-back (h .bth) (h .extension) t (F .widths)) in
+    let z : headerOf (b ++ (x ++ t)) ≡ h = same-header (b ++ (x ++ t)) h e (F .follows) (extension-back (h .bth) (h .extension) t (widths-of (h .extension) (F .widths))) in
     let l : length (b ++ (x ++ t)) ≡ headerLength h + length t =
     ap length (sym q) ∙ (length-append (b ++ x) t ∙ ap (λ n. n + length t) (length-header h good)) in
     let s : headerLength h ≡ 12 + length x = length-is h good in

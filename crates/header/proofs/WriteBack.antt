@@ -6,16 +6,17 @@ use mathlib.Core.List.{List, [], _∷_, _++_}
 use native.Mathlib.Omega.{arith}
 use lib.Dec.{leb}
 use lib.ListN.{length, getD, take, drop}
-use borrow.Author.Tests.{lt-ltb, eq-eqb, leb-true, leb-false}
+use borrow.Author.Tests.{leb-true, leb-false}
 use Rattle.laws.proofs.Numbers.{two-bytes, three-bytes, four-bytes, four-below, high-half, low-half}
 use Rattle.laws.proofs.Lists.{elements, take-elements, elements-join}
 use Rattle.opcode.specs.Opcode.{classOf, lengthOf}
 use Rattle.opcode.proofs.Classes.{class-length, class-follows}
 use Rattle.header.specs.Bytes.{bit, Bytes, be2, be3, be4, be8, four, eight}
 use Rattle.header.specs.Read.{bthOf, rethOf, atomicOf, aethOf, extensionOf, headerOf}
-use Rattle.header.specs.Write.{bthBytes, rethBytes, atomicBytes, aethBytes, extensionBytes, headerBytes, bthFits, rethFits, atomicFits, aethFits, immediateFits, rethImmediateFits, aethValueFits, widthsFit, followsBy, extensionFits, headerFits, headerLength, written, writtenOut}
-use Rattle.header.specs.Claims.{WriteBack}
+use Rattle.header.specs.Write.{bthBytes, rethBytes, atomicBytes, aethBytes, extensionBytes, headerBytes, followsBy, headerFits, headerLength, written, writtenOut}
+use Rattle.header.specs.Claims.{BthWidths, RethWidths, AethWidths, Widths, WriteBack}
 use Rattle.header.proofs.Reasons.{Read, was-read, accepted}
+use Rattle.header.proofs.Widths.{below-64, bth-fits, extension-fits}
 use Rattle.header.proofs.Writes.{both-fit, done}
 use Rattle.header.specs.declared.HeaderWritten.the-variants.{Done}
 
@@ -97,7 +98,7 @@ module _ (p : List ℕ) (B : Bytes p) where
 -- what is read, by the class's number, is of that class, within its widths, and has the packet's bytes
 record Forth (p : List ℕ) (f : ℕ) : Type 0 where
   follows : followsBy (extensionOf f p) ≡ f
-  widths : widthsFit (extensionOf f p) ≡ true
+  widths : Widths (extensionOf f p)
   bytes : extensionBytes (extensionOf f p) ≡ elements p 12 (lengthOf f - 12)
 
 -- a number that is at most 6 is one of seven
@@ -116,93 +117,75 @@ unfolding lengthOf
 whole = seven (λ f. 12 + (lengthOf f - 12) ≡ lengthOf f) refl refl refl refl refl refl refl
 
 module _ (p : List ℕ) (B : Bytes p) where
-  reth-fits : rethFits (rethOf p) ≡ true
-  unfolding rethFits rethOf
-  reth-fits = rw (lt-ltb (be8 p 12) (2 ^ 64) (word p B 12), lt-ltb (be4 p 20) (2 ^ 32) (below p B 20), lt-ltb (be4 p 24) (2 ^ 32) (below p B 24))
+  reth-within : RethWidths (rethOf p)
+  unfolding rethOf
+  reth-within = (word p B 12, below p B 20, below p B 24)
 
-  immediate-fits : (i : ℕ) → immediateFits (be4 p i) ≡ true
-  unfolding immediateFits
-  immediate-fits i = lt-ltb (be4 p i) (2 ^ 32) (below p B i)
-
-  aeth-fits : aethFits (aethOf p) ≡ true
-  unfolding aethFits aethOf
-  aeth-fits =
-      let m : be3 p 13 < 2 ^ 24 = omega (arith, B 13, B 14, B 15) in
-      rw (lt-ltb (getD p 12 0) (2 ^ 8) (B 12), lt-ltb (be3 p 13) (2 ^ 24) m)
+  aeth-within : AethWidths (aethOf p)
+  unfolding aethOf
+  aeth-within = let m : be3 p 13 < 2 ^ 24 = omega (arith, B 13, B 14, B 15) in (B 12, m)
 
   forth-0 : Forth p 0
-  unfolding extensionOf followsBy widthsFit extensionBytes lengthOf elements
-  forth-0 = record { follows = refl; widths = refl; bytes = refl }
+  unfolding extensionOf followsBy extensionBytes lengthOf elements
+  forth-0 = record { follows = refl; widths = tt; bytes = refl }
 
   forth-1 : Forth p 1
-  unfolding extensionOf followsBy widthsFit extensionBytes lengthOf
-  forth-1 = record { follows = refl; widths = reth-fits; bytes = reth-forth p B }
+  unfolding extensionOf followsBy extensionBytes lengthOf
+  forth-1 = record { follows = refl; widths = reth-within; bytes = reth-forth p B }
 
   forth-2 : Forth p 2
-  unfolding extensionOf followsBy widthsFit extensionBytes lengthOf elements rethImmediateFits
-  forth-2 =
-      record {
-        follows = refl;
-        widths = rw (reth-fits, immediate-fits 28);
-        bytes = λ i. reth-forth p B i ++ four-forth p B 28 i;
-      }
+  unfolding extensionOf followsBy extensionBytes lengthOf elements
+  forth-2 = record { follows = refl; widths = (reth-within, below p B 28); bytes = λ i. reth-forth p B i ++ four-forth p B 28 i }
 
   forth-3 : Forth p 3
-  unfolding extensionOf followsBy widthsFit extensionBytes lengthOf elements
-  forth-3 = record { follows = refl; widths = immediate-fits 12; bytes = four-forth p B 12 }
+  unfolding extensionOf followsBy extensionBytes lengthOf elements
+  forth-3 = record { follows = refl; widths = below p B 12; bytes = four-forth p B 12 }
 
   forth-4 : Forth p 4
-  unfolding extensionOf followsBy widthsFit extensionBytes lengthOf atomicFits atomicOf
-  forth-4 =
-      record {
-        follows = refl;
-        widths = rw (lt-ltb (be8 p 12) (2 ^ 64) (word p B 12), lt-ltb (be4 p 20) (2 ^ 32) (below p B 20), lt-ltb (be8 p 24) (2 ^ 64) (word p B 24), lt-ltb (be8 p 32) (2 ^ 64) (word p B 32));
-        bytes = atomic-forth p B;
-      }
+  unfolding extensionOf followsBy extensionBytes lengthOf atomicOf
+  forth-4 = record { follows = refl; widths = (word p B 12, below p B 20, word p B 24, word p B 32); bytes = atomic-forth p B }
 
   forth-5 : Forth p 5
-  unfolding extensionOf followsBy widthsFit extensionBytes lengthOf
-  forth-5 = record { follows = refl; widths = aeth-fits; bytes = aeth-forth p B }
+  unfolding extensionOf followsBy extensionBytes lengthOf
+  forth-5 = record { follows = refl; widths = aeth-within; bytes = aeth-forth p B }
 
   forth-6 : Forth p 6
-  unfolding extensionOf followsBy widthsFit extensionBytes lengthOf elements aethValueFits
+  unfolding extensionOf followsBy extensionBytes lengthOf elements
   forth-6 =
       record {
         follows = refl;
-        widths = rw (aeth-fits, lt-ltb (be8 p 16) (2 ^ 64) (word p B 16));
+        widths = (aeth-within, word p B 16);
         bytes = ap (λ x. aethBytes (aethOf p) ++ x) (eight-forth p B 16) ∙ (λ i. aeth-forth p B i ++ (four-forth p B 16 i ++ four-forth p B 20 i));
       }
 
   forth : (f : ℕ) → f ≤ 6 → Forth p f
   forth = seven (Forth p) forth-0 forth-1 forth-2 forth-3 forth-4 forth-5 forth-6
 
-  bth-fits : Read p → bthFits (bthOf p) ≡ true
-  unfolding bthFits bthOf
-  bth-fits R =
-      let pad : getD p 1 0 / 16 % 4 < 2 ^ 2 = omega arith in
+  bth-within : Read p → BthWidths (bthOf p)
+  unfolding bthOf
+  bth-within R =
+      let pad : getD p 1 0 / 16 % 4 < 4 = omega arith in
       let key : be2 p 2 < 2 ^ 16 = omega (arith, B 2, B 3) in
       let dest : be3 p 5 < 2 ^ 24 = omega (arith, B 5, B 6, B 7) in
       let rest : getD p 8 0 % 128 < 2 ^ 7 = omega arith in
       let psn : be3 p 9 < 2 ^ 24 = omega (arith, B 9, B 10, B 11) in
-      rw (
-        lt-ltb (getD p 0 0) (2 ^ 8) (B 0),
-        R .known,
-        lt-ltb (getD p 1 0 / 16 % 4) (2 ^ 2) pad,
-        eq-eqb (getD p 1 0 % 16) 0 (R .tver),
-        lt-ltb (be2 p 2) (2 ^ 16) key,
-        lt-ltb (getD p 4 0) (2 ^ 8) (B 4),
-        lt-ltb (be3 p 5) (2 ^ 24) dest,
-        lt-ltb (getD p 8 0 % 128) (2 ^ 7) rest,
-        lt-ltb (be3 p 9) (2 ^ 24) psn,
-      )
-
-  extension-fits : (f : ℕ) → f ≤ 6 → extensionFits f (extensionOf f p) ≡ true
-  unfolding extensionFits
-  extension-fits f h = let F = forth f h in rw (eq-eqb f (followsBy (extensionOf f p)) (sym (F .follows)), F .widths)
+      record {
+        opcode = below-64 (getD p 0 0) (R .known);
+        pad = pad;
+        tver = R .tver;
+        pkey = key;
+        reserved8 = B 4;
+        dest = dest;
+        reserved7 = rest;
+        psn = psn;
+      }
 
   header-fits : Read p → headerFits (headerOf p) ≡ true
   unfolding headerOf
-  header-fits R = both-fit (headerOf p) (bth-fits R) (extension-fits (classOf (bthOf p .opcode) .follows) (class-follows (bthOf p .opcode)))
+  header-fits R =
+      let f = classOf (bthOf p .opcode) .follows in
+      let F = forth f (class-follows (bthOf p .opcode)) in
+      both-fit (headerOf p) (bth-fits (bthOf p) (bth-within R)) (extension-fits f (extensionOf f p) (sym (F .follows)) (F .widths))
 
   -- the header's bytes are the packet's first
   first-bytes : (f : ℕ) → f ≤ 6 → lengthOf f ≤ length p
