@@ -18,7 +18,7 @@ ghost use mathlib.Core.Path.{_≡_};
 ghost use Prim.Native.Nat.{_≤_};
 ghost use lib.ListN.{length};
 ghost use Rattle.opcode.specs.Opcode.{lengthOf};
-ghost use Rattle.header.specs.Read.{bthOf, rethOf, atomicOf, aethOf, extensionOf, badLength, otherService, readHeader};
+ghost use Rattle.header.specs.Read.{bthOf, rethOf, atomicOf, aethOf, extensionOf, badLength, readHeader};
 ghost use Rattle.header.specs.Check.{wrongService, isResponse, beyondService, admitted};
 
 fn read_bth(p: &[u8]) -> Bth
@@ -125,16 +125,10 @@ fn bad_length(n: usize) -> bool
     n % 4 != 0
 }
 
-fn other_service(service: u8) -> bool
-    ensures { λ r. ⌜ r ≡ otherService service ⌝ }
-{
-    opcode::UC < service
-}
-
 fn wrong_service(theirs: u8, ours: u8) -> bool
     ensures { λ r. ⌜ r ≡ wrongService theirs ours ⌝ }
 {
-    let other = other_service(theirs);
+    let other = header::other_service(theirs);
     if other {
         return true;
     }
@@ -215,7 +209,7 @@ pub fn read(p: &[u8]) -> HeaderRead
     if bth.tver != 0 {
         return HeaderRead::Dropped(2);
     }
-    let other = other_service(bth.opcode / 32);
+    let other = header::other_service(bth.opcode / 32);
     if other {
         return HeaderRead::Dropped(5);
     }

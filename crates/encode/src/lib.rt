@@ -17,7 +17,8 @@ ghost use Rattle.header.specs.Write.{bthFits, followsBy, widthsFit, extensionFi
 fn bth_unfit(b: Bth) -> bool
     ensures { λ r. ⌜ r ≡ not (bthFits b) ⌝ }
 {
-    if opcode::UC < b.opcode / 32 {
+    let other = header::other_service(b.opcode / 32);
+    if other {
         return true;
     }
     if 4 <= b.pad {

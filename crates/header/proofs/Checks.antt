@@ -66,7 +66,7 @@ same-service theirs ours k e = rw (k, eq-eqb theirs ours e)
 
 request : (low : ℕ) → (low < 13) ⊎ (18 < low) → isResponse low ≡ false
 unfolding isResponse
-request low r = ⊎-elim (λ h. rw (lt-leb 13 low h)) (λ h. rw (le-leb 13 low (omega arith), lt-leb low 18 h)) r
+request low r = ⊎-elim (λ h. simp (lt-leb 13 low h)) (λ h. simp (le-leb 13 low (omega arith), lt-leb low 18 h)) r
 
 has : (service low : ℕ) → (service ≡ 1 → low < 12) → beyondService service low ≡ false
 unfolding beyondService ucHas

@@ -1,8 +1,9 @@
-// Packet headers as values, and the P_Key test. The definitions of reading and writing them, and the
+// Packet headers as values, and the tests of service and P_Key. The definitions of reading and writing them, and the
 // proof that each undoes the other, stand in specs/ and proofs/; the code in decode and encode.
 use sequence::Msn;
 use sequence::Psn;
 ghost use mathlib.Core.Path.{_≡_};
+ghost use Rattle.header.specs.Read.{otherService};
 ghost use Rattle.header.specs.Check.{pkeysMatch};
 
 // Base transport header.
@@ -69,6 +70,13 @@ pub enum HeaderRead {
 pub enum HeaderWritten {
     Done(usize),
     Refused(u8),
+}
+
+// Whether service bits are neither RC's nor UC's.
+pub fn other_service(service: u8) -> bool
+    ensures { λ r. ⌜ r ≡ otherService service ⌝ }
+{
+    opcode::UC < service
 }
 
 // Whether two P_Keys match, so that their owners may talk.

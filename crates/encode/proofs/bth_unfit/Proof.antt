@@ -2,46 +2,51 @@ use Prim.Native.Nat.{_^_}
 use native.Mathlib.Omega.{arith}
 use borrow.Author.Tests.{lt-ltb, le-ltb, lt-leb, le-leb, eq-eqb, ne-eqb}
 use Rattle.laws.proofs.Tests.{not-ltb}
-use Rattle.header.specs.Read.{otherService}
 use Rattle.header.specs.Write.{bthFits}
+use borrow.Author.Needs.{needs}
 use Rattle.encode.proofs.bth_unfit.Statement.{statement}
 use Rattle.encode.proofs.bth_unfit.Tie as tie
 
+other-service-requires : tie.Need-other-service-requires
+other-service-requires c κs = search needs
+
 returns : tie.Need-returns
-unfolding bthFits otherService
+unfolding bthFits
 returns c =
-    let A = c .before .before .args in
-    simp (lt-ltb (A .b .opcode) (2 ^ 8) (omega arith), lt-ltb (A .b .pkey) (2 ^ 16) (omega arith), lt-ltb (A .b .reserved8) (2 ^ 8) (omega arith), lt-leb _ _ (c .if1 .taken), lt-ltb _ _ (c .if1 .taken))
+    let A = c .before .before .before .args in
+    simp (lt-ltb (A .b .opcode) (2 ^ 8) (omega arith), lt-ltb (A .b .pkey) (2 ^ 16) (omega arith), lt-ltb (A .b .reserved8) (2 ^ 8) (omega arith), ← c .before .other-service .ensures, c .if1 .taken)
 
 returns-2 : tie.Need-returns-2
-unfolding bthFits otherService
+unfolding bthFits
 returns-2 c =
-    let A = c .before .before .before .before .args in
-    simp (lt-ltb (A .b .opcode) (2 ^ 8) (omega arith), lt-ltb (A .b .pkey) (2 ^ 16) (omega arith), lt-ltb (A .b .reserved8) (2 ^ 8) (omega arith), le-ltb _ _ (c .before .before .if1 .left), le-leb _ _ (c .before .before .if1 .left), le-ltb _ _ (c .if2 .taken), le-leb _ _ (c .if2 .taken))
+    let A = c .before .before .before .before .before .args in
+    simp (lt-ltb (A .b .opcode) (2 ^ 8) (omega arith), lt-ltb (A .b .pkey) (2 ^ 16) (omega arith), lt-ltb (A .b .reserved8) (2 ^ 8) (omega arith), ← c .before .before .before .other-service .ensures, c .before .before .if1 .left, le-ltb _ _ (c .if2 .taken), le-leb _ _ (c .if2 .taken))
 
 returns-3 : tie.Need-returns-3
-unfolding bthFits otherService
+unfolding bthFits
 returns-3 c =
-    let A = c .before .before .before .before .before .before .args in
-    simp (lt-ltb (A .b .opcode) (2 ^ 8) (omega arith), lt-ltb (A .b .pkey) (2 ^ 16) (omega arith), lt-ltb (A .b .reserved8) (2 ^ 8) (omega arith), le-ltb _ _ (c .before .before .before .before .if1 .left), le-leb _ _ (c .before .before .before .before .if1 .left), lt-leb _ _ (c .before .before .if2 .left), lt-ltb _ _ (c .before .before .if2 .left), ne-eqb _ _ (c .if3 .taken))
+    let A = c .before .before .before .before .before .before .before .args in
+    simp (lt-ltb (A .b .opcode) (2 ^ 8) (omega arith), lt-ltb (A .b .pkey) (2 ^ 16) (omega arith), lt-ltb (A .b .reserved8) (2 ^ 8) (omega arith), ← c .before .before .before .before .before .other-service .ensures, c .before .before .before .before .if1 .left, lt-leb _ _ (c .before .before .if2 .left), lt-ltb _ _ (c .before .before .if2 .left), ne-eqb _ _ (c .if3 .taken))
 
 returns-4 : tie.Need-returns-4
-unfolding bthFits otherService
+unfolding bthFits
 returns-4 c =
-    let A = c .before .before .before .before .before .before .before .before .args in
-    simp (lt-ltb (A .b .opcode) (2 ^ 8) (omega arith), lt-ltb (A .b .pkey) (2 ^ 16) (omega arith), lt-ltb (A .b .reserved8) (2 ^ 8) (omega arith), le-ltb _ _ (c .before .before .before .before .before .before .if1 .left), le-leb _ _ (c .before .before .before .before .before .before .if1 .left), lt-leb _ _ (c .before .before .before .before .if2 .left), lt-ltb _ _ (c .before .before .before .before .if2 .left), eq-eqb _ _ (c .before .before .if3 .left), le-ltb _ _ (c .if4 .taken), le-leb _ _ (c .if4 .taken))
+    let A = c .before .before .before .before .before .before .before .before .before .args in
+    simp (lt-ltb (A .b .opcode) (2 ^ 8) (omega arith), lt-ltb (A .b .pkey) (2 ^ 16) (omega arith), lt-ltb (A .b .reserved8) (2 ^ 8) (omega arith), ← c .before .before .before .before .before .before .before .other-service .ensures, c .before .before .before .before .before .before .if1 .left, lt-leb _ _ (c .before .before .before .before .if2 .left), lt-ltb _ _ (c .before .before .before .before .if2 .left), eq-eqb _ _ (c .before .before .if3 .left), le-ltb _ _ (c .if4 .taken), le-leb _ _ (c .if4 .taken))
 
 returns-5 : tie.Need-returns-5
-unfolding bthFits otherService
+unfolding bthFits
 returns-5 c =
-    let A = c .before .before .before .before .before .before .before .before .before .before .args in
-    simp (lt-ltb (A .b .opcode) (2 ^ 8) (omega arith), lt-ltb (A .b .pkey) (2 ^ 16) (omega arith), lt-ltb (A .b .reserved8) (2 ^ 8) (omega arith), le-ltb _ _ (c .before .before .before .before .before .before .before .before .if1 .left), le-leb _ _ (c .before .before .before .before .before .before .before .before .if1 .left), lt-leb _ _ (c .before .before .before .before .before .before .if2 .left), lt-ltb _ _ (c .before .before .before .before .before .before .if2 .left), eq-eqb _ _ (c .before .before .before .before .if3 .left), lt-leb _ _ (c .before .before .if4 .left), lt-ltb _ _ (c .before .before .if4 .left), le-ltb _ _ (c .if5 .taken), le-leb _ _ (c .if5 .taken))
+    let A = c .before .before .before .before .before .before .before .before .before .before .before .args in
+    simp (lt-ltb (A .b .opcode) (2 ^ 8) (omega arith), lt-ltb (A .b .pkey) (2 ^ 16) (omega arith), lt-ltb (A .b .reserved8) (2 ^ 8) (omega arith), ← c .before .before .before .before .before .before .before .before .before .other-service .ensures, c .before .before .before .before .before .before .before .before .if1 .left, lt-leb _ _ (c .before .before .before .before .before .before .if2 .left), lt-ltb _ _ (c .before .before .before .before .before .before .if2 .left), eq-eqb _ _ (c .before .before .before .before .if3 .left), lt-leb _ _ (c .before .before .if4 .left), lt-ltb _ _ (c .before .before .if4 .left), le-ltb _ _ (c .if5 .taken), le-leb _ _ (c .if5 .taken))
 
 returns-6 : tie.Need-returns-6
-unfolding bthFits otherService
+unfolding bthFits
 returns-6 c =
-    let A = c .before .before .before .before .before .before .before .before .before .before .before .before .args in
-    simp (lt-ltb (A .b .opcode) (2 ^ 8) (omega arith), lt-ltb (A .b .pkey) (2 ^ 16) (omega arith), lt-ltb (A .b .reserved8) (2 ^ 8) (omega arith), le-ltb _ _ (c .before .before .before .before .before .before .before .before .before .before .if1 .left), le-leb _ _ (c .before .before .before .before .before .before .before .before .before .before .if1 .left), lt-leb _ _ (c .before .before .before .before .before .before .before .before .if2 .left), lt-ltb _ _ (c .before .before .before .before .before .before .before .before .if2 .left), eq-eqb _ _ (c .before .before .before .before .before .before .if3 .left), lt-leb _ _ (c .before .before .before .before .if4 .left), lt-ltb _ _ (c .before .before .before .before .if4 .left), lt-leb _ _ (c .before .before .if5 .left), lt-ltb _ _ (c .before .before .if5 .left), not-ltb (A .b .psn .0) (2 ^ 24))
+    let A = c .before .before .before .before .before .before .before .before .before .before .before .before .before .args in
+    simp (lt-ltb (A .b .opcode) (2 ^ 8) (omega arith), lt-ltb (A .b .pkey) (2 ^ 16) (omega arith), lt-ltb (A .b .reserved8) (2 ^ 8) (omega arith), ← c .before .before .before .before .before .before .before .before .before .before .before .other-service .ensures, c .before .before .before .before .before .before .before .before .before .before .if1 .left, lt-leb _ _ (c .before .before .before .before .before .before .before .before .if2 .left), lt-ltb _ _ (c .before .before .before .before .before .before .before .before .if2 .left), eq-eqb _ _ (c .before .before .before .before .before .before .if3 .left), lt-leb _ _ (c .before .before .before .before .if4 .left), lt-ltb _ _ (c .before .before .before .before .if4 .left), lt-leb _ _ (c .before .before .if5 .left), lt-ltb _ _ (c .before .before .if5 .left), not-ltb (A .b .psn .0) (2 ^ 24))
 
 pub bth-unfit-spec : {M : Type 1} → statement M
-bth-unfit-spec = tie.close (tie.spec returns returns-2 returns-3 returns-4 returns-5 returns-6)
+bth-unfit-spec =
+    tie.close
+    (tie.spec other-service-requires returns returns-2 returns-3 returns-4 returns-5 returns-6)

@@ -1,8 +1,8 @@
 use borrow.Author.Needs.{needs}
 use Rattle.laws.proofs.Auto.{tested}
 use Rattle.header.specs.Read.{otherService}
-use Rattle.decode.proofs.other_service.Statement.{statement}
-use Rattle.decode.proofs.other_service.Tie as tie
+use Rattle.header.proofs.other_service.Statement.{statement}
+use Rattle.header.proofs.other_service.Tie as tie
 
 returns : tie.Need-returns
 unfolding otherService
