@@ -13,62 +13,60 @@ use Rattle.memory.proofs.Put.{length-placed, placed-placed}
 use Rattle.header.specs.Write.{bthFits, extensionFits, headerFits, headerLength, bthBytes, extensionBytes, written, writtenOut}
 use Rattle.header.specs.declared.Header.{Header}
 use Rattle.header.specs.declared.Extension.{Extension}
-use Rattle.header.specs.declared.HeaderWritten.the-variants.{Done, Refused}
+use Rattle.header.specs.declared.Answer.the-variants.{Done, Refused}
 use Rattle.header.proofs.Lengths.{length-is}
-use Rattle.header.proofs.Writes.{bth-off, extension-off, both-fit, refused, short, done, two-parts}
+use Rattle.header.proofs.Writes.{bth-off, refused, short, done, two-parts}
 
--- a refusal by the BTH
-pub by-bth : (h : Header) (out : List ℕ) (u : Bool) → u ≡ not (bthFits (h .bth)) → u ≡ true
+-- a refusal by the BTH, or by the headers after it, whose class k is that of the opcode
+pub by-bth : (h : Header) (u : Bool) → u ≡ not (bthFits (h .bth)) → u ≡ true → true ≡ not (headerFits h)
+by-bth h u e t = sym (ap not (bth-off h (not-true (bthFits (h .bth)) u e t)))
+
+pub by-extension : (h : Header) (u : Bool) → u ≡ not (bthFits (h .bth)) → u ≡ false → (k : OpcodeClass)
+    → k ≡ classOf (h .bth .opcode) → (v : Bool) → v ≡ not (extensionFits (k .follows) (h .extension))
+    → v ≡ not (headerFits h)
+unfolding headerFits
+by-extension h u e f k is v x = simp (x, is, not-false (bthFits (h .bth)) u e f)
+
+-- no such header
+pub by-fields : (h : Header) (out : List ℕ) (u : Bool) → u ≡ not (headerFits h) → u ≡ true
     → (Refused 39 ≡ written h (length out)) × (out ≡ writtenOut h out)
-by-bth h out u e t =
-    let R = refused h out (bth-off h (not-true (bthFits (h .bth)) u e t)) in
+by-fields h out u e t =
+    let R = refused h out (not-true (headerFits h) u e t) in
     (sym (R .0), sym (R .1))
 
--- what holds after it: the BTH fits, and k is the class of its opcode
-module _ (h : Header) (out : List ℕ) (u : Bool) (e : u ≡ not (bthFits (h .bth))) (f : u ≡ false) (k : OpcodeClass)
-    (is : k ≡ classOf (h .bth .opcode)) (v : Bool) (x : v ≡ not (extensionFits (k .follows) (h .extension))) where
-  head : bthFits (h .bth) ≡ true
-  head = not-false (bthFits (h .bth)) u e f
-
-  told : v ≡ not (extensionFits (classOf (h .bth .opcode) .follows) (h .extension))
-  told = subst (λ z. v ≡ not (extensionFits (z .follows) (h .extension))) is x
-
+-- what holds after that: the header fits, and k is the class of its opcode
+module _ (h : Header) (out : List ℕ) (u : Bool) (e : u ≡ not (headerFits h)) (f : u ≡ false) (k : OpcodeClass)
+    (is : k ≡ classOf (h .bth .opcode)) where
   size : k .length ≡ headerLength h
   unfolding headerLength
   size = ap (λ z. z .length) is
 
-  -- a refusal by the headers after it
-  pub by-extension : v ≡ true → (Refused 39 ≡ written h (length out)) × (out ≡ writtenOut h out)
-  by-extension t =
-      let R = refused h out (extension-off h head (not-true (extensionFits (classOf (h .bth .opcode) .follows) (h .extension)) v told t)) in
-      (sym (R .0), sym (R .1))
-
-  good : v ≡ false → headerFits h ≡ true
-  good t = both-fit h head (not-false (extensionFits (classOf (h .bth .opcode) .follows) (h .extension)) v told t)
+  good : headerFits h ≡ true
+  good = not-false (headerFits h) u e f
 
   -- a refusal by the output's length
-  pub by-length : v ≡ false → length out < k .length → (Refused 35 ≡ written h (length out)) × (out ≡ writtenOut h out)
-  by-length t l =
-      let R = short h out (good t) (subst (λ n. length out < n) size l) in
+  pub by-length : length out < k .length → (Refused 35 ≡ written h (length out)) × (out ≡ writtenOut h out)
+  by-length l =
+      let R = short h out good (subst (λ n. length out < n) size l) in
       (sym (R .0), sym (R .1))
 
   -- there is room for the headers after the BTH, in what the BTH's bytes b left
-  pub room : (b m : List ℕ) → v ≡ false → k .length ≤ length out → m ≡ placed out 0 b
+  pub room : (b m : List ℕ) → k .length ≤ length out → m ≡ placed out 0 b
       → 12 + length (extensionBytes (h .extension)) ≤ length m
-  room b m t l q =
+  room b m l q =
       let s : length m ≡ length out = ap length q ∙ length-placed out 0 b in
       let n : headerLength h ≤ length out = subst (λ z. z ≤ length out) size l in
-      omega (arith, length-is h (good t))
+      omega (arith, length-is h good)
 
   -- the header written: the BTH's bytes b first, the other headers into what that left
-  pub whole : (b m w : List ℕ) → v ≡ false → k .length ≤ length out → b ≡ bthBytes (h .bth) → m ≡ placed out 0 b
+  pub whole : (b m w : List ℕ) → k .length ≤ length out → b ≡ bthBytes (h .bth) → m ≡ placed out 0 b
       → w ≡ placed m 12 (extensionBytes (h .extension))
       → (Done (k .length) ≡ written h (length out)) × (w ≡ writtenOut h out)
-  whole b m w t l p q r =
+  whole b m w l p q r =
       let n : headerLength h ≤ length out = subst (λ s. s ≤ length out) size l in
-      let D = done h out (good t) n in (
+      let D = done h out good n in (
         ap Done size ∙ sym (D .0),
-        r ∙ (ap (λ z. placed z 12 (extensionBytes (h .extension))) (q ∙ ap (placed out 0) p) ∙ (two-parts h out (good t) n ∙ sym (D .1))),
+        r ∙ (ap (λ z. placed z 12 (extensionBytes (h .extension))) (q ∙ ap (placed out 0) p) ∙ (two-parts h out good n ∙ sym (D .1))),
       )
 
 -- headers in two parts, b and c, the second placed behind the first

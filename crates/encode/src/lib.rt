@@ -1,16 +1,16 @@
 // Headers written as bytes.
 mod width;
 
+use header::Answer;
 use header::Bth;
 use header::Extension;
 use header::Header;
-use header::HeaderWritten;
 ghost use mathlib.Core.Path.{_≡_};
 ghost use mathlib.Core.Bool.{not};
 ghost use Prim.Native.Nat.{_+_, _≤_};
 ghost use lib.ListN.{length};
 ghost use Rattle.memory.specs.Memory.{placed};
-ghost use Rattle.header.specs.Write.{bthFits, followsBy, widthsFit, extensionFits, extensionBytes, written, writtenOut};
+ghost use Rattle.header.specs.Write.{bthFits, followsBy, widthsFit, extensionFits, headerFits, extensionBytes, written, writtenOut};
 
 // A field over its width, a TVer or a service that no header here has. What a field's own type bounds
 // is not tested again.
@@ -77,6 +77,20 @@ fn extension_unfit(follows: u8, e: Extension) -> bool
     widths_unfit(e)
 }
 
+// Whether there is no such header: a field over its width, or headers that are not those of the opcode.
+pub fn unfit(h: Header) -> bool
+    ensures { λ r. ⌜ r ≡ not (headerFits h) ⌝ }
+{
+    let bth = h.bth;
+    let wide = bth_unfit(bth);
+    if wide {
+        return true;
+    }
+    let class = opcode::class(bth.opcode);
+    let extension = h.extension;
+    extension_unfit(class.follows, extension)
+}
+
 // The headers after the BTH, into an output that has room for them.
 fn write_extension(out: &mut [u8], e: Extension)
     requires { ⌜ 12 + length (extensionBytes e) ≤ length (now out) ⌝ }
@@ -116,26 +130,22 @@ fn write_extension(out: &mut [u8], e: Extension)
 }
 
 // Writes the header at the start of the output.
-pub fn write(h: Header, out: &mut [u8]) -> HeaderWritten
+pub fn write(h: Header, out: &mut [u8]) -> Answer
     ensures { λ r. ⌜ r ≡ written h (length (now (out .entry))) ⌝ }
     ensures { λ r. ⌜ now (out .exit) ≡ writtenOut h (now (out .entry)) ⌝ }
 {
+    let none = unfit(h);
+    if none {
+        return Answer::Refused(39);
+    }
     let bth = h.bth;
-    let extension = h.extension;
-    let unfit = bth_unfit(bth);
-    if unfit {
-        return HeaderWritten::Refused(39);
-    }
     let class = opcode::class(bth.opcode);
-    let other = extension_unfit(class.follows, extension);
-    if other {
-        return HeaderWritten::Refused(39);
-    }
     if out.len() < class.length {
-        return HeaderWritten::Refused(35);
+        return Answer::Refused(35);
     }
     let b = wire::bth_bytes(bth);
     memory::place(out, 0, &b);
+    let extension = h.extension;
     write_extension(out, extension);
-    HeaderWritten::Done(class.length)
+    Answer::Done(class.length)
 }

@@ -18,7 +18,7 @@ use Rattle.header.specs.Claims.{BthWidths, RethWidths, AethWidths, Width
 use Rattle.header.proofs.Reasons.{Read, was-read, accepted}
 use Rattle.header.proofs.Widths.{below-64, bth-fits, extension-fits}
 use Rattle.header.proofs.Writes.{both-fit, done}
-use Rattle.header.specs.declared.HeaderWritten.the-variants.{Done}
+use Rattle.header.specs.declared.Answer.the-variants.{Done}
 
 -- the flags' byte, from its fields
 flags-forth : (x : ℕ) → x < 256

@@ -6,15 +6,15 @@ use mathlib.Core.List.{List, _++_}
 use native.Mathlib.Omega.{arith}
 use lib.Dec.{ltb, eqb}
 use lib.ListN.{length, drop}
-use borrow.Author.Tests.{lt-ltb, le-ltb, ltb-true, ltb-false, ne-eqb}
+use borrow.Author.Tests.{lt-ltb, le-ltb, ltb-true, ltb-false, ne-eqb, eqb-true}
 use Rattle.opcode.specs.Opcode.{classOf}
 use Rattle.memory.specs.Memory.{placed}
 use Rattle.memory.proofs.Put.{placed-put, placed-placed, put-start}
-use Rattle.header.specs.Write.{bthBytes, extensionBytes, headerBytes, bthFits, extensionFits, headerFits, headerLength, writeAnswer, writtenBy, written, writeNumber, writtenOut}
+use Rattle.header.specs.Write.{bthBytes, extensionBytes, headerBytes, bthFits, extensionFits, headerFits, headerLength, writeAnswer, answerBy, written, answerNumber, writtenOut}
 use Rattle.header.specs.Claims.{WriteNumbers}
 use Rattle.header.proofs.Lengths.{length-bth, length-is, length-header}
 use Rattle.header.specs.declared.Header.{Header}
-use Rattle.header.specs.declared.HeaderWritten.the-variants.{Done, Refused}
+use Rattle.header.specs.declared.Answer.the-variants.{Done, Refused}
 
 pub bth-off : (h : Header) → bthFits (h .bth) ≡ false → headerFits h ≡ false
 unfolding headerFits
@@ -45,7 +45,7 @@ fine h n e l = rw (e, le-ltb n (headerLength h) l)
 
 no : (h : Header) (out : List ℕ) (r : ℕ) → writeAnswer h (length out) ≡ suc r
     → (written h (length out) ≡ Refused (suc r)) × (writtenOut h out ≡ out)
-unfolding written writtenBy writtenOut
+unfolding written answerBy writtenOut
 no h out r e =
     let other : suc r ≡ 0 → ⊥ = λ z. omega arith in
     (rw (e, ne-eqb (suc r) 0 other), rw (e, ne-eqb (suc r) 0 other))
@@ -59,7 +59,7 @@ pub short : (h : Header) (out : List ℕ) → headerFits h ≡ true → length o
 short h out e l = no h out 34 (lacking h (length out) e l)
 
 pub answered : (h : Header) (n : ℕ) → headerFits h ≡ true → headerLength h ≤ n → written h n ≡ Done (headerLength h)
-unfolding written writtenBy
+unfolding written answerBy
 answered h n e l = rw (fine h n e l)
 
 pub done : (h : Header) (out : List ℕ) → headerFits h ≡ true → headerLength h ≤ length out
@@ -95,6 +95,15 @@ no-done r n e = let z : _≡_ {A = ℕ} 0 1 = cc in omega arith
 same-done : (m n : ℕ) → Done m ≡ Done n → n ≡ m
 same-done m n e = cc
 
+-- an answer of how many: nothing was refused
+pub was-done : (a m n : ℕ) → answerBy a m ≡ Done n → (a ≡ 0) × (n ≡ m)
+unfolding answerBy
+was-done a m n e = go (eqb a 0) refl e
+  where
+    go : (b : Bool) → eqb a 0 ≡ b → cond b (Done m) (Refused a) ≡ Done n → (a ≡ 0) × (n ≡ m)
+    go true q f = (eqb-true a 0 q, same-done m n f)
+    go false q f = absurd (no-done a n f)
+
 pub was-written : (h : Header) (out : List ℕ) (n : ℕ) → written h (length out) ≡ Done n → Written h out n
 was-written h out n e = go (headerFits h) (ltb (length out) (headerLength h)) refl refl
   where
@@ -107,9 +116,9 @@ was-written h out n e = go (headerFits h) (ltb (length out) (headerLength h)) re
 
 -- the number of an answer
 pub write-numbers : WriteNumbers
-unfolding written writtenBy writeNumber
+unfolding written answerBy answerNumber
 write-numbers h n = go (writeAnswer h n)
   where
-    go : (a : ℕ) → writeNumber (cond (eqb a 0) (Done (headerLength h)) (Refused a)) ≡ a
+    go : (a : ℕ) → answerNumber (cond (eqb a 0) (Done (headerLength h)) (Refused a)) ≡ a
     go zero = refl
     go (suc a) = rw (ne-eqb (suc a) 0 (λ z. omega arith))

@@ -9,7 +9,7 @@ use lib.ListN.{length, getD, take, drop}
 use Rattle.opcode.specs.Opcode.{classOf, serviceOf, lowOf}
 use Rattle.header.specs.Bytes.{Bytes}
 use Rattle.header.specs.Read.{headerOf, readBy, readNumber, readHeader}
-use Rattle.header.specs.Write.{followsBy, headerFits, headerLength, headerBytes, writeAnswer, written, writeNumber, writtenOut}
+use Rattle.header.specs.Write.{followsBy, headerFits, headerLength, headerBytes, writeAnswer, written, answerNumber, writtenOut}
 use Rattle.header.specs.Check.{pkeysMatch, admitted}
 use Rattle.header.specs.declared.Bth.{Bth}
 use Rattle.header.specs.declared.Reth.{Reth}
@@ -18,7 +18,7 @@ use Rattle.header.specs.declared.Extension.{Extension}
 use Rattle.header.specs.declared.Extension.the-variants.{Bare, Remote, RemoteImmediate, Immediate, Atomic, Acknowledge, AtomicAcknowledge}
 use Rattle.header.specs.declared.Header.{Header}
 use Rattle.header.specs.declared.HeaderRead.the-variants.{Accepted}
-use Rattle.header.specs.declared.HeaderWritten.the-variants.{Done}
+use Rattle.header.specs.declared.Answer.the-variants.{Done}
 
 -- What writing makes of a header, in any output, reading turns into that header again.
 abbrev pub ReadBack : Type 0
@@ -88,7 +88,7 @@ abbrev pub ReadNumbers : Type 0
 ReadNumbers = (reason : ℕ) (p : List ℕ) → readNumber (readBy reason p) ≡ cond (eqb reason 0) 0 5
 
 abbrev pub WriteNumbers : Type 0
-WriteNumbers = (h : Header) (n : ℕ) → writeNumber (written h n) ≡ writeAnswer h n
+WriteNumbers = (h : Header) (n : ℕ) → answerNumber (written h n) ≡ writeAnswer h n
 
 -- A packet that passes the checks of a pair has a header that reads.
 abbrev pub CheckedReads : Type 0

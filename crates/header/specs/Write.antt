@@ -14,8 +14,8 @@ use Rattle.header.specs.declared.Aeth.{Aeth}
 use Rattle.header.specs.declared.Extension.{Extension}
 use Rattle.header.specs.declared.Extension.the-variants.{Bare, Remote, RemoteImmediate, Immediate, Atomic, Acknowledge, AtomicAcknowledge}
 use Rattle.header.specs.declared.Header.{Header}
-use Rattle.header.specs.declared.HeaderWritten.{HeaderWritten}
-use Rattle.header.specs.declared.HeaderWritten.the-variants.{Done, Refused}
+use Rattle.header.specs.declared.Answer.{Answer}
+use Rattle.header.specs.declared.Answer.the-variants.{Done, Refused}
 
 -- the bytes of each header, its fields in wire order
 abbrev pub flagsByte : Bth → ℕ
@@ -115,16 +115,16 @@ unfoldable pub writeAnswer : Header → ℕ → ℕ
 writeAnswer h n = cond (headerFits h) (cond (ltb n (headerLength h)) 35 0) 39
 
 -- the answer: with 0 the bytes written
-unfoldable pub writtenBy : ℕ → ℕ → HeaderWritten
-writtenBy answer size = cond (eqb answer 0) (Done size) (Refused answer)
+unfoldable pub answerBy : ℕ → ℕ → Answer
+answerBy answer size = cond (eqb answer 0) (Done size) (Refused answer)
 
-unfoldable pub written : Header → ℕ → HeaderWritten
-written h n = writtenBy (writeAnswer h n) (headerLength h)
+unfoldable pub written : Header → ℕ → Answer
+written h n = answerBy (writeAnswer h n) (headerLength h)
 
 -- and back: the number of an answer
-unfoldable pub writeNumber : HeaderWritten → ℕ
-writeNumber (Done size) = 0
-writeNumber (Refused answer) = answer
+unfoldable pub answerNumber : Answer → ℕ
+answerNumber (Done size) = 0
+answerNumber (Refused answer) = answer
 
 -- the output: the header's bytes and what stood behind them, or, refused, as it was
 unfoldable pub writtenOut : Header → List ℕ → List ℕ

@@ -65,9 +65,9 @@ pub enum HeaderRead {
     Dropped(u8),
 }
 
-// What writing did: the number of bytes written, or the refusal: 39 where there is no such header,
-// 35 where the output is too short for it.
-pub enum HeaderWritten {
+// What a call answers that writes or counts: how many bytes or packets, or the number of its refusal.
+// A header is refused with 39 where there is no such header, 35 where the output is too short for it.
+pub enum Answer {
     Done(usize),
     Refused(u8),
 }

@@ -5,10 +5,10 @@ use crate::print::decimal_line;
 use crate::print::size;
 use crate::print::text;
 use crate::words;
+use header::Answer;
 use header::Extension;
 use header::Header;
 use header::HeaderRead;
-use header::HeaderWritten;
 ghost use mathlib.Core.Path.{_≡_};
 ghost use mathlib.Core.Bool.{true};
 ghost use lib.ListN.{take};
@@ -74,8 +74,8 @@ fn write_back(h: Header, headers: usize, p: &[u8]) {
     text(b"  written back  ");
     let mut out = [0u8; 40];
     match encode::write(h, &mut out) {
-        HeaderWritten::Done(n) => list_written(&out, n, headers, p),
-        HeaderWritten::Refused(code) => {
+        Answer::Done(n) => list_written(&out, n, headers, p),
+        Answer::Refused(code) => {
             decimal_line(b"refused ", code as u64);
         }
     }

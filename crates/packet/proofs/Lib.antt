@@ -1,0 +1,4 @@
+pub mod Pads
+pub mod Passes
+pub mod Bytes
+pub mod ReadBack

@@ -1,0 +1,42 @@
+-- What a packet's numbers tell when no refusal applies, and back.
+use Prim.Native.Nat.{ℕ, _+_, _≤_}
+use mathlib.Core.Path.{_≡_, refl}
+use mathlib.Core.Bool.{Bool, true, false, cond, not}
+use native.Mathlib.Omega.{arith}
+use lib.Dec.{ltb, eqb}
+use borrow.Author.Tests.{le-ltb, ltb-false, eq-eqb, eqb-true}
+use Rattle.packet.specs.Packet.{padOf, refusalBy}
+
+pub record Passed (unfit : Bool) (padcnt headers n m : ℕ) : Type 0 where
+  pub good : unfit ≡ false
+  pub pad : padcnt ≡ padOf n
+  pub short : headers + (n + padOf n) ≤ 4128
+  pub room : headers + (n + padOf n) ≤ m
+
+pub passed : (u : Bool) (p h n m : ℕ) → refusalBy u p h n m ≡ 0 → Passed u p h n m
+unfolding refusalBy
+passed u p h n m e = go u (eqb p (padOf n)) (ltb 4128 (h + (n + padOf n))) (ltb m (h + (n + padOf n))) refl refl refl refl e
+  where
+    go : (a b c d : Bool) → u ≡ a → eqb p (padOf n) ≡ b → ltb 4128 (h + (n + padOf n)) ≡ c → ltb m (h + (n + padOf n)) ≡ d
+        → _≡_ {A = ℕ} (cond a 39 (cond (not b) 39 (cond c 34 (cond d 35 0)))) 0 → Passed u p h n m
+    go true b c d x y z w q = absurd (omega arith)
+    go false false c d x y z w q = absurd (omega arith)
+    go false true true d x y z w q = absurd (omega arith)
+    go false true false true x y z w q = absurd (omega arith)
+    go false true false false x y z w q =
+        record {
+          good = x;
+          pad = eqb-true p (padOf n) y;
+          short = ltb-false 4128 (h + (n + padOf n)) z;
+          room = ltb-false m (h + (n + padOf n)) w;
+        }
+
+pub passes : (u : Bool) (p h n m : ℕ) → Passed u p h n m → refusalBy u p h n m ≡ 0
+unfolding refusalBy
+passes u p h n m P =
+    rw (
+      P .good,
+      eq-eqb p (padOf n) (P .pad),
+      le-ltb 4128 (h + (n + padOf n)) (P .short),
+      le-ltb m (h + (n + padOf n)) (P .room),
+    )

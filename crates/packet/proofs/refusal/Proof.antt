@@ -1,0 +1,63 @@
+use Prim.Native.Nat.{_+_}
+use native.Mathlib.Omega.{arith}
+use borrow.Author.Tests.{eq-eqb, le-leb, le-ltb, lt-leb, lt-ltb, ne-eqb}
+use Rattle.packet.specs.Packet.{refusalBy}
+use borrow.Author.Needs.{needs}
+use Rattle.packet.proofs.refusal.Statement.{statement}
+use Rattle.packet.proofs.refusal.Tie as tie
+
+returns : tie.Need-returns
+unfolding refusalBy
+returns c = simp (c .if1 .taken)
+
+pad-requires : tie.Need-pad-requires
+pad-requires c κs = search needs
+
+returns-2 : tie.Need-returns-2
+unfolding refusalBy
+returns-2 c = simp (c .before .before .if1 .left, ← c .before .pad .ensures, ne-eqb _ _ (c .if2 .taken))
+
+returns-3 : tie.Need-returns-3
+unfolding refusalBy
+returns-3 c = simp (c .before .before .before .if1 .left, ← c .before .before .pad .ensures, eq-eqb _ _ (c .before .if2 .left), lt-ltb 4128 (c .before .before .before .before .args .headers + (c .before .before .before .before .args .n + c .before .before .pad .result)) (omega arith))
+
+returns-4 : tie.Need-returns-4
+unfolding refusalBy
+returns-4 c = simp (c .before .before .before .before .if1 .left, ← c .before .before .before .pad .ensures, eq-eqb _ _ (c .before .before .if2 .left), lt-ltb 4128 (c .before .before .before .before .before .args .headers + (c .before .before .before .before .before .args .n + c .before .before .before .pad .result)) (omega arith))
+
+cast-size : tie.Need-cast-size
+cast-size c = search needs
+
+add-size : tie.Need-add-size
+add-size c = search needs
+
+add-size-2 : tie.Need-add-size-2
+add-size-2 c = search needs
+
+returns-5 : tie.Need-returns-5
+unfolding refusalBy
+returns-5 c = simp (c .before .before .before .before .before .if1 .left, ← c .before .before .before .before .pad .ensures, eq-eqb _ _ (c .before .before .before .if2 .left), le-ltb _ _ (c .before .before .if3 .left), le-leb _ _ (c .before .before .if3 .left), le-ltb _ _ (c .before .if4 .left), le-leb _ _ (c .before .if4 .left), lt-leb _ _ (c .if5 .taken), lt-ltb _ _ (c .if5 .taken))
+
+returns-6 : tie.Need-returns-6
+unfolding refusalBy
+returns-6 c = simp (c .before .before .before .before .before .before .if1 .left, ← c .before .before .before .before .before .pad .ensures, eq-eqb _ _ (c .before .before .before .before .if2 .left), le-ltb _ _ (c .before .before .before .if3 .left), le-leb _ _ (c .before .before .before .if3 .left), le-ltb _ _ (c .before .before .if4 .left), le-leb _ _ (c .before .before .if4 .left), le-ltb _ _ (c .before .if5 .left), le-leb _ _ (c .before .if5 .left), lt-leb _ _ (c .if6 .taken), lt-ltb _ _ (c .if6 .taken))
+
+returns-7 : tie.Need-returns-7
+unfolding refusalBy
+returns-7 c = simp (c .before .before .before .before .before .before .if1 .left, ← c .before .before .before .before .before .pad .ensures, eq-eqb _ _ (c .before .before .before .before .if2 .left), le-ltb _ _ (c .before .before .before .if3 .left), le-leb _ _ (c .before .before .before .if3 .left), le-ltb _ _ (c .before .before .if4 .left), le-leb _ _ (c .before .before .if4 .left), le-ltb _ _ (c .before .if5 .left), le-leb _ _ (c .before .if5 .left), le-ltb _ _ (c .if6 .left), le-leb _ _ (c .if6 .left))
+
+pub refusal-spec : {M : Type 1} → statement M
+refusal-spec =
+    tie.close
+    (tie.spec
+    returns
+    pad-requires
+    returns-2
+    returns-3
+    returns-4
+    cast-size
+    add-size
+    add-size-2
+    returns-5
+    returns-6
+    returns-7)

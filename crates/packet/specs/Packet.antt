@@ -1,0 +1,47 @@
+-- A packet: the headers, the payload, and the pad, which ends it.
+use Prim.Native.Nat.{ℕ, _+_, _-_, _%_}
+use mathlib.Core.Bool.{Bool, cond, not}
+use mathlib.Core.List.{List, _++_}
+use lib.Dec.{ltb, eqb}
+use lib.ListN.{length, take, drop, replicate}
+use Rattle.header.specs.Read.{headerOf}
+use Rattle.header.specs.Write.{headerBytes, headerFits, headerLength, answerBy}
+use Rattle.header.specs.declared.Header.{Header}
+use Rattle.header.specs.declared.Answer.{Answer}
+
+-- the pad of n bytes: the least count that makes them a multiple of 4
+unfoldable pub padOf : ℕ → ℕ
+padOf n = (4 - n % 4) % 4
+
+-- the bytes of a packet; pad bytes are zero
+unfoldable pub packetBytes : Header → List ℕ → List ℕ
+packetBytes h d = headerBytes h ++ (d ++ replicate (padOf (length d)) 0)
+
+unfoldable pub packetLength : Header → ℕ → ℕ
+packetLength h n = headerLength h + (n + padOf n)
+
+-- The refusal, or 0. 39: no such header, or a PadCnt that is not the pad of the n bytes; 34: over the longest packet,
+-- 4,128 bytes; 35: output too short
+unfoldable pub refusalBy : Bool → ℕ → ℕ → ℕ → ℕ → ℕ
+refusalBy unfit padcnt headers n room =
+    cond unfit 39
+    (cond (not (eqb padcnt (padOf n))) 39
+    (cond (ltb 4128 (headers + (n + padOf n))) 34
+    (cond (ltb room (headers + (n + padOf n))) 35 0)))
+
+unfoldable pub packetAnswer : Header → ℕ → ℕ → ℕ
+packetAnswer h n room = refusalBy (not (headerFits h)) (h .bth .pad) (headerLength h) n room
+
+-- the answer: with 0 the bytes written
+unfoldable pub packetWritten : Header → ℕ → ℕ → Answer
+packetWritten h n room = answerBy (packetAnswer h n room) (packetLength h n)
+
+-- the output: the packet and what stood behind it, or, refused, as it was
+unfoldable pub packetOut : Header → List ℕ → List ℕ → List ℕ
+packetOut h d out =
+    cond (eqb (packetAnswer h (length d) (length out)) 0) (packetBytes h d ++ drop (packetLength h (length d)) out) out
+
+-- what a packet carries: the bytes after its headers, without the pad
+unfoldable pub payloadOf : List ℕ → List ℕ
+payloadOf p =
+    take (length p - headerLength (headerOf p) - headerOf p .bth .pad) (drop (headerLength (headerOf p)) p)

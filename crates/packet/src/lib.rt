@@ -1,0 +1,71 @@
+// Packets: a header, a payload and its pad, written in one pass into a lent output.
+use header::Answer;
+use header::Header;
+ghost use mathlib.Core.Path.{_≡_};
+ghost use Prim.Native.Nat.{_≤_};
+ghost use lib.ListN.{length, replicate};
+ghost use Rattle.memory.specs.Memory.{placed};
+ghost use Rattle.packet.specs.Packet.{padOf, refusalBy, packetWritten, packetOut};
+
+// How many pad bytes stand behind a payload of n bytes.
+pub fn pad(n: usize) -> u8
+    ensures { λ r. ⌜ r ≡ padOf n ⌝ }
+{
+    ((4 - n % 4) % 4) as u8
+}
+
+// Which refusal a packet gets, by its numbers, or 0. Each test comes before the sum that it keeps small.
+fn refusal(unfit: bool, padcnt: u8, headers: usize, n: usize, room: usize) -> u8
+    ensures { λ r. ⌜ r ≡ refusalBy unfit padcnt headers n room ⌝ }
+{
+    if unfit {
+        return 39;
+    }
+    let own = pad(n);
+    if padcnt != own {
+        return 39;
+    }
+    if 4128 < headers {
+        return 34;
+    }
+    if 4128 < n {
+        return 34;
+    }
+    let size = headers + (n + own as usize);
+    if 4128 < size {
+        return 34;
+    }
+    if room < size {
+        return 35;
+    }
+    0
+}
+
+// Zero bytes behind the payload.
+fn place_pad(out: &mut [u8], at: usize, padcnt: u8)
+    requires { ⌜ padcnt ≤ 3 ⌝ }
+    ensures { λ _. ⌜ now (out .exit) ≡ placed (now (out .entry)) at (replicate padcnt 0) ⌝ }
+{
+    let zeros = [0u8; 3];
+    let n = padcnt as usize;
+    memory::place(out, at, &zeros[0..n]);
+}
+
+// Writes the packet of a header and a payload at the start of the output.
+pub fn write(h: Header, payload: &[u8], out: &mut [u8]) -> Answer
+    ensures { λ r. ⌜ r ≡ packetWritten h (length (now (payload .entry))) (length (now (out .entry))) ⌝ }
+    ensures { λ r. ⌜ now (out .exit) ≡ packetOut h (now (payload .entry)) (now (out .entry)) ⌝ }
+{
+    let none = encode::unfit(h);
+    let bth = h.bth;
+    let class = opcode::class(bth.opcode);
+    let code = refusal(none, bth.pad, class.length, payload.len(), out.len());
+    if code != 0 {
+        return Answer::Refused(code);
+    }
+    encode::write(h, out);
+    memory::place(out, class.length, payload);
+    let at = class.length + payload.len();
+    place_pad(out, at, bth.pad);
+    Answer::Done(at + bth.pad as usize)
+}
