@@ -1,0 +1,3 @@
+pub mod Counting
+pub mod Cuts
+pub mod Leaves

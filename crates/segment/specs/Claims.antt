@@ -1,0 +1,1 @@
+-- What is proved of cut messages, each statement by a name; the proofs stand in proofs/.

@@ -1,0 +1,141 @@
+-- Packet i of a message.
+use Prim.Native.Nat.{ℕ, _+_, _-_, _*_}
+use mathlib.Core.Bool.{Bool, false, cond, not, _&&_, _||_}
+use mathlib.Core.List.{List}
+use lib.Dec.{leb, ltb, eqb}
+use lib.ListN.{length}
+use Rattle.sequence.specs.Sequence.{space, psnAfter}
+use Rattle.sequence.specs.declared.Psn.{Psn}
+use Rattle.header.specs.Read.{otherService}
+use Rattle.header.specs.declared.Bth.{Bth}
+use Rattle.header.specs.declared.Reth.{Reth}
+use Rattle.header.specs.declared.AtomicEth.{AtomicEth}
+use Rattle.header.specs.declared.Extension.{Extension}
+use Rattle.header.specs.declared.Extension.the-variants.{Bare, Remote, RemoteImmediate, Immediate, Atomic}
+use Rattle.header.specs.declared.Header.{Header}
+use Rattle.header.specs.declared.Answer.{Answer}
+use Rattle.header.specs.declared.Answer.the-variants.{Refused}
+use Rattle.packet.specs.Packet.{padOf, packetBytes, packetWritten, packetOut}
+use Rattle.pieces.specs.Pieces.{pmtuFits, placeAt, pieceAt, partAt}
+use Rattle.segment.specs.Message.{carries, carried, carriedLength, messageLength, messageLimit, packetsOf}
+use Rattle.segment.specs.declared.Connection.{Connection}
+use Rattle.segment.specs.declared.Target.{Target}
+use Rattle.segment.specs.declared.Request.{Request}
+use Rattle.segment.specs.declared.Request.the-variants.{Send, SendImmediate, Write, WriteImmediate, Read, CmpSwap, FetchAdd}
+
+-- First, 0, and Middle, 1, are followed by more; Last, 2, and Only, 4, end the message
+unfoldable pub ends : ℕ → Bool
+ends place = leb 2 place
+
+-- First and Only begin it
+unfoldable pub starts : ℕ → Bool
+starts place = eqb place 0 || eqb place 4
+
+-- an Imm form is one more than the form without
+unfoldable pub withImmediate : ℕ → ℕ
+withImmediate place = cond (ends place) (place + 1) place
+
+-- the opcode's low five bits: SEND from 0 on, WRITE from 6, READ request 12, CmpSwap 19, FetchAdd 20
+unfoldable pub lowFor : Request → ℕ → ℕ
+lowFor Send place = place
+lowFor (SendImmediate v) place = withImmediate place
+lowFor (Write t) place = 6 + place
+lowFor (WriteImmediate t v) place = 6 + withImmediate place
+lowFor (Read a) place = 12
+lowFor (CmpSwap a) place = 19
+lowFor (FetchAdd t v) place = 20
+
+-- a WRITE's RETH, on the packet that begins it, has the length of the message; an Immediate stands, last, on the packet
+-- that ends it
+unfoldable pub sendExtension : ℕ → ℕ → Extension
+sendExtension v place = cond (ends place) (Immediate v) Bare
+
+unfoldable pub rethFor : Target → ℕ → Reth
+rethFor t n = record { address = t .address; key = t .key; length = n }
+
+unfoldable pub writeExtension : Reth → ℕ → Extension
+writeExtension a place = cond (starts place) (Remote a) Bare
+
+unfoldable pub writeEnd : Reth → ℕ → Bool → Extension
+writeEnd a v begins = cond begins (RemoteImmediate a v) (Immediate v)
+
+unfoldable pub writeImmediateExtension : Reth → ℕ → ℕ → Extension
+writeImmediateExtension a v place = cond (ends place) (writeEnd a v (starts place)) (writeExtension a place)
+
+-- a FetchAdd has one operand: its compare field is sent as 0
+unfoldable pub fetchAddEth : Target → ℕ → AtomicEth
+fetchAddEth t v = record { address = t .address; key = t .key; swap = v; compare = 0 }
+
+unfoldable pub extensionFor : Request → ℕ → ℕ → Extension
+extensionFor Send n place = Bare
+extensionFor (SendImmediate v) n place = sendExtension v place
+extensionFor (Write t) n place = writeExtension (rethFor t n) place
+extensionFor (WriteImmediate t v) n place = writeImmediateExtension (rethFor t n) v place
+extensionFor (Read a) n place = Remote a
+extensionFor (CmpSwap a) n place = Atomic a
+extensionFor (FetchAdd t v) n place = Atomic (fetchAddEth t v)
+
+-- the BTH of packet i of count, which carries size bytes: AckReq on the last packet only; SE, MigReq, TVer and reserved
+-- bits 0; PSNs one after the other from the first
+unfoldable pub bthAt : Connection → ℕ → Psn → ℕ → ℕ → ℕ → Bth
+bthAt c low first i count size =
+    record {
+      opcode = c .service * 32 + low;
+      se = false;
+      migreq = false;
+      pad = padOf size;
+      tver = 0;
+      pkey = c .pkey;
+      reserved8 = 0;
+      dest = c .dest;
+      ackreq = eqb (i + 1) count;
+      reserved7 = 0;
+      psn = psnAfter first i;
+    }
+
+-- how many bytes packet i carries
+unfoldable pub sizeAt : Request → ℕ → ℕ → ℕ → ℕ
+sizeAt r n pmtu i =
+    partAt (carriedLength r n) pmtu i .end - partAt (carriedLength r n) pmtu i .start
+
+-- the headers of packet i of a message of n lent bytes
+unfoldable pub headerAt : Connection → Request → ℕ → Psn → ℕ → Header
+headerAt c r n first i =
+    record {
+      bth = bthAt c (lowFor r (placeAt (packetsOf r n (c .pmtu)) i)) first i (packetsOf r n (c .pmtu)) (sizeAt r n (c .pmtu) i);
+      extension = extensionFor r (messageLength r n) (placeAt (packetsOf r n (c .pmtu)) i);
+    }
+
+-- the bytes it carries: those of the message d from its own place on
+unfoldable pub payloadAt : Connection → Request → List ℕ → ℕ → List ℕ
+payloadAt c r d i = pieceAt (carried r d) (c .pmtu) i
+
+-- packet i of the message d
+unfoldable pub cutBytes : Connection → Request → List ℕ → Psn → ℕ → List ℕ
+cutBytes c r d first i = packetBytes (headerAt c r (length d) first i) (payloadAt c r d i)
+
+-- The refusal of a cut, or 0. 39: no such PMTU, a service that is neither RC nor UC, a number over 24 bits, a READ or
+-- atomic on UC; 34: a message over the limit, or no packet i in it. What is left, 35, is the packet writer's
+unfoldable pub numbersUnfit : Connection → Bool → ℕ → Bool
+numbersUnfit c own psn =
+    not (pmtuFits (c .pmtu))
+    || (otherService (c .service) || (leb space (c .dest) || (leb space psn || (not own && eqb (c .service) 1))))
+
+unfoldable pub cutRefusal : Connection → Request → ℕ → ℕ → ℕ → ℕ
+cutRefusal c r n psn i =
+    cond (numbersUnfit c (carries r) psn) 39
+    (cond (ltb messageLimit (messageLength r n)) 34
+    (cond (leb (packetsOf r n (c .pmtu)) i) 34 0))
+
+-- the answer, and the output: packet i as the packet writer answers and leaves it, or, refused, as it was
+unfoldable pub cutWritten : Connection → Request → List ℕ → Psn → ℕ → ℕ → Answer
+cutWritten c r d first i room =
+    cond (eqb (cutRefusal c r (length d) (first .0) i) 0)
+    (packetWritten (headerAt c r (length d) first i) (length (payloadAt c r d i)) room)
+    (Refused (cutRefusal c r (length d) (first .0) i))
+
+unfoldable pub cutOut : Connection → Request → List ℕ → Psn → ℕ → List ℕ → List ℕ
+cutOut c r d first i out =
+    cond (eqb (cutRefusal c r (length d) (first .0) i) 0)
+    (packetOut (headerAt c r (length d) first i) (payloadAt c r d i) out)
+    out

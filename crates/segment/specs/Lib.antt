@@ -1,0 +1,4 @@
+pub mod Message
+pub mod Next
+pub mod Cut
+pub mod Claims

@@ -1,0 +1,229 @@
+// Messages cut into packets: one call writes one packet, straight from the lent message.
+mod shape;
+
+use header::Answer;
+use header::AtomicEth;
+use header::Header;
+use header::Reth;
+use sequence::Psn;
+ghost use mathlib.Core.Path.{_≡_};
+ghost use lib.ListN.{length};
+ghost use Rattle.segment.specs.Message.{carries, carriedLength, messageLength, lengthRefusal, packetsAnswer, responsesAnswer};
+ghost use Rattle.segment.specs.Next.{nextAnswer};
+ghost use Rattle.segment.specs.Cut.{numbersUnfit, cutRefusal, headerAt, cutWritten, cutOut};
+
+// What the packets of a connection have in common.
+pub struct Connection {
+    pub service: u8,
+    pub pmtu: usize,
+    pub pkey: u16,
+    pub dest: u32,
+}
+
+// Memory of the other side that a request names.
+pub struct Target {
+    pub address: u64,
+    pub key: u32,
+}
+
+// What a message asks for. SENDs and WRITEs, and they alone, have bytes, which are lent beside this, and
+// may have an immediate.
+pub enum Request {
+    Send,
+    SendImmediate(u32),
+    Write(Target),
+    WriteImmediate(Target, u32),
+    Read(Reth),
+    CmpSwap(AtomicEth),
+    FetchAdd(Target, u64),
+}
+
+// The PSN of the message after this one, or the number of the refusal.
+pub enum Following {
+    Next(Psn),
+    Refused(u8),
+}
+
+// Whether the packets carry the message's bytes.
+fn carries(request: Request) -> bool
+    ensures { λ r. ⌜ r ≡ carries request ⌝ }
+{
+    match request {
+        Request::Send => true,
+        Request::SendImmediate(_) => true,
+        Request::Write(_) => true,
+        Request::WriteImmediate(_, _) => true,
+        Request::Read(_) => false,
+        Request::CmpSwap(_) => false,
+        Request::FetchAdd(_, _) => false,
+    }
+}
+
+// How many of n lent bytes the packets carry.
+fn carried_length(request: Request, n: usize) -> usize
+    ensures { λ r. ⌜ r ≡ carriedLength request n ⌝ }
+{
+    let own = carries(request);
+    if own {
+        return n;
+    }
+    0
+}
+
+// The length of the message whose bytes are n, if it has bytes.
+fn message_length(request: Request, n: usize) -> usize
+    ensures { λ r. ⌜ r ≡ messageLength request n ⌝ }
+{
+    match request {
+        Request::Send => n,
+        Request::SendImmediate(_) => n,
+        Request::Write(_) => n,
+        Request::WriteImmediate(_, _) => n,
+        Request::Read(a) => a.length as usize,
+        Request::CmpSwap(_) => 0,
+        Request::FetchAdd(_, _) => 0,
+    }
+}
+
+// Which refusal a length gets at a PMTU, or 0.
+fn length_refusal(n: usize, pmtu: usize) -> u8
+    ensures { λ r. ⌜ r ≡ lengthRefusal n pmtu ⌝ }
+{
+    let unfit = pieces::pmtu_unfit(pmtu);
+    if unfit {
+        return 39;
+    }
+    if 1048576 < n {
+        return 34;
+    }
+    0
+}
+
+// How many packets a message has; n is the length of its bytes, if it has bytes.
+pub fn packets(request: Request, n: usize, pmtu: usize) -> Answer
+    ensures { λ r. ⌜ r ≡ packetsAnswer request n pmtu ⌝ }
+{
+    let whole = message_length(request, n);
+    let code = length_refusal(whole, pmtu);
+    if code != 0 {
+        return Answer::Refused(code);
+    }
+    let own = carried_length(request, n);
+    let count = pieces::count(own, pmtu);
+    Answer::Done(count)
+}
+
+// How many responses a READ of n bytes has.
+pub fn responses(n: usize, pmtu: usize) -> Answer
+    ensures { λ r. ⌜ r ≡ responsesAnswer n pmtu ⌝ }
+{
+    let code = length_refusal(n, pmtu);
+    if code != 0 {
+        return Answer::Refused(code);
+    }
+    let count = pieces::count(n, pmtu);
+    Answer::Done(count)
+}
+
+// The PSN of the message after this one, whose first packet has the PSN first.
+pub fn next_psn(request: Request, n: usize, pmtu: usize, first: Psn) -> Following
+    ensures { λ r. ⌜ r ≡ nextAnswer request n pmtu first ⌝ }
+{
+    if Psn::SPACE <= first.0 {
+        return Following::Refused(39);
+    }
+    let whole = message_length(request, n);
+    let code = length_refusal(whole, pmtu);
+    if code != 0 {
+        return Following::Refused(code);
+    }
+    let count = pieces::count(whole, pmtu);
+    let next = first.after(count as u32);
+    Following::Next(next)
+}
+
+// Whether a number is none that a packet can have, or the service has no such request.
+fn numbers_unfit(connection: Connection, own: bool, first: Psn) -> bool
+    ensures { λ r. ⌜ r ≡ numbersUnfit connection own (first .0) ⌝ }
+{
+    let unfit = pieces::pmtu_unfit(connection.pmtu);
+    if unfit {
+        return true;
+    }
+    let other = header::other_service(connection.service);
+    if other {
+        return true;
+    }
+    if Psn::SPACE <= connection.dest {
+        return true;
+    }
+    if Psn::SPACE <= first.0 {
+        return true;
+    }
+    if own {
+        return false;
+    }
+    connection.service == opcode::UC
+}
+
+// Which refusal the cut gets before its output is looked at, or 0.
+fn refusal(connection: Connection, request: Request, n: usize, first: Psn, index: usize) -> u8
+    ensures { λ r. ⌜ r ≡ cutRefusal connection request n (first .0) index ⌝ }
+{
+    let own = carries(request);
+    let unfit = numbers_unfit(connection, own, first);
+    if unfit {
+        return 39;
+    }
+    let whole = message_length(request, n);
+    if 1048576 < whole {
+        return 34;
+    }
+    let carried = carried_length(request, n);
+    let count = pieces::count(carried, connection.pmtu);
+    if count <= index {
+        return 34;
+    }
+    0
+}
+
+// The headers of packet index, of a message that is not refused.
+fn header_at(connection: Connection, request: Request, n: usize, first: Psn, index: usize) -> Header
+    requires { ⌜ cutRefusal connection request n (first .0) index ≡ 0 ⌝ }
+    ensures { λ r. ⌜ r ≡ headerAt connection request n first index ⌝ }
+{
+    let own = carried_length(request, n);
+    let count = pieces::count(own, connection.pmtu);
+    let place = pieces::place(count, index);
+    let span = pieces::part(own, connection.pmtu, index);
+    let low = shape::low_for(request, place);
+    let bth = shape::bth_at(connection, low, first, index, count, span.end - span.start);
+    let whole = message_length(request, n);
+    let extension = shape::extension_for(request, whole as u32, place);
+    Header { bth, extension }
+}
+
+// Writes packet index of the message, whose first packet has the PSN first, at the start of the output.
+// Only SENDs and WRITEs look at message.
+pub fn cut(
+    connection: Connection,
+    request: Request,
+    message: &[u8],
+    first: Psn,
+    index: usize,
+    out: &mut [u8],
+) -> Answer
+    ensures { λ r. ⌜ r ≡ cutWritten connection request (now (message .entry)) first index (length (now (out .entry))) ⌝ }
+    ensures { λ r. ⌜ now (out .exit) ≡ cutOut connection request (now (message .entry)) first index (now (out .entry)) ⌝ }
+{
+    let code = refusal(connection, request, message.len(), first, index);
+    if code != 0 {
+        return Answer::Refused(code);
+    }
+    let h = header_at(connection, request, message.len(), first, index);
+    let own = carried_length(request, message.len());
+    let span = pieces::part(own, connection.pmtu, index);
+    let start = span.start;
+    let end = span.end;
+    packet::write(h, &message[start..end], out)
+}
