@@ -115,10 +115,11 @@ was-written h out n e = go (headerFits h) (ltb (length out) (headerLength h)) re
         record { good = p; size = same-done (headerLength h) n (sym (done h out p room .0) ∙ e); room = room }
 
 -- the number of an answer
+pub number-by : (a n : ℕ) → answerNumber (answerBy a n) ≡ a
+unfolding answerBy answerNumber
+number-by zero n = refl
+number-by (suc a) n = rw (ne-eqb (suc a) 0 (λ z. omega arith))
+
 pub write-numbers : WriteNumbers
-unfolding written answerBy answerNumber
-write-numbers h n = go (writeAnswer h n)
-  where
-    go : (a : ℕ) → answerNumber (cond (eqb a 0) (Done (headerLength h)) (Refused a)) ≡ a
-    go zero = refl
-    go (suc a) = rw (ne-eqb (suc a) 0 (λ z. omega arith))
+unfolding written
+write-numbers h n = number-by (writeAnswer h n) (headerLength h)

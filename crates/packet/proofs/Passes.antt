@@ -1,10 +1,10 @@
 -- What a packet's numbers tell when no refusal applies, and back.
-use Prim.Native.Nat.{ℕ, _+_, _≤_}
+use Prim.Native.Nat.{ℕ, _+_, _≤_, _<_}
 use mathlib.Core.Path.{_≡_, refl}
 use mathlib.Core.Bool.{Bool, true, false, cond, not}
 use native.Mathlib.Omega.{arith}
 use lib.Dec.{ltb, eqb}
-use borrow.Author.Tests.{le-ltb, ltb-false, eq-eqb, eqb-true}
+use borrow.Author.Tests.{lt-ltb, le-ltb, ltb-false, eq-eqb, eqb-true}
 use Rattle.packet.specs.Packet.{padOf, refusalBy}
 
 pub record Passed (unfit : Bool) (padcnt headers n m : ℕ) : Type 0 where
@@ -40,3 +40,9 @@ passes u p h n m P =
       le-ltb 4128 (h + (n + padOf n)) (P .short),
       le-ltb m (h + (n + padOf n)) (P .room),
     )
+
+pub lacks : (u : Bool) (p h n m : ℕ) → u ≡ false → p ≡ padOf n → h + (n + padOf n) ≤ 4128 → m < h + (n + padOf n)
+    → refusalBy u p h n m ≡ 35
+unfolding refusalBy
+lacks u p h n m good pad short few =
+    rw (good, eq-eqb p (padOf n) pad, le-ltb 4128 (h + (n + padOf n)) short, lt-ltb m (h + (n + padOf n)) few)

@@ -1,5 +1,5 @@
 -- A written packet reads as its header and its payload.
-use Prim.Native.Nat.{ℕ, _+_, _-_, _%_, _≤_}
+use Prim.Native.Nat.{ℕ, _+_, _-_, _%_, _≤_, _<_}
 use mathlib.Core.Path.{_≡_, refl, ap, _∙_}
 use mathlib.Core.Bool.{true, not}
 use mathlib.Core.List.{List, _++_}
@@ -17,7 +17,7 @@ use Rattle.header.proofs.Writes.{was-done}
 use Rattle.packet.specs.Packet.{padOf, packetBytes, packetLength, packetAnswer, packetWritten, packetOut, payloadOf}
 use Rattle.packet.specs.Claims.{Found, ReadBack, Writes}
 use Rattle.packet.proofs.Pads.{pad-fills}
-use Rattle.packet.proofs.Passes.{passes}
+use Rattle.packet.proofs.Passes.{passes, lacks}
 use Rattle.packet.proofs.Bytes.{Passing, passing, length-packet, yes}
 
 -- the payload, behind the header that the packet's bytes have
@@ -45,13 +45,19 @@ found h d good pad short =
     let read : readHeader (headerBytes h ++ (d ++ z)) ≡ Accepted h = read-packet h (d ++ z) good words (omega arith) in
     record { header = read; payload = payload-back h d good pad (accepted (packetBytes h d) h read .1) }
 
--- the same facts of a packet, as it is written
-none : (h : Header) (n room : ℕ) → headerFits h ≡ true → h .bth .pad ≡ padOf n → packetLength h n ≤ 4128
+-- such a packet is written, or refused for want of room
+pub none : (h : Header) (n room : ℕ) → headerFits h ≡ true → h .bth .pad ≡ padOf n → packetLength h n ≤ 4128
     → packetLength h n ≤ room → packetAnswer h n room ≡ 0
 unfolding packetAnswer packetLength
 none h n room good pad short enough =
     passes (not (headerFits h)) (h .bth .pad) (headerLength h) n room
     (record { good = ap not good; pad = pad; short = short; room = enough })
+
+pub lacking : (h : Header) (n room : ℕ) → headerFits h ≡ true → h .bth .pad ≡ padOf n → packetLength h n ≤ 4128
+    → room < packetLength h n → packetAnswer h n room ≡ 35
+unfolding packetAnswer packetLength
+lacking h n room good pad short few =
+    lacks (not (headerFits h)) (h .bth .pad) (headerLength h) n room (ap not good) pad short few
 
 pub writes : Writes
 writes h d out good pad short room =

@@ -2,12 +2,13 @@
 use Prim.Native.Nat.{ℕ, zero, suc, _+_, _*_, _/_, _%_, _≤_, _<_}
 use mathlib.Core.Path.{_≡_, refl, sym, subst}
 use mathlib.Core.Bool.{Bool, true, false, cond, _||_}
+use mathlib.Core.Logic.{inl, inr}
 use native.Mathlib.Omega.{arith}
 use native.Mathlib.Nat.{mod-add-div', mod-lt, mul-le-mul-right, le-of-mul-le-mul-right}
 use lib.Dec.{ltb, eqb}
 use borrow.Author.Tests.{ltb-true, ltb-false, eqb-true, eqb-false}
 use Rattle.pieces.specs.Pieces.{pmtuFits, pieces}
-use Rattle.pieces.specs.Claims.{Counted, Counts, PmtuBounds}
+use Rattle.pieces.specs.Claims.{Counted, Counts, IsPmtu, Pmtus}
 
 -- fewer multiples of p make less
 less : (p q k : ℕ) → q * p < k * p → q < k
@@ -59,14 +60,36 @@ begins-inside n p count zero C h g = absurd (omega arith)
 begins-inside n p count (suc i) C h g = omega (arith, more n p count i C h)
 
 -- the PMTUs
-pub pmtu-bounds : PmtuBounds
+is-pmtu : (p : ℕ) → pmtuFits p ≡ true → IsPmtu p
 unfolding pmtuFits
-pmtu-bounds p h = go (eqb p 256) (eqb p 512) (eqb p 1024) (eqb p 2048) refl refl refl refl h
+is-pmtu p h = go (eqb p 256) (eqb p 512) (eqb p 1024) (eqb p 2048) refl refl refl refl h
   where
     go : (a b c d : Bool) → eqb p 256 ≡ a → eqb p 512 ≡ b → eqb p 1024 ≡ c → eqb p 2048 ≡ d
-        → (a || (b || (c || (d || eqb p 4096)))) ≡ true → (256 ≤ p) × (p ≤ 4096)
-    go true b c d x y z w q = (omega (arith, eqb-true p 256 x), omega (arith, eqb-true p 256 x))
-    go false true c d x y z w q = (omega (arith, eqb-true p 512 y), omega (arith, eqb-true p 512 y))
-    go false false true d x y z w q = (omega (arith, eqb-true p 1024 z), omega (arith, eqb-true p 1024 z))
-    go false false false true x y z w q = (omega (arith, eqb-true p 2048 w), omega (arith, eqb-true p 2048 w))
-    go false false false false x y z w q = (omega (arith, eqb-true p 4096 q), omega (arith, eqb-true p 4096 q))
+        → (a || (b || (c || (d || eqb p 4096)))) ≡ true → IsPmtu p
+    go true b c d x y z w q = inl (eqb-true p 256 x)
+    go false true c d x y z w q = inr (inl (eqb-true p 512 y))
+    go false false true d x y z w q = inr (inr (inl (eqb-true p 1024 z)))
+    go false false false true x y z w q = inr (inr (inr (inl (eqb-true p 2048 w))))
+    go false false false false x y z w q = inr (inr (inr (inr (eqb-true p 4096 q))))
+
+fits-pmtu : (p : ℕ) → IsPmtu p → pmtuFits p ≡ true
+unfolding pmtuFits
+fits-pmtu p (inl e) = rw e
+fits-pmtu p (inr (inl e)) = rw e
+fits-pmtu p (inr (inr (inl e))) = rw e
+fits-pmtu p (inr (inr (inr (inl e)))) = rw e
+fits-pmtu p (inr (inr (inr (inr e)))) = rw e
+
+pub pmtus : Pmtus
+pmtus p = (is-pmtu p, fits-pmtu p)
+
+-- the smallest and the largest
+bounds : (p : ℕ) → IsPmtu p → (256 ≤ p) × (p ≤ 4096)
+bounds p (inl e) = (omega arith, omega arith)
+bounds p (inr (inl e)) = (omega arith, omega arith)
+bounds p (inr (inr (inl e))) = (omega arith, omega arith)
+bounds p (inr (inr (inr (inl e)))) = (omega arith, omega arith)
+bounds p (inr (inr (inr (inr e)))) = (omega arith, omega arith)
+
+pub pmtu-bounds : (p : ℕ) → pmtuFits p ≡ true → (256 ≤ p) × (p ≤ 4096)
+pmtu-bounds p h = bounds p (is-pmtu p h)

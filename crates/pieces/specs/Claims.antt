@@ -3,6 +3,7 @@ use Prim.Native.Nat.{ℕ, suc, _+_, _-_, _*_, _≤_, _<_}
 use mathlib.Core.Path.{_≡_}
 use mathlib.Core.Bool.{true}
 use mathlib.Core.List.{List}
+use mathlib.Core.Logic.{_⊎_}
 use lib.ListN.{length, take, drop}
 use Rattle.pieces.specs.Pieces.{pmtuFits, pieces, placeAt, pieceAt, partAt, joined}
 
@@ -50,6 +51,9 @@ pub record Placed (count : ℕ) : Type 0 where
 abbrev pub Places : Type 0
 Places = (count : ℕ) → Placed count
 
--- The smallest and the largest PMTU; all are words.
-abbrev pub PmtuBounds : Type 0
-PmtuBounds = (pmtu : ℕ) → pmtuFits pmtu ≡ true → (256 ≤ pmtu) × (pmtu ≤ 4096)
+-- There are five PMTUs.
+abbrev pub IsPmtu : ℕ → Type 0
+IsPmtu pmtu = (pmtu ≡ 256) ⊎ ((pmtu ≡ 512) ⊎ ((pmtu ≡ 1024) ⊎ ((pmtu ≡ 2048) ⊎ (pmtu ≡ 4096))))
+
+abbrev pub Pmtus : Type 0
+Pmtus = (pmtu : ℕ) → (pmtuFits pmtu ≡ true → IsPmtu pmtu) × (IsPmtu pmtu → pmtuFits pmtu ≡ true)

@@ -12,6 +12,9 @@ ghost use Rattle.segment.specs.Message.{carries, carriedLength, messageL
 ghost use Rattle.segment.specs.Next.{nextAnswer};
 ghost use Rattle.segment.specs.Cut.{numbersUnfit, cutRefusal, headerAt, cutWritten, cutOut};
 
+// The longest message.
+pub const MESSAGE_LIMIT: usize = 1048576;
+
 // What the packets of a connection have in common.
 pub struct Connection {
     pub service: u8,
@@ -93,7 +96,7 @@ fn length_refusal(n: usize, pmtu: usize) -> u8
     if unfit {
         return 39;
     }
-    if 1048576 < n {
+    if MESSAGE_LIMIT < n {
         return 34;
     }
     0
@@ -176,7 +179,7 @@ fn refusal(connection: Connection, request: Request, n: usize, first: Psn, index
         return 39;
     }
     let whole = message_length(request, n);
-    if 1048576 < whole {
+    if MESSAGE_LIMIT < whole {
         return 34;
     }
     let carried = carried_length(request, n);

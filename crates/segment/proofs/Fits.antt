@@ -1,0 +1,201 @@
+-- The header of a cut packet fits, and so does the packet.
+use Prim.Native.Nat.{ℕ, _+_, _-_, _*_, _≤_, _<_, min}
+use mathlib.Core.Path.{_≡_, refl, sym, ap, _∙_}
+use mathlib.Core.Bool.{Bool, true, false, not, _&&_, true≢false}
+use mathlib.Core.List.{List, []}
+use mathlib.Core.Logic.{_⊎_, inl, inr}
+use native.Mathlib.Omega.{arith}
+use lib.Dec.{eqb}
+use lib.ListN.{length, take, drop, length-take, length-drop}
+use borrow.Author.Tests.{ne-eqb, eqb-true, eqb-false, le-ltb}
+use Rattle.sequence.specs.declared.Psn.{Psn}
+use Rattle.sequence.proofs.Circle.{after-below}
+use Rattle.opcode.specs.Opcode.{lowClass, classOf}
+use Rattle.header.specs.Read.{otherService}
+use Rattle.header.specs.Write.{followsBy, extensionBytes, headerFits, headerLength}
+use Rattle.header.specs.Claims.{BthWidths}
+use Rattle.header.proofs.Lengths.{length-is, length-most}
+use Rattle.header.proofs.Widths.{bth-fits, extension-fits}
+use Rattle.header.proofs.Writes.{both-fit}
+use Rattle.packet.specs.Packet.{padOf, packetLength}
+use Rattle.packet.proofs.Pads.{pad-small}
+use Rattle.pieces.specs.Pieces.{placeAt, pieceAt, partAt}
+use Rattle.pieces.proofs.Counting.{pmtus, pmtu-bounds}
+use Rattle.pieces.proofs.Cuts.{at-most}
+use Rattle.segment.specs.Message.{carries, carried, carriedLength, messageLength, packetsOf}
+use Rattle.segment.specs.Cut.{lowFor, bthAt, sizeAt, headerAt, payloadAt, cutRefusal}
+use Rattle.segment.specs.Claims.{Carrier, Cuttable, Sound}
+use Rattle.segment.specs.declared.Connection.{Connection}
+use Rattle.segment.specs.declared.Request.{Request}
+use Rattle.segment.proofs.Bounds.{passed, passes, place-bound, low-bound, service-small}
+use Rattle.segment.proofs.Steps.{part-carried, span-inside}
+use Rattle.segment.proofs.Shapes.{shape, carrier, widths, cut-one, carries-carrier, carrier-carries, class-is}
+
+-- a request carries bytes, or it does not
+decide : (r : Request) → Carrier r ⊎ (Carrier r → ⊥)
+decide r = go (carries r) refl
+  where
+    go : (b : Bool) → carries r ≡ b → Carrier r ⊎ (Carrier r → ⊥)
+    go true e = inl (carries-carrier r e)
+    go false e = inr (λ h. true≢false (sym (carrier-carries r h) ∙ e))
+
+-- what can be cut is not refused, and what is not refused can be cut
+served : (own : Bool) (s : ℕ) (r : Request) → carries r ≡ own → (s ≡ 0) ⊎ ((s ≡ 1) × Carrier r) → (not own && eqb s 1) ≡ false
+served true s r e h = refl
+served false s r e (inl z) = ne-eqb s 1 (λ q. omega arith)
+served false s r e (inr z) = absurd (true≢false (sym (carrier-carries r (z .1)) ∙ e))
+
+known : (s : ℕ) (r : Request) → (s ≡ 0) ⊎ ((s ≡ 1) × Carrier r) → otherService s ≡ false
+unfolding otherService
+known s r (inl z) = le-ltb 1 s (omega arith)
+known s r (inr z) = le-ltb 1 s (omega (arith, z .0))
+
+pub not-refused : (c : Connection) (r : Request) (n psn i : ℕ) → Cuttable c r n psn → i < packetsOf r n (c .pmtu)
+    → cutRefusal c r n psn i ≡ 0
+not-refused c r n psn i K h =
+    passes c r n psn i
+    (record {
+      pmtu = pmtus (c .pmtu) .1 (K .pmtu);
+      service = known (c .service) r (K .service);
+      dest = K .dest;
+      first = K .first;
+      served = served (carries r) (c .service) r refl (K .service);
+      limit = K .limit;
+      index = h;
+    })
+
+serves : (own : Bool) (s : ℕ) (r : Request) → carries r ≡ own → s ≤ 1 → (not own && eqb s 1) ≡ false
+    → (s ≡ 0) ⊎ ((s ≡ 1) × Carrier r)
+serves true s r e l h = go (eqb s 0) refl
+  where
+    go : (b : Bool) → eqb s 0 ≡ b → (s ≡ 0) ⊎ ((s ≡ 1) × Carrier r)
+    go true q = inl (eqb-true s 0 q)
+    go false q = inr (omega (arith, eqb-false s 0 q), carries-carrier r e)
+serves false s r e l h = inl (omega (arith, eqb-false s 1 h))
+
+pub was-cuttable : (c : Connection) (r : Request) (n psn i : ℕ) → cutRefusal c r n psn i ≡ 0
+    → Cuttable c r n psn × (i < packetsOf r n (c .pmtu))
+was-cuttable c r n psn i e =
+    let P = passed c r n psn i e in (
+      record {
+        pmtu = pmtus (c .pmtu) .0 (P .pmtu);
+        service = serves (carries r) (c .service) r refl (service-small (c .service) (P .service)) (P .served);
+        dest = P .dest;
+        first = P .first;
+        limit = P .limit;
+      },
+      P .index,
+    )
+
+-- the payload is as long as the numbers say
+pub size-is : (c : Connection) (r : Request) (d : List ℕ) (i : ℕ) → sizeAt r (length d) (c .pmtu) i ≡ length (payloadAt c r d i)
+unfolding sizeAt payloadAt
+size-is c r d i =
+    let s = partAt (carriedLength r (length d)) (c .pmtu) i in
+    let I = span-inside r (length d) (carriedLength r (length d)) (c .pmtu) i s refl refl in
+    let a : s .start ≤ s .end = I .0 in
+    let b : s .end ≤ length d = I .1 in
+    let l : length (take (s .end - s .start) (drop (s .start) d)) ≡ s .end - s .start =
+    length-take (s .end - s .start) (drop (s .start) d) ∙ (ap (min (s .end - s .start)) (length-drop (s .start) d) ∙ omega arith) in
+    sym l ∙ ap length (part-carried r d (c .pmtu) i)
+
+-- the header
+module _ (c : Connection) (r : Request) (n : ℕ) (first : Psn) (i : ℕ) where
+  count : ℕ
+  count = packetsOf r n (c .pmtu)
+
+  low : ℕ
+  low = lowFor r (placeAt count i)
+
+  low-small : low < 32
+  unfolding low
+  low-small = omega (arith, low-bound r (placeAt count i) (place-bound count i))
+
+  -- the class of its opcode
+  pub class-low : Cuttable c r n (first .0) → classOf (headerAt c r n first i .bth .opcode) ≡ lowClass (lowFor r (placeAt (packetsOf r n (c .pmtu)) i))
+  unfolding low count headerAt bthAt
+  class-low K = class-is (c .service) low low-small (go (K .service))
+    where
+      go : (c .service ≡ 0) ⊎ ((c .service ≡ 1) × Carrier r) → (c .service ≡ 0) ⊎ ((c .service ≡ 1) × (low < 12))
+      go (inl z) = inl z
+      go (inr z) = inr (z .0, carrier r 0 count i (z .1) .few)
+
+  opcode-small : Cuttable c r n (first .0) → headerAt c r n first i .bth .opcode < 64
+  unfolding headerAt bthAt low count
+  opcode-small K =
+      let s : c .service ≤ 1 = service-small (c .service) (known (c .service) r (K .service)) in
+      omega (arith, low-small)
+
+  bth-widths : Sound c r n (first .0) → BthWidths (headerAt c r n first i .bth)
+  unfolding headerAt bthAt
+  bth-widths S =
+      record {
+        opcode = opcode-small (S .cuttable);
+        pad = pad-small (sizeAt r n (c .pmtu) i);
+        tver = refl;
+        pkey = S .pkey;
+        reserved8 = omega arith;
+        dest = S .cuttable .dest;
+        reserved7 = omega arith;
+        psn = after-below first i;
+      }
+
+  follows : Cuttable c r n (first .0)
+      → classOf (headerAt c r n first i .bth .opcode) .follows ≡ followsBy (headerAt c r n first i .extension)
+  unfolding headerAt
+  follows K = ap (λ k. k .follows) (class-low K) ∙ shape r (messageLength r n) (packetsOf r n (c .pmtu)) i .follows
+
+  pub header-fits : Sound c r n (first .0) → headerFits (headerAt c r n first i) ≡ true
+  unfolding headerAt
+  header-fits S =
+      both-fit (headerAt c r n first i)
+      (bth-fits (headerAt c r n first i .bth) (bth-widths S))
+      (extension-fits (classOf (headerAt c r n first i .bth .opcode) .follows) (headerAt c r n first i .extension) (follows (S .cuttable))
+      (widths r (messageLength r n) (packetsOf r n (c .pmtu)) i (S .widths) (S .cuttable .limit)))
+
+-- the packet is no longer than the longest
+rounded : (n : ℕ) → n ≤ 4096 → n + padOf n ≤ 4096
+unfolding padOf
+rounded n h = omega arith
+
+pad-none : (n : ℕ) → n ≡ 0 → padOf n ≡ 0
+unfolding padOf
+pad-none n e = omega arith
+
+none-carried : (c : Connection) (r : Request) (d : List ℕ) (i : ℕ) → (Carrier r → ⊥) → length (payloadAt c r d i) ≡ 0
+unfolding payloadAt pieceAt
+none-carried c r d i h =
+    let e : carried r d ≡ [] = cut-one r d (c .pmtu) h .1 in
+    let m : min (c .pmtu) (0 - i * c .pmtu) ≡ 0 = omega arith in
+    length-take (c .pmtu) (drop (i * c .pmtu) (carried r d))
+    ∙ (ap (min (c .pmtu)) (length-drop (i * c .pmtu) (carried r d) ∙ ap (λ x. length x - i * c .pmtu) e) ∙ m)
+
+extension-short : (c : Connection) (r : Request) (n : ℕ) (first : Psn) (i : ℕ) → Carrier r
+    → 12 + length (extensionBytes (headerAt c r n first i .extension)) ≤ 32
+unfolding headerAt
+extension-short c r n first i k = carrier r (messageLength r n) (packetsOf r n (c .pmtu)) i k .short
+
+payload-most : (c : Connection) (r : Request) (d : List ℕ) (i : ℕ) → length (payloadAt c r d i) ≤ c .pmtu
+unfolding payloadAt
+payload-most c r d i = at-most (carried r d) (c .pmtu) i
+
+sum : (h n m : ℕ) → h ≤ m → n ≤ 4096 → m + 4096 ≤ 4128 → h + (n + padOf n) ≤ 4128
+sum h n m a b e = omega (arith, rounded n b)
+
+pub packet-short : (c : Connection) (r : Request) (d : List ℕ) (first : Psn) (i : ℕ) → Sound c r (length d) (first .0)
+    → packetLength (headerAt c r (length d) first i) (length (payloadAt c r d i)) ≤ 4128
+unfolding packetLength
+packet-short c r d first i S = go (decide r)
+  where
+    go : Carrier r ⊎ (Carrier r → ⊥)
+        → headerLength (headerAt c r (length d) first i) + (length (payloadAt c r d i) + padOf (length (payloadAt c r d i))) ≤ 4128
+    go (inl k) =
+        let l = length-is (headerAt c r (length d) first i) (header-fits c r (length d) first i S) in
+        let b = pmtu-bounds (c .pmtu) (pmtus (c .pmtu) .1 (S .cuttable .pmtu)) in
+        sum (headerLength (headerAt c r (length d) first i)) (length (payloadAt c r d i)) 32
+        (omega (arith, l, extension-short c r (length d) first i k)) (omega (arith, b .1, payload-most c r d i)) (omega arith)
+    go (inr k) =
+        let l = length-is (headerAt c r (length d) first i) (header-fits c r (length d) first i S) in
+        let s = length-most (headerAt c r (length d) first i .extension) in
+        let z : length (payloadAt c r d i) ≡ 0 = none-carried c r d i k in
+        omega (arith, l, s, pad-none (length (payloadAt c r d i)) z)

@@ -1,0 +1,104 @@
+-- What the headers of a cut say: class, AckReq, extension headers, numbers.
+use Prim.Native.Nat.{ℕ, zero, suc, _+_}
+use mathlib.Core.Path.{_≡_, refl, sym, ap, _∙_}
+use mathlib.Core.Bool.{Bool, true, false, cond, _||_}
+use native.Mathlib.Omega.{arith}
+use lib.Dec.{eqb}
+use borrow.Author.Tests.{eq-eqb, ne-eqb}
+use Rattle.sequence.specs.Sequence.{psnAfter}
+use Rattle.sequence.specs.declared.Psn.{Psn}
+use Rattle.sequence.proofs.Circle.{after-none, after-after}
+use Rattle.opcode.specs.Opcode.{placeOf, lowClass, classOf}
+use Rattle.pieces.specs.Pieces.{pieces, placeAt}
+use Rattle.pieces.proofs.Cuts.{places}
+use Rattle.segment.specs.Message.{carries, carriedLength, messageLength, packetsOf}
+use Rattle.segment.specs.Next.{numbersOf, nextPsn}
+use Rattle.segment.specs.Cut.{ends, starts, lowFor, sendExtension, rethFor, writeExtension, writeEnd, writeImmediateExtension, fetchAddEth, extensionFor, bthAt, headerAt}
+use Rattle.segment.specs.Claims.{CutMarked, CutExtended, PsnFirst, PsnNext, NextMessage, NextOthers}
+use Rattle.segment.specs.declared.Request.{Request}
+use Rattle.segment.specs.declared.Request.the-variants.{Send, SendImmediate, Write, WriteImmediate, Read, CmpSwap, FetchAdd}
+use Rattle.segment.proofs.Bounds.{place-bound, low-bound}
+use Rattle.segment.proofs.Shapes.{shape, carrier, service-is}
+use Rattle.segment.proofs.Fits.{class-low}
+
+-- the place that the opcode says; a READ or atomic request is an Only
+place-of : (r : Request) (n pmtu i : ℕ)
+    → lowClass (lowFor r (placeAt (packetsOf r n pmtu) i)) .place ≡ placeAt (packetsOf r n pmtu) i
+unfolding lowClass placeOf lowFor packetsOf carriedLength carries pieces placeAt
+place-of Send n pmtu i = carrier Send 0 (packetsOf Send n pmtu) i tt .place-is
+place-of (SendImmediate v) n pmtu i = carrier (SendImmediate v) 0 (packetsOf (SendImmediate v) n pmtu) i tt .place-is
+place-of (Write t) n pmtu i = carrier (Write t) 0 (packetsOf (Write t) n pmtu) i tt .place-is
+place-of (WriteImmediate t v) n pmtu i = carrier (WriteImmediate t v) 0 (packetsOf (WriteImmediate t v) n pmtu) i tt .place-is
+place-of (Read a) n pmtu i = refl
+place-of (CmpSwap a) n pmtu i = refl
+place-of (FetchAdd t v) n pmtu i = refl
+
+pub cut-marked : CutMarked
+unfolding headerAt bthAt
+cut-marked c r n first i K l =
+    let count = packetsOf r n (c .pmtu) in
+    let k : classOf (headerAt c r n first i .bth .opcode) ≡ lowClass (lowFor r (placeAt count i)) = class-low c r n first i K in
+    record {
+      service = service-is (c .service) (lowFor r (placeAt count i)) (omega (arith, low-bound r (placeAt count i) (place-bound count i)));
+      kind = ap (λ x. x .kind) k ∙ shape r 0 count i .kind;
+      place = ap (λ x. x .place) k ∙ place-of r n (c .pmtu) i;
+      asks = λ e. eq-eqb (i + 1) count (omega arith);
+      silent = λ h. ne-eqb (i + 1) count (λ e. omega arith);
+    }
+
+-- the headers after the BTH: the first packet begins the message, the last one ends it
+begins : (count : ℕ) → starts (placeAt count 0) ≡ true
+unfolding placeAt starts
+begins count = go (eqb count 1)
+  where
+    go : (b : Bool) → (eqb (cond b 4 0) 0 || eqb (cond b 4 0) 4) ≡ true
+    go true = refl
+    go false = refl
+
+last-ends : (count i : ℕ) → suc i ≡ count → ends (placeAt count i) ≡ true
+unfolding ends
+last-ends count zero h = rw (places count .only (sym h))
+last-ends count (suc i) h = rw (places count .last (suc i) (omega arith) h)
+
+pub cut-extended : CutExtended
+unfolding headerAt extensionFor sendExtension writeExtension writeEnd writeImmediateExtension packetsOf carriedLength carries messageLength ends starts rethFor fetchAddEth
+cut-extended c t v n first =
+    let P = places (pieces n (c .pmtu)) in
+    record {
+      write = rw (begins (pieces n (c .pmtu)));
+      write-first = λ h. rw (P .first h);
+      write-only = λ h. rw (P .only h);
+      write-last = λ i g h. rw (P .last i g h);
+      send-last = λ i h. rw (last-ends (pieces n (c .pmtu)) i h);
+      read = λ a. refl;
+      cmp-swap = λ a. refl;
+      fetch-add = λ w. refl;
+    }
+
+-- PSNs
+pub psn-first : PsnFirst
+unfolding headerAt bthAt
+psn-first c r n first h = after-none first h
+
+pub psn-next : PsnNext
+unfolding headerAt bthAt
+psn-next c r n first i = sym (after-after first i 1 ∙ ap (psnAfter first) (omega arith))
+
+follows : (first : Psn) (i m : ℕ) → suc i ≡ m → psnAfter first m ≡ psnAfter (psnAfter first i) 1
+follows first i m e =
+    let q : m ≡ i + 1 = omega arith in
+    ap (psnAfter first) q ∙ sym (after-after first i 1)
+
+pub next-message : NextMessage
+unfolding nextPsn numbersOf packetsOf carriedLength messageLength carries headerAt bthAt
+next-message c Send n first i k e = follows first i (pieces n (c .pmtu)) e
+next-message c (SendImmediate v) n first i k e = follows first i (pieces n (c .pmtu)) e
+next-message c (Write t) n first i k e = follows first i (pieces n (c .pmtu)) e
+next-message c (WriteImmediate t v) n first i k e = follows first i (pieces n (c .pmtu)) e
+next-message c (Read a) n first i k e = absurd k
+next-message c (CmpSwap a) n first i k e = absurd k
+next-message c (FetchAdd t v) n first i k e = absurd k
+
+pub next-others : NextOthers
+unfolding nextPsn numbersOf messageLength pieces
+next-others n pmtu first = record { read = λ a. refl; cmp-swap = λ a. refl; fetch-add = λ t v. refl }
