@@ -1,8 +1,8 @@
 -- A written packet reads as its header and its payload.
 use Prim.Native.Nat.{ℕ, _+_, _-_, _%_, _≤_, _<_}
-use mathlib.Core.Path.{_≡_, refl, ap, _∙_}
+use mathlib.Core.Path.{_≡_, refl, sym, ap, _∙_}
 use mathlib.Core.Bool.{true, not}
-use mathlib.Core.List.{List, _++_}
+use mathlib.Core.List.{List, _++_, append-assoc}
 use native.Mathlib.Omega.{arith}
 use lib.ListN.{length, take, drop, replicate, length-append, length-replicate}
 use lib.Seq.{take-at, drop-at}
@@ -34,6 +34,16 @@ payload-back h d good pad is =
     ∙ (ap (λ n. take n (drop (headerLength h) (b ++ (d ++ z)))) l
     ∙ (ap (take (length d)) (drop-at b (d ++ z) (headerLength h) lb) ∙ take-at d z (length d) refl))
 
+-- the pad, behind both
+behind : (h : Header) (d : List ℕ) → headerFits h ≡ true
+    → drop (headerLength h + length d) (packetBytes h d) ≡ replicate (padOf (length d)) 0
+unfolding packetBytes
+behind h d good =
+    let b = headerBytes h in
+    let z = replicate {A = ℕ} (padOf (length d)) 0 in
+    let l : length (b ++ d) ≡ headerLength h + length d = length-append b d ∙ ap (λ n. n + length d) (length-header h good) in
+    ap (drop (headerLength h + length d)) (sym (append-assoc b d z)) ∙ drop-at (b ++ d) z (headerLength h + length d) l
+
 -- the bytes of a packet, read
 pub found : (h : Header) (d : List ℕ) → headerFits h ≡ true → h .bth .pad ≡ padOf (length d)
     → packetLength h (length d) ≤ 4128 → Found h d (packetBytes h d)
@@ -43,7 +53,11 @@ found h d good pad short =
     let lz : length (d ++ z) ≡ length d + padOf (length d) = length-append d z ∙ ap (λ n. length d + n) (length-replicate (padOf (length d)) 0) in
     let words : length (d ++ z) % 4 ≡ 0 = ap (λ n. n % 4) lz ∙ pad-fills (length d) in
     let read : readHeader (headerBytes h ++ (d ++ z)) ≡ Accepted h = read-packet h (d ++ z) good words (omega arith) in
-    record { header = read; payload = payload-back h d good pad (accepted (packetBytes h d) h read .1) }
+    record {
+      header = read;
+      payload = payload-back h d good pad (accepted (packetBytes h d) h read .1);
+      zeros = behind h d good ∙ ap (λ n. replicate n 0) (sym pad);
+    }
 
 -- such a packet is written, or refused for want of room
 pub none : (h : Header) (n room : ℕ) → headerFits h ≡ true → h .bth .pad ≡ padOf n → packetLength h n ≤ 4128
@@ -75,4 +89,8 @@ read-back h d out n e =
     let W = writes h d out (P .good) (P .pad) (P .short) (P .room) in
     let same : take n (packetOut h d out) ≡ packetBytes h d = ap (λ k. take k (packetOut h d out)) (D .1) ∙ W .1 in
     let F = found h d (P .good) (P .pad) (P .short) in
-    record { header = ap readHeader same ∙ F .header; payload = ap payloadOf same ∙ F .payload }
+    record {
+      header = ap readHeader same ∙ F .header;
+      payload = ap payloadOf same ∙ F .payload;
+      zeros = ap (drop (headerLength h + length d)) same ∙ F .zeros;
+    }

@@ -3,9 +3,9 @@ use Prim.Native.Nat.{ℕ, _+_, _%_, _≤_}
 use mathlib.Core.Path.{_≡_}
 use mathlib.Core.Bool.{true}
 use mathlib.Core.List.{List}
-use lib.ListN.{length, take}
+use lib.ListN.{length, take, drop, replicate}
 use Rattle.header.specs.Read.{readHeader}
-use Rattle.header.specs.Write.{headerFits}
+use Rattle.header.specs.Write.{headerFits, headerLength}
 use Rattle.header.specs.declared.Header.{Header}
 use Rattle.header.specs.declared.HeaderRead.the-variants.{Accepted}
 use Rattle.header.specs.declared.Answer.the-variants.{Done}
@@ -18,10 +18,12 @@ PadFills = (n : ℕ) → (n + padOf n) % 4 ≡ 0
 abbrev pub PadLeast : Type 0
 PadLeast = (n k : ℕ) → (n + k) % 4 ≡ 0 → padOf n ≤ k
 
--- What is written, in any output, reads as the header and the payload it was made of.
+-- What is written, in any output, reads as the header and the payload it was made of; behind them stands the pad, in zero
+-- bytes.
 pub record Found (h : Header) (d p : List ℕ) : Type 0 where
   pub header : readHeader p ≡ Accepted h
   pub payload : payloadOf p ≡ d
+  pub zeros : drop (headerLength h + length d) p ≡ replicate (h .bth .pad) 0
 
 abbrev pub ReadBack : Type 0
 ReadBack =

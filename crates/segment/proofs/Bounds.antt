@@ -1,7 +1,7 @@
 -- How large the numbers of a cut are.
 use Prim.Native.Nat.{ℕ, _+_, _≤_, _<_}
 use mathlib.Core.Path.{_≡_, refl}
-use mathlib.Core.Bool.{Bool, true, false, cond, not, _&&_, _||_}
+use mathlib.Core.Bool.{Bool, true, false, cond, not, _||_}
 use native.Mathlib.Omega.{arith}
 use lib.Dec.{leb, ltb, eqb}
 use borrow.Author.Tests.{leb-false, ltb-false, le-ltb, lt-leb}
@@ -11,7 +11,7 @@ use Rattle.header.specs.Read.{otherService}
 use Rattle.pieces.specs.Pieces.{pmtuFits, pieces, placeAt}
 use Rattle.pieces.proofs.Counting.{counts, pmtu-bounds}
 use Rattle.segment.specs.Message.{carries, carriedLength, messageLength, messageLimit, packetsOf}
-use Rattle.segment.specs.Cut.{ends, withImmediate, lowFor, numbersUnfit, cutRefusal}
+use Rattle.segment.specs.Cut.{ends, withImmediate, lowFor, unserved, numbersUnfit, cutRefusal}
 use Rattle.segment.specs.declared.Connection.{Connection}
 use Rattle.segment.specs.declared.Request.{Request}
 use Rattle.segment.specs.declared.Request.the-variants.{Send, SendImmediate, Write, WriteImmediate, Read, CmpSwap, FetchAdd}
@@ -59,7 +59,7 @@ pub record Passed (c : Connection) (own : Bool) (psn whole count i : ℕ) : Type
   pub service : otherService (c .service) ≡ false
   pub dest : c .dest < space
   pub first : psn < space
-  pub served : (not own && eqb (c .service) 1) ≡ false
+  pub served : unserved own (c .service) ≡ false
   pub limit : whole ≤ messageLimit
   pub index : i < count
 
@@ -68,13 +68,13 @@ pub passed : (c : Connection) (r : Request) (n psn i : ℕ) → cutRefusal c r n
 unfolding cutRefusal numbersUnfit
 passed c r n psn i e =
     go (pmtuFits (c .pmtu)) (otherService (c .service)) (leb space (c .dest)) (leb space psn)
-    (not (carries r) && eqb (c .service) 1) (ltb messageLimit (messageLength r n)) (leb (packetsOf r n (c .pmtu)) i)
+    (unserved (carries r) (c .service)) (ltb messageLimit (messageLength r n)) (leb (packetsOf r n (c .pmtu)) i)
     refl refl refl refl refl refl refl e
   where
     go : (x1 x2 x3 x4 x5 x6 x7 : Bool) → pmtuFits (c .pmtu) ≡ x1 → otherService (c .service) ≡ x2
         → leb space (c .dest) ≡ x3
         → leb space psn ≡ x4
-        → (not (carries r) && eqb (c .service) 1) ≡ x5
+        → unserved (carries r) (c .service) ≡ x5
         → ltb messageLimit (messageLength r n) ≡ x6
         → leb (packetsOf r n (c .pmtu)) i ≡ x7
         → _≡_ {A = ℕ} (cond (not x1 || (x2 || (x3 || (x4 || x5)))) 39 (cond x6 34 (cond x7 34 0))) 0

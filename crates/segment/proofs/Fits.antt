@@ -1,7 +1,7 @@
 -- The header of a cut packet fits, and so does the packet.
 use Prim.Native.Nat.{ℕ, _+_, _-_, _*_, _≤_, _<_, min}
 use mathlib.Core.Path.{_≡_, refl, sym, ap, _∙_}
-use mathlib.Core.Bool.{Bool, true, false, not, _&&_, true≢false}
+use mathlib.Core.Bool.{Bool, true, false, not, true≢false}
 use mathlib.Core.List.{List, []}
 use mathlib.Core.Logic.{_⊎_, inl, inr}
 use native.Mathlib.Omega.{arith}
@@ -23,7 +23,7 @@ use Rattle.pieces.specs.Pieces.{placeAt, pieceAt, partAt}
 use Rattle.pieces.proofs.Counting.{pmtus, pmtu-bounds}
 use Rattle.pieces.proofs.Cuts.{at-most}
 use Rattle.segment.specs.Message.{carries, carried, carriedLength, messageLength, packetsOf}
-use Rattle.segment.specs.Cut.{lowFor, bthAt, sizeAt, headerAt, payloadAt, cutRefusal}
+use Rattle.segment.specs.Cut.{lowFor, bthAt, sizeAt, headerAt, payloadAt, unserved, cutRefusal}
 use Rattle.segment.specs.Claims.{Carrier, Cuttable, Sound}
 use Rattle.segment.specs.declared.Connection.{Connection}
 use Rattle.segment.specs.declared.Request.{Request}
@@ -40,7 +40,8 @@ decide r = go (carries r) refl
     go false e = inr (λ h. true≢false (sym (carrier-carries r h) ∙ e))
 
 -- what can be cut is not refused, and what is not refused can be cut
-served : (own : Bool) (s : ℕ) (r : Request) → carries r ≡ own → (s ≡ 0) ⊎ ((s ≡ 1) × Carrier r) → (not own && eqb s 1) ≡ false
+served : (own : Bool) (s : ℕ) (r : Request) → carries r ≡ own → (s ≡ 0) ⊎ ((s ≡ 1) × Carrier r) → unserved own s ≡ false
+unfolding unserved
 served true s r e h = refl
 served false s r e (inl z) = ne-eqb s 1 (λ q. omega arith)
 served false s r e (inr z) = absurd (true≢false (sym (carrier-carries r (z .1)) ∙ e))
@@ -64,8 +65,9 @@ not-refused c r n psn i K h =
       index = h;
     })
 
-serves : (own : Bool) (s : ℕ) (r : Request) → carries r ≡ own → s ≤ 1 → (not own && eqb s 1) ≡ false
+serves : (own : Bool) (s : ℕ) (r : Request) → carries r ≡ own → s ≤ 1 → unserved own s ≡ false
     → (s ≡ 0) ⊎ ((s ≡ 1) × Carrier r)
+unfolding unserved
 serves true s r e l h = go (eqb s 0) refl
   where
     go : (b : Bool) → eqb s 0 ≡ b → (s ≡ 0) ⊎ ((s ≡ 1) × Carrier r)

@@ -42,6 +42,10 @@ cut-marked c r n first i K l =
       service = service-is (c .service) (lowFor r (placeAt count i)) (omega (arith, low-bound r (placeAt count i) (place-bound count i)));
       kind = ap (λ x. x .kind) k ∙ shape r 0 count i .kind;
       place = ap (λ x. x .place) k ∙ place-of r n (c .pmtu) i;
+      pkey = refl;
+      dest = refl;
+      plain = (refl, refl);
+      zeros = (refl, refl, refl);
       asks = λ e. eq-eqb (i + 1) count (omega arith);
       silent = λ h. ne-eqb (i + 1) count (λ e. omega arith);
     }

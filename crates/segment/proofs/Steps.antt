@@ -4,7 +4,7 @@ use mathlib.Core.Path.{_≡_, refl, sym, ap, subst, _∙_}
 use mathlib.Core.Bool.{Bool, true, false, cond, not}
 use mathlib.Core.List.{List, []}
 use native.Mathlib.Omega.{arith}
-use lib.Dec.{ltb, eqb}
+use lib.Dec.{ltb}
 use lib.ListN.{length, take, drop}
 use lib.Seq.{take-nil, drop-nil}
 use borrow.Author.Tests.{ltb-false, lt-leb, ne-eqb}
@@ -22,7 +22,7 @@ use Rattle.pieces.specs.Pieces.{pmtuFits, pieces, placeAt, pieceAt, partAt}
 use Rattle.pieces.specs.declared.Span.{Span}
 use Rattle.pieces.proofs.Cuts.{parts}
 use Rattle.segment.specs.Message.{carries, carried, carriedLength, messageLength, messageLimit, packetsOf, lengthRefusal}
-use Rattle.segment.specs.Cut.{numbersUnfit, cutRefusal, lowFor, extensionFor, bthAt, sizeAt, headerAt, payloadAt, cutWritten, cutOut}
+use Rattle.segment.specs.Cut.{unserved, numbersUnfit, cutRefusal, lowFor, extensionFor, bthAt, sizeAt, headerAt, payloadAt, cutWritten, cutOut}
 use Rattle.segment.specs.declared.Connection.{Connection}
 use Rattle.segment.specs.declared.Request.{Request}
 use Rattle.segment.proofs.Bounds.{Passed, passed, pieces-bound, index-small, service-small, low-bound}
@@ -43,19 +43,13 @@ count-passed n pmtu code count e z p =
     let L = length-passed n pmtu (sym e ∙ z) in
     subst (λ k. k ≤ 4096) (sym p) (pieces-bound n pmtu (L .0) (L .1))
 
--- the last of the tests on numbers: a READ or atomic on UC
-pub unfit-last : (c : Connection) (own : Bool) (psn : ℕ) (u o : Bool) → u ≡ not (pmtuFits (c .pmtu)) → u ≡ false
-    → o ≡ otherService (c .service) → o ≡ false → c .dest < space → psn < space → own ≡ false
-    → eqb (c .service) 1 ≡ numbersUnfit c own psn
+-- the last of the tests on numbers: whether the service has the request
+pub unfit-last : (c : Connection) (own : Bool) (psn : ℕ) (u o w : Bool) → u ≡ not (pmtuFits (c .pmtu)) → u ≡ false
+    → o ≡ otherService (c .service) → o ≡ false → c .dest < space → psn < space → w ≡ unserved own (c .service)
+    → w ≡ numbersUnfit c own psn
 unfolding numbersUnfit
-unfit-last c own psn u o e f g h d p w =
-    rw (
-      not-false (pmtuFits (c .pmtu)) u e f,
-      sym g ∙ h,
-      lt-leb space (c .dest) d,
-      lt-leb space psn p,
-      w,
-    )
+unfit-last c own psn u o w e f g h d p q =
+    rw (not-false (pmtuFits (c .pmtu)) u e f, sym g ∙ h, lt-leb space (c .dest) d, lt-leb space psn p) q
 
 -- the header
 pub span-order : (n pmtu i : ℕ) → partAt n pmtu i .start ≤ partAt n pmtu i .end

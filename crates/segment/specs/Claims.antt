@@ -137,11 +137,16 @@ kindNumber (Read a) = 12
 kindNumber (CmpSwap a) = 19
 kindNumber (FetchAdd t v) = 20
 
--- The opcode says the service, the kind and the place; AckReq is set on the last packet and on no other.
+-- The opcode says the service, the kind and the place; AckReq is set on the last packet and on no other; P_Key and DestQP
+-- are the connection's, and all other bits 0.
 pub record Marked (c : Connection) (r : Request) (n : ℕ) (first : Psn) (i : ℕ) : Type 0 where
   pub service : serviceOf (headerAt c r n first i .bth .opcode) ≡ c .service
   pub kind : classOf (headerAt c r n first i .bth .opcode) .kind ≡ kindNumber r
   pub place : classOf (headerAt c r n first i .bth .opcode) .place ≡ placeAt (packetsOf r n (c .pmtu)) i
+  pub pkey : headerAt c r n first i .bth .pkey ≡ c .pkey
+  pub dest : headerAt c r n first i .bth .dest ≡ c .dest
+  pub plain : (headerAt c r n first i .bth .se ≡ false) × (headerAt c r n first i .bth .migreq ≡ false)
+  pub zeros : (headerAt c r n first i .bth .tver ≡ 0) × (headerAt c r n first i .bth .reserved8 ≡ 0) × (headerAt c r n first i .bth .reserved7 ≡ 0)
   pub asks : suc i ≡ packetsOf r n (c .pmtu) → headerAt c r n first i .bth .ackreq ≡ true
   pub silent : suc i < packetsOf r n (c .pmtu) → headerAt c r n first i .bth .ackreq ≡ false
 

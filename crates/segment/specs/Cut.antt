@@ -114,12 +114,16 @@ payloadAt c r d i = pieceAt (carried r d) (c .pmtu) i
 unfoldable pub cutBytes : Connection → Request → List ℕ → Psn → ℕ → List ℕ
 cutBytes c r d first i = packetBytes (headerAt c r (length d) first i) (payloadAt c r d i)
 
+-- READs and atomics, which carry no bytes, are not for UC
+unfoldable pub unserved : Bool → ℕ → Bool
+unserved own service = not own && eqb service 1
+
 -- The refusal of a cut, or 0. 39: no such PMTU, a service that is neither RC nor UC, a number over 24 bits, a READ or
 -- atomic on UC; 34: a message over the limit, or no packet i in it. What is left, 35, is the packet writer's
 unfoldable pub numbersUnfit : Connection → Bool → ℕ → Bool
 numbersUnfit c own psn =
     not (pmtuFits (c .pmtu))
-    || (otherService (c .service) || (leb space (c .dest) || (leb space psn || (not own && eqb (c .service) 1))))
+    || (otherService (c .service) || (leb space (c .dest) || (leb space psn || unserved own (c .service))))
 
 unfoldable pub cutRefusal : Connection → Request → ℕ → ℕ → ℕ → ℕ
 cutRefusal c r n psn i =

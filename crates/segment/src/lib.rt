@@ -10,7 +10,7 @@ ghost use mathlib.Core.Path.{_≡_};
 ghost use lib.ListN.{length};
 ghost use Rattle.segment.specs.Message.{carries, carriedLength, messageLength, lengthRefusal, packetsAnswer, responsesAnswer};
 ghost use Rattle.segment.specs.Next.{nextAnswer};
-ghost use Rattle.segment.specs.Cut.{numbersUnfit, cutRefusal, headerAt, cutWritten, cutOut};
+ghost use Rattle.segment.specs.Cut.{unserved, numbersUnfit, cutRefusal, headerAt, cutWritten, cutOut};
 
 // The longest message.
 pub const MESSAGE_LIMIT: usize = 1048576;
@@ -145,6 +145,16 @@ pub fn next_psn(request: Request, n: usize, pmtu: usize, first: Psn) -> Followin
     Following::Next(next)
 }
 
+// Whether the service lacks the request: UC has those alone that carry bytes.
+fn unserved(own: bool, service: u8) -> bool
+    ensures { λ r. ⌜ r ≡ unserved own service ⌝ }
+{
+    if own {
+        return false;
+    }
+    service == opcode::UC
+}
+
 // Whether a number is none that a packet can have, or the service has no such request.
 fn numbers_unfit(connection: Connection, own: bool, first: Psn) -> bool
     ensures { λ r. ⌜ r ≡ numbersUnfit connection own (first .0) ⌝ }
@@ -163,10 +173,7 @@ fn numbers_unfit(connection: Connection, own: bool, first: Psn) -> bool
     if Psn::SPACE <= first.0 {
         return true;
     }
-    if own {
-        return false;
-    }
-    connection.service == opcode::UC
+    unserved(own, connection.service)
 }
 
 // Which refusal the cut gets before its output is looked at, or 0.
@@ -224,8 +231,8 @@ pub fn cut(
         return Answer::Refused(code);
     }
     let h = header_at(connection, request, message.len(), first, index);
-    let own = carried_length(request, message.len());
-    let span = pieces::part(own, connection.pmtu, index);
+    let carried = carried_length(request, message.len());
+    let span = pieces::part(carried, connection.pmtu, index);
     let start = span.start;
     let end = span.end;
     packet::write(h, &message[start..end], out)

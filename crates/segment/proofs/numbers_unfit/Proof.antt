@@ -27,12 +27,11 @@ returns-4 : tie.Need-returns-4
 unfolding numbersUnfit
 returns-4 c = simp (← c .before .before .before .before .before .before .before .pmtu-unfit .ensures, c .before .before .before .before .before .before .if1 .left, ← c .before .before .before .before .before .other-service .ensures, c .before .before .before .before .if2 .left, lt-leb _ _ (c .before .before .if3 .left), lt-ltb _ _ (c .before .before .if3 .left), le-ltb _ _ (c .if4 .taken), le-leb _ _ (c .if4 .taken))
 
-returns-5 : tie.Need-returns-5
-unfolding numbersUnfit
-returns-5 c = simp (← c .before .before .before .before .before .before .before .before .pmtu-unfit .ensures, c .before .before .before .before .before .before .before .if1 .left, ← c .before .before .before .before .before .before .other-service .ensures, c .before .before .before .before .before .if2 .left, lt-leb _ _ (c .before .before .before .if3 .left), lt-ltb _ _ (c .before .before .before .if3 .left), lt-leb _ _ (c .before .if4 .left), lt-ltb _ _ (c .before .if4 .left), c .if5 .taken)
+unserved-requires : tie.Need-unserved-requires
+unserved-requires c κs = search needs
 
-returns-6 : tie.Need-returns-6
-returns-6 c = unfit-last (c .before .before .before .before .before .before .before .before .before .before .args .connection) (c .before .before .before .before .before .before .before .before .before .before .args .own) (c .before .before .before .before .before .before .before .before .before .before .args .first .0) _ _ (c .before .before .before .before .before .before .before .before .before .pmtu-unfit .ensures) (c .before .before .before .before .before .before .before .before .if1 .left) (c .before .before .before .before .before .before .before .other-service .ensures) (c .before .before .before .before .before .before .if2 .left) (c .before .before .before .before .if3 .left) (c .before .before .if4 .left) (c .before .if5 .left)
+returns-5 : tie.Need-returns-5
+returns-5 c = unfit-last (c .before .before .before .before .before .before .before .before .before .args .connection) (c .before .before .before .before .before .before .before .before .before .args .own) (c .before .before .before .before .before .before .before .before .before .args .first .0) _ _ _ (c .before .before .before .before .before .before .before .before .pmtu-unfit .ensures) (c .before .before .before .before .before .before .before .if1 .left) (c .before .before .before .before .before .before .other-service .ensures) (c .before .before .before .before .before .if2 .left) (c .before .before .before .if3 .left) (c .before .if4 .left) (c .unserved .ensures)
 
 pub numbers-unfit-spec : {M : Type 1} → statement M
 numbers-unfit-spec =
@@ -44,5 +43,5 @@ numbers-unfit-spec =
     returns-2
     returns-3
     returns-4
-    returns-5
-    returns-6)
+    unserved-requires
+    returns-5)
