@@ -2,3 +2,4 @@ pub mod Pads
 pub mod Passes
 pub mod Bytes
 pub mod ReadBack
+pub mod Refusals

@@ -1,10 +1,11 @@
 -- What a packet's numbers tell when no refusal applies, and back.
 use Prim.Native.Nat.{ℕ, _+_, _≤_, _<_}
-use mathlib.Core.Path.{_≡_, refl}
-use mathlib.Core.Bool.{Bool, true, false, cond, not}
+use mathlib.Core.Path.{_≡_, refl, sym}
+use mathlib.Core.Bool.{Bool, true, false, cond, not, true≢false}
+use mathlib.Core.Logic.{_⊎_, inl, inr}
 use native.Mathlib.Omega.{arith}
 use lib.Dec.{ltb, eqb}
-use borrow.Author.Tests.{lt-ltb, le-ltb, ltb-false, eq-eqb, eqb-true}
+use borrow.Author.Tests.{lt-ltb, le-ltb, ltb-false, eq-eqb, ne-eqb, eqb-true}
 use Rattle.packet.specs.Packet.{padOf, refusalBy}
 
 pub record Passed (unfit : Bool) (padcnt headers n m : ℕ) : Type 0 where
@@ -41,8 +42,19 @@ passes u p h n m P =
       le-ltb m (h + (n + padOf n)) (P .room),
     )
 
-pub lacks : (u : Bool) (p h n m : ℕ) → u ≡ false → p ≡ padOf n → h + (n + padOf n) ≤ 4128 → m < h + (n + padOf n)
-    → refusalBy u p h n m ≡ 35
+-- the refusals
+pub unfit : (u : Bool) (p h n m : ℕ) → (u ≡ true) ⊎ (p ≡ padOf n → ⊥) → refusalBy u p h n m ≡ 39
 unfolding refusalBy
-lacks u p h n m good pad short few =
-    rw (good, eq-eqb p (padOf n) pad, le-ltb 4128 (h + (n + padOf n)) short, lt-ltb m (h + (n + padOf n)) few)
+unfit true p h n m e = refl
+unfit false p h n m (inl e) = absurd (true≢false (sym e))
+unfit false p h n m (inr e) = rw (ne-eqb p (padOf n) e)
+
+module _ (u : Bool) (p h n m : ℕ) (good : u ≡ false) (pad : p ≡ padOf n) where
+  pub too-long : 4128 < h + (n + padOf n) → refusalBy u p h n m ≡ 34
+  unfolding refusalBy
+  too-long l = rw (good, eq-eqb p (padOf n) pad, lt-ltb 4128 (h + (n + padOf n)) l)
+
+  pub too-short : h + (n + padOf n) ≤ 4128 → m < h + (n + padOf n) → refusalBy u p h n m ≡ 35
+  unfolding refusalBy
+  too-short short few =
+      rw (good, eq-eqb p (padOf n) pad, le-ltb 4128 (h + (n + padOf n)) short, lt-ltb m (h + (n + padOf n)) few)

@@ -1,5 +1,5 @@
 -- A written packet reads as its header and its payload.
-use Prim.Native.Nat.{ℕ, _+_, _-_, _%_, _≤_, _<_}
+use Prim.Native.Nat.{ℕ, _+_, _-_, _%_, _≤_}
 use mathlib.Core.Path.{_≡_, refl, sym, ap, _∙_}
 use mathlib.Core.Bool.{true, not}
 use mathlib.Core.List.{List, _++_, append-assoc}
@@ -17,7 +17,7 @@ use Rattle.header.proofs.Writes.{was-done}
 use Rattle.packet.specs.Packet.{padOf, packetBytes, packetLength, packetAnswer, packetWritten, packetOut, payloadOf}
 use Rattle.packet.specs.Claims.{Found, ReadBack, Writes}
 use Rattle.packet.proofs.Pads.{pad-fills}
-use Rattle.packet.proofs.Passes.{passes, lacks}
+use Rattle.packet.proofs.Passes.{passes}
 use Rattle.packet.proofs.Bytes.{Passing, passing, length-packet, yes}
 
 -- the payload, behind the header that the packet's bytes have
@@ -59,7 +59,7 @@ found h d good pad short =
       zeros = behind h d good ∙ ap (λ n. replicate n 0) (sym pad);
     }
 
--- such a packet is written, or refused for want of room
+-- such a packet is written
 pub none : (h : Header) (n room : ℕ) → headerFits h ≡ true → h .bth .pad ≡ padOf n → packetLength h n ≤ 4128
     → packetLength h n ≤ room → packetAnswer h n room ≡ 0
 unfolding packetAnswer packetLength
@@ -67,19 +67,8 @@ none h n room good pad short enough =
     passes (not (headerFits h)) (h .bth .pad) (headerLength h) n room
     (record { good = ap not good; pad = pad; short = short; room = enough })
 
-pub lacking : (h : Header) (n room : ℕ) → headerFits h ≡ true → h .bth .pad ≡ padOf n → packetLength h n ≤ 4128
-    → room < packetLength h n → packetAnswer h n room ≡ 35
-unfolding packetAnswer packetLength
-lacking h n room good pad short few =
-    lacks (not (headerFits h)) (h .bth .pad) (headerLength h) n room (ap not good) pad short few
-
 pub writes : Writes
-writes h d out good pad short room =
-    let Y = yes h d out (none h (length d) (length out) good pad short room) in (
-      Y .0,
-      ap (take (packetLength h (length d))) (Y .1)
-          ∙ take-at (packetBytes h d) (drop (packetLength h (length d)) out) (packetLength h (length d)) (length-packet h d good),
-    )
+writes h d out good pad short room = yes h d out (none h (length d) (length out) good pad short room)
 
 pub read-back : ReadBack
 unfolding packetWritten
@@ -87,7 +76,9 @@ read-back h d out n e =
     let D = was-done (packetAnswer h (length d) (length out)) (packetLength h (length d)) n e in
     let P : Passing h (length d) (length out) = passing h (length d) (length out) (D .0) in
     let W = writes h d out (P .good) (P .pad) (P .short) (P .room) in
-    let same : take n (packetOut h d out) ≡ packetBytes h d = ap (λ k. take k (packetOut h d out)) (D .1) ∙ W .1 in
+    let same : take n (packetOut h d out) ≡ packetBytes h d =
+    ap (take n) (W .1)
+    ∙ take-at (packetBytes h d) (drop (packetLength h (length d)) out) n (length-packet h d (P .good) ∙ sym (D .1)) in
     let F = found h d (P .good) (P .pad) (P .short) in
     record {
       header = ap readHeader same ∙ F .header;

@@ -1,15 +1,16 @@
 -- What is proved of packets, each statement by a name; the proofs stand in proofs/.
-use Prim.Native.Nat.{ℕ, _+_, _%_, _≤_}
+use Prim.Native.Nat.{ℕ, _+_, _%_, _≤_, _<_}
 use mathlib.Core.Path.{_≡_}
-use mathlib.Core.Bool.{true}
-use mathlib.Core.List.{List}
+use mathlib.Core.Bool.{true, false}
+use mathlib.Core.List.{List, _++_}
+use mathlib.Core.Logic.{_⊎_}
 use lib.ListN.{length, take, drop, replicate}
 use Rattle.header.specs.Read.{readHeader}
-use Rattle.header.specs.Write.{headerFits, headerLength}
+use Rattle.header.specs.Write.{headerFits, headerLength, answerNumber}
 use Rattle.header.specs.declared.Header.{Header}
 use Rattle.header.specs.declared.HeaderRead.the-variants.{Accepted}
-use Rattle.header.specs.declared.Answer.the-variants.{Done}
-use Rattle.packet.specs.Packet.{padOf, packetBytes, packetLength, packetWritten, packetOut, payloadOf}
+use Rattle.header.specs.declared.Answer.the-variants.{Done, Refused}
+use Rattle.packet.specs.Packet.{padOf, packetBytes, packetLength, packetAnswer, packetWritten, packetOut, payloadOf}
 
 -- The pad fills up the last word, and no smaller one does.
 abbrev pub PadFills : Type 0
@@ -30,10 +31,34 @@ ReadBack =
     (h : Header) (d out : List ℕ) (n : ℕ) → packetWritten h (length d) (length out) ≡ Done n
     → Found h d (take n (packetOut h d out))
 
--- It is written if its header fits, PadCnt is the payload's pad, and there is room for it.
+-- A refusal: its number is the answer, and the output stays as it was.
+pub record Refuses (h : Header) (d out : List ℕ) (number : ℕ) : Type 0 where
+  pub answer : packetWritten h (length d) (length out) ≡ Refused number
+  pub output : packetOut h d out ≡ out
+
+-- 39 comes first, whatever else is wrong; then 34 for a packet over 4,128 bytes; then 35 for want of room.
+abbrev pub Unfit : Type 0
+Unfit =
+    (h : Header) (d out : List ℕ) → (headerFits h ≡ false) ⊎ (h .bth .pad ≡ padOf (length d) → ⊥) → Refuses h d out 39
+
+abbrev pub TooLong : Type 0
+TooLong =
+    (h : Header) (d out : List ℕ) → headerFits h ≡ true → h .bth .pad ≡ padOf (length d)
+    → 4128 < packetLength h (length d) → Refuses h d out 34
+
+abbrev pub TooShort : Type 0
+TooShort =
+    (h : Header) (d out : List ℕ) → headerFits h ≡ true → h .bth .pad ≡ padOf (length d)
+    → packetLength h (length d) ≤ 4128 → length out < packetLength h (length d) → Refuses h d out 35
+
+-- Else the packet is written, and what stood behind it stays.
 abbrev pub Writes : Type 0
 Writes =
     (h : Header) (d out : List ℕ) → headerFits h ≡ true → h .bth .pad ≡ padOf (length d)
     → packetLength h (length d) ≤ 4128 → packetLength h (length d) ≤ length out
     → (packetWritten h (length d) (length out) ≡ Done (packetLength h (length d)))
-    × (take (packetLength h (length d)) (packetOut h d out) ≡ packetBytes h d)
+    × (packetOut h d out ≡ packetBytes h d ++ drop (packetLength h (length d)) out)
+
+-- The number of an answer.
+abbrev pub Numbers : Type 0
+Numbers = (h : Header) (n room : ℕ) → answerNumber (packetWritten h n room) ≡ packetAnswer h n room

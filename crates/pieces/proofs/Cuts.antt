@@ -9,7 +9,7 @@ use lib.ListN.{length, take, drop, length-take, length-drop, take-append-drop, d
 use lib.Seq.{drop-drop, take-all, take-nil}
 use borrow.Author.Tests.{leb-true, leb-false, eq-eqb, ne-eqb}
 use Rattle.pieces.specs.Pieces.{pieces, placeAt, pieceAt, partAt, joined}
-use Rattle.pieces.specs.Claims.{Joins, Full, Rest, AtMost, Parts, Places}
+use Rattle.pieces.specs.Claims.{Joins, Full, Rest, AtMost, Parts, PartsWithin, Places}
 use Rattle.pieces.proofs.Counting.{counts, more, begins, begins-inside}
 
 size : (d : List ℕ) (p i : ℕ) → length (pieceAt d p i) ≡ min p (length d - i * p)
@@ -82,6 +82,10 @@ part-is d s p = go (leb s (length d)) (leb (s + p) (length d)) refl refl
 pub parts : Parts
 unfolding pieceAt partAt
 parts d p i = part-is d (i * p) p
+
+pub parts-within : PartsWithin
+unfolding partAt
+parts-within n p i = (omega arith, omega arith)
 
 pub places : Places
 unfolding placeAt

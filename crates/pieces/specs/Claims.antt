@@ -34,12 +34,15 @@ Rest =
 abbrev pub AtMost : Type 0
 AtMost = (d : List ℕ) (pmtu i : ℕ) → length (pieceAt d pmtu i) ≤ pmtu
 
--- A piece is the part that the numbers say.
+-- A piece is the part that the numbers say, within the bytes.
 abbrev pub Parts : Type 0
 Parts =
     (d : List ℕ) (pmtu i : ℕ)
     → take (partAt (length d) pmtu i .end - partAt (length d) pmtu i .start) (drop (partAt (length d) pmtu i .start) d)
     ≡ pieceAt d pmtu i
+
+abbrev pub PartsWithin : Type 0
+PartsWithin = (n pmtu i : ℕ) → (partAt n pmtu i .start ≤ partAt n pmtu i .end) × (partAt n pmtu i .end ≤ n)
 
 -- One piece is Only; of several, 0 is First, the last one Last, and those between are Middles.
 pub record Placed (count : ℕ) : Type 0 where

@@ -1,73 +1,100 @@
 -- What the counts and the next PSN answer.
 use Prim.Native.Nat.{ℕ, suc, zero, _≤_, _<_}
-use mathlib.Core.Path.{_≡_, refl}
-use mathlib.Core.Bool.{Bool, true, false, cond}
+use mathlib.Core.Path.{_≡_, refl, _∙_}
+use mathlib.Core.Bool.{Bool, true, false, cond, not}
 use native.Mathlib.Omega.{arith}
-use lib.Dec.{leb, eqb}
-use borrow.Author.Tests.{le-ltb, lt-leb, leb-false, eqb-true, ne-eqb}
+use lib.Dec.{leb, ltb, eqb}
+use borrow.Author.Tests.{lt-ltb, le-ltb, lt-leb, leb-false, ltb-true, ltb-false, ne-eqb}
 use Rattle.sequence.specs.Sequence.{space}
 use Rattle.sequence.specs.declared.Psn.{Psn}
 use Rattle.header.specs.Write.{answerBy}
-use Rattle.header.specs.declared.Answer.the-variants.{Done}
-use Rattle.header.proofs.Writes.{was-done, number-by}
-use Rattle.pieces.specs.Pieces.{pieces, placeAt, partAt}
-use Rattle.packet.specs.Packet.{padOf}
+use Rattle.header.specs.declared.Answer.the-variants as Answered
+use Rattle.header.proofs.Writes.{number-by}
+use Rattle.pieces.specs.Pieces.{pmtuFits, pieces}
 use Rattle.pieces.specs.Claims.{IsPmtu}
 use Rattle.pieces.proofs.Counting.{pmtus}
-use Rattle.segment.specs.Message.{carries, carriedLength, messageLength, messageLimit, packetsOf, lengthRefusal, packetsAnswer, responsesAnswer}
-use Rattle.segment.specs.Next.{numbersOf, nextPsn, nextRefusal, followingBy, nextAnswer, followingNumber}
-use Rattle.segment.specs.Cut.{sizeAt}
-use Rattle.segment.specs.Claims.{CountsAnswered, NextAnswered, AnsweredOnly, CountNumbers, NextNumbers, Worked}
+use Rattle.segment.specs.Message.{messageLength, messageLimit, packetsOf, lengthRefusal, packetsAnswer, responsesAnswer}
+use Rattle.segment.specs.Next.{nextPsn, nextRefusal, followingBy, nextAnswer, followingNumber}
+use Rattle.segment.specs.Claims.{InLimit, Counts, CountNumbers}
+use Rattle.segment.specs.Numbers.{Follows, NextNumbers}
 use Rattle.segment.specs.declared.Following.the-variants.{Next, Refused}
-use Rattle.segment.proofs.Steps.{length-passed}
+use Rattle.segment.specs.declared.Request.{Request}
+use Rattle.segment.proofs.Shapes.{in-limit, limit-in}
 
 length-passes : (n pmtu : ℕ) → IsPmtu pmtu → n ≤ messageLimit → lengthRefusal n pmtu ≡ 0
 unfolding lengthRefusal
 length-passes n pmtu p h = rw (pmtus pmtu .1 p, le-ltb messageLimit n h)
 
-pub counts-answered : CountsAnswered
+length-unfit : (n pmtu : ℕ) → (IsPmtu pmtu → ⊥) → lengthRefusal n pmtu ≡ 39
+unfolding lengthRefusal
+length-unfit n pmtu h = go (pmtuFits pmtu) refl
+  where
+    go : (b : Bool) → pmtuFits pmtu ≡ b → _≡_ {A = ℕ} (cond (not b) 39 (cond (ltb messageLimit n) 34 0)) 39
+    go true e = absurd (h (pmtus pmtu .0 e))
+    go false e = refl
+
+length-over : (n pmtu : ℕ) → IsPmtu pmtu → messageLimit < n → lengthRefusal n pmtu ≡ 34
+unfolding lengthRefusal
+length-over n pmtu p h = rw (pmtus pmtu .1 p, lt-ltb messageLimit n h)
+
+over : (r : Request) (n : ℕ) → (InLimit r n → ⊥) → messageLimit < messageLength r n
+over r n h = go (ltb messageLimit (messageLength r n)) refl
+  where
+    go : (b : Bool) → ltb messageLimit (messageLength r n) ≡ b → messageLimit < messageLength r n
+    go true e = ltb-true messageLimit (messageLength r n) e
+    go false e = absurd (h (limit-in r n (ltb-false messageLimit (messageLength r n) e)))
+
+by-number : (a m k : ℕ) → a ≡ k → (k ≡ 0 → ⊥) → answerBy a m ≡ Answered.Refused k
+unfolding answerBy
+by-number a m k e n = rw (e, ne-eqb k 0 n)
+
+pub counts : Counts
 unfolding packetsAnswer responsesAnswer answerBy
-counts-answered r n pmtu p = (λ h. rw (length-passes (messageLength r n) pmtu p h), λ h. rw (length-passes n pmtu p h))
+counts r n pmtu =
+    let n39 : _≡_ {A = ℕ} 39 0 → ⊥ = λ z. omega arith in
+    let n34 : _≡_ {A = ℕ} 34 0 → ⊥ = λ z. omega arith in
+    record {
+      unfit = λ h. (
+        by-number (lengthRefusal (messageLength r n) pmtu) (packetsOf r n pmtu) 39 (length-unfit (messageLength r n) pmtu h) n39,
+        by-number (lengthRefusal n pmtu) (pieces n pmtu) 39 (length-unfit n pmtu h) n39,
+      );
+      over = λ p h. by-number (lengthRefusal (messageLength r n) pmtu) (packetsOf r n pmtu) 34 (length-over (messageLength r n) pmtu p (over r n h)) n34;
+      packets = λ p h. rw (length-passes (messageLength r n) pmtu p (in-limit r n h));
+      long = λ p h. by-number (lengthRefusal n pmtu) (pieces n pmtu) 34 (length-over n pmtu p h) n34;
+      responses = λ p h. rw (length-passes n pmtu p h);
+    }
 
-next-passes : (n pmtu psn : ℕ) → IsPmtu pmtu → psn < space → n ≤ messageLimit → nextRefusal n pmtu psn ≡ 0
+-- the next PSN
+next-unfit : (n pmtu psn : ℕ) → (IsPmtu pmtu × (psn < space) → ⊥) → nextRefusal n pmtu psn ≡ 39
 unfolding nextRefusal
-next-passes n pmtu psn p f h = rw (lt-leb space psn f, length-passes n pmtu p h)
-
-pub next-answered : NextAnswered
-unfolding nextAnswer followingBy
-next-answered r n pmtu first W = rw (next-passes (messageLength r n) pmtu (first .0) (W .pmtu-is) (W .first) (W .limit))
-
-length-within : (n pmtu k m : ℕ) → answerBy (lengthRefusal n pmtu) m ≡ Done k → IsPmtu pmtu × (n ≤ messageLimit)
-length-within n pmtu k m e =
-    let L = length-passed n pmtu (was-done (lengthRefusal n pmtu) m k e .0) in
-    (pmtus pmtu .0 (L .0), L .1)
-
-next-within : (n pmtu psn : ℕ) → nextRefusal n pmtu psn ≡ 0 → (psn < space) × (lengthRefusal n pmtu ≡ 0)
-unfolding nextRefusal
-next-within n pmtu psn e = go (leb space psn) refl e
+next-unfit n pmtu psn h = go (leb space psn) refl
   where
-    go : (b : Bool) → leb space psn ≡ b → _≡_ {A = ℕ} (cond b 39 (lengthRefusal n pmtu)) 0 → (psn < space) × (lengthRefusal n pmtu ≡ 0)
-    go true q z = absurd (omega arith)
-    go false q z = (leb-false space psn q, z)
+    go : (b : Bool) → leb space psn ≡ b → _≡_ {A = ℕ} (cond b 39 (lengthRefusal n pmtu)) 39
+    go true e = refl
+    go false e = length-unfit n pmtu (λ p. h (p, leb-false space psn e))
 
-was-next : (a : ℕ) (p q : Psn) → followingBy a p ≡ Next q → a ≡ 0
+next-by : (n pmtu psn : ℕ) → psn < space → nextRefusal n pmtu psn ≡ lengthRefusal n pmtu
+unfolding nextRefusal
+next-by n pmtu psn f = rw (lt-leb space psn f)
+
+refuses : (a k : ℕ) (p : Psn) → a ≡ k → (k ≡ 0 → ⊥) → followingBy a p ≡ Refused k
 unfolding followingBy
-was-next a p q e = go (eqb a 0) refl e
-  where
-    go : (b : Bool) → eqb a 0 ≡ b → cond b (Next p) (Refused a) ≡ Next q → a ≡ 0
-    go true x y = eqb-true a 0 x
-    go false x y = let z : _≡_ {A = ℕ} 0 1 = cc in absurd (omega arith)
+refuses a k p e n = rw (e, ne-eqb k 0 n)
 
-pub answered-only : AnsweredOnly
-unfolding packetsAnswer responsesAnswer nextAnswer
-answered-only r n pmtu k first p = (
-  length-within (messageLength r n) pmtu k (packetsOf r n pmtu),
-  length-within n pmtu k (pieces n pmtu),
-  λ e.
-      let N = next-within (messageLength r n) pmtu (first .0) (was-next (nextRefusal (messageLength r n) pmtu (first .0)) (nextPsn r n pmtu first) p e) in
-      let L = length-passed (messageLength r n) pmtu (N .1) in
-      record { pmtu-is = pmtus pmtu .0 (L .0); first = N .0; limit = L .1 },
-)
+goes-on : (a : ℕ) (p : Psn) → a ≡ 0 → followingBy a p ≡ Next p
+unfolding followingBy
+goes-on a p e = rw e
+
+pub follows : Follows
+unfolding nextAnswer
+follows r n pmtu first =
+    let m = messageLength r n in
+    let next = nextPsn r n pmtu first in
+    record {
+      unfit = λ h. refuses (nextRefusal m pmtu (first .0)) 39 next (next-unfit m pmtu (first .0) h) (λ z. omega arith);
+      over = λ p f h. refuses (nextRefusal m pmtu (first .0)) 34 next (next-by m pmtu (first .0) f ∙ length-over m pmtu p (over r n h)) (λ z. omega arith);
+      next = λ p f h. goes-on (nextRefusal m pmtu (first .0)) next (next-by m pmtu (first .0) f ∙ length-passes m pmtu p (in-limit r n h));
+    }
 
 -- the numbers
 pub count-numbers : CountNumbers
@@ -81,7 +108,3 @@ next-numbers r n pmtu first = go (nextRefusal (messageLength r n) pmtu (first .0
     go : (a : ℕ) → followingNumber (cond (eqb a 0) (Next (nextPsn r n pmtu first)) (Refused a)) ≡ a
     go zero = refl
     go (suc a) = rw (ne-eqb (suc a) 0 (λ z. omega arith))
-
-pub worked : Worked
-unfolding packetsOf carriedLength carries pieces placeAt partAt padOf sizeAt nextPsn numbersOf messageLength
-worked = record { empty = (refl, refl); full = refl; one-more = (refl, refl, refl); read = (refl, refl); longest = refl }

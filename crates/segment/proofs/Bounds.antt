@@ -4,14 +4,14 @@ use mathlib.Core.Path.{_≡_, refl}
 use mathlib.Core.Bool.{Bool, true, false, cond, not, _||_}
 use native.Mathlib.Omega.{arith}
 use lib.Dec.{leb, ltb, eqb}
-use borrow.Author.Tests.{leb-false, ltb-false, le-ltb, lt-leb}
+use borrow.Author.Tests.{leb-false, ltb-false}
 use Rattle.laws.proofs.Tests.{cond-le}
 use Rattle.sequence.specs.Sequence.{space}
 use Rattle.header.specs.Read.{otherService}
 use Rattle.pieces.specs.Pieces.{pmtuFits, pieces, placeAt}
 use Rattle.pieces.proofs.Counting.{counts, pmtu-bounds}
 use Rattle.segment.specs.Message.{carries, carriedLength, messageLength, messageLimit, packetsOf}
-use Rattle.segment.specs.Cut.{ends, withImmediate, lowFor, unserved, numbersUnfit, cutRefusal}
+use Rattle.segment.specs.Cut.{ends, withImmediate, lowFor, unserved, cutUnfit, cutRefusal}
 use Rattle.segment.specs.declared.Connection.{Connection}
 use Rattle.segment.specs.declared.Request.{Request}
 use Rattle.segment.specs.declared.Request.the-variants.{Send, SendImmediate, Write, WriteImmediate, Read, CmpSwap, FetchAdd}
@@ -53,7 +53,7 @@ pieces-bound n pmtu f h =
     let w : 256 ≤ pmtu = b .0 in
     counts n pmtu (omega arith) .least 4096 (omega arith) (omega arith)
 
--- what a cut that is not refused tells, and back
+-- what a cut that is not refused tells
 pub record Passed (c : Connection) (own : Bool) (psn whole count i : ℕ) : Type 0 where
   pub pmtu : pmtuFits (c .pmtu) ≡ true
   pub service : otherService (c .service) ≡ false
@@ -65,7 +65,7 @@ pub record Passed (c : Connection) (own : Bool) (psn whole count i : ℕ) : Type
 
 pub passed : (c : Connection) (r : Request) (n psn i : ℕ) → cutRefusal c r n psn i ≡ 0
     → Passed c (carries r) psn (messageLength r n) (packetsOf r n (c .pmtu)) i
-unfolding cutRefusal numbersUnfit
+unfolding cutRefusal cutUnfit
 passed c r n psn i e =
     go (pmtuFits (c .pmtu)) (otherService (c .service)) (leb space (c .dest)) (leb space psn)
     (unserved (carries r) (c .service)) (ltb messageLimit (messageLength r n)) (leb (packetsOf r n (c .pmtu)) i)
@@ -96,20 +96,6 @@ passed c r n psn i e =
           limit = ltb-false messageLimit (messageLength r n) h;
           index = leb-false (packetsOf r n (c .pmtu)) i k;
         }
-
-pub passes : (c : Connection) (r : Request) (n psn i : ℕ)
-    → Passed c (carries r) psn (messageLength r n) (packetsOf r n (c .pmtu)) i → cutRefusal c r n psn i ≡ 0
-unfolding cutRefusal numbersUnfit
-passes c r n psn i P =
-    rw (
-      P .pmtu,
-      P .service,
-      lt-leb space (c .dest) (P .dest),
-      lt-leb space psn (P .first),
-      P .served,
-      le-ltb messageLimit (messageLength r n) (P .limit),
-      lt-leb (packetsOf r n (c .pmtu)) i (P .index),
-    )
 
 -- so the packet's index is small
 pub index-small : (c : Connection) (r : Request) (n psn i : ℕ)

@@ -1,13 +1,14 @@
 -- The header of a cut packet fits, and so does the packet.
 use Prim.Native.Nat.{ℕ, _+_, _-_, _*_, _≤_, _<_, min}
 use mathlib.Core.Path.{_≡_, refl, sym, ap, _∙_}
-use mathlib.Core.Bool.{Bool, true, false, not, true≢false}
+use mathlib.Core.Bool.{Bool, true, false, cond, not, _||_, true≢false}
 use mathlib.Core.List.{List, []}
 use mathlib.Core.Logic.{_⊎_, inl, inr}
 use native.Mathlib.Omega.{arith}
-use lib.Dec.{eqb}
+use lib.Dec.{leb, ltb, eqb}
 use lib.ListN.{length, take, drop, length-take, length-drop}
-use borrow.Author.Tests.{ne-eqb, eqb-true, eqb-false, le-ltb}
+use borrow.Author.Tests.{ne-eqb, eqb-true, eqb-false, ltb-false, le-ltb, leb-false, lt-leb, le-leb}
+use Rattle.sequence.specs.Sequence.{space}
 use Rattle.sequence.specs.declared.Psn.{Psn}
 use Rattle.sequence.proofs.Circle.{after-below}
 use Rattle.opcode.specs.Opcode.{lowClass, classOf}
@@ -19,17 +20,17 @@ use Rattle.header.proofs.Widths.{bth-fits, extension-fits}
 use Rattle.header.proofs.Writes.{both-fit}
 use Rattle.packet.specs.Packet.{padOf, packetLength}
 use Rattle.packet.proofs.Pads.{pad-small}
-use Rattle.pieces.specs.Pieces.{placeAt, pieceAt, partAt}
+use Rattle.pieces.specs.Pieces.{pmtuFits, placeAt, pieceAt, partAt}
 use Rattle.pieces.proofs.Counting.{pmtus, pmtu-bounds}
 use Rattle.pieces.proofs.Cuts.{at-most}
-use Rattle.segment.specs.Message.{carries, carried, carriedLength, messageLength, packetsOf}
-use Rattle.segment.specs.Cut.{lowFor, bthAt, sizeAt, headerAt, payloadAt, unserved, cutRefusal}
-use Rattle.segment.specs.Claims.{Carrier, Cuttable, Sound}
+use Rattle.segment.specs.Message.{carries, carried, carriedLength, messageLength, messageLimit, packetsOf}
+use Rattle.segment.specs.Cut.{lowFor, bthAt, sizeAt, headerAt, payloadAt, unserved, cutUnfit, cutRefusal}
+use Rattle.segment.specs.Claims.{Carrier, InLimit, Fit, Sound}
 use Rattle.segment.specs.declared.Connection.{Connection}
 use Rattle.segment.specs.declared.Request.{Request}
-use Rattle.segment.proofs.Bounds.{passed, passes, place-bound, low-bound, service-small}
+use Rattle.segment.proofs.Bounds.{place-bound, low-bound, service-small}
 use Rattle.segment.proofs.Steps.{part-carried, span-inside}
-use Rattle.segment.proofs.Shapes.{shape, carrier, widths, cut-one, carries-carrier, carrier-carries, class-is}
+use Rattle.segment.proofs.Shapes.{shape, carrier, widths, carries-carrier, carrier-carries, in-limit, limit-in, class-is}
 
 -- a request carries bytes, or it does not
 decide : (r : Request) → Carrier r ⊎ (Carrier r → ⊥)
@@ -51,19 +52,17 @@ unfolding otherService
 known s r (inl z) = le-ltb 1 s (omega arith)
 known s r (inr z) = le-ltb 1 s (omega (arith, z .0))
 
-pub not-refused : (c : Connection) (r : Request) (n psn i : ℕ) → Cuttable c r n psn → i < packetsOf r n (c .pmtu)
-    → cutRefusal c r n psn i ≡ 0
-not-refused c r n psn i K h =
-    passes c r n psn i
-    (record {
-      pmtu = pmtus (c .pmtu) .1 (K .pmtu);
-      service = known (c .service) r (K .service);
-      dest = K .dest;
-      first = K .first;
-      served = served (carries r) (c .service) r refl (K .service);
-      limit = K .limit;
-      index = h;
-    })
+-- the test of numbers, both ways
+pub fits : (c : Connection) (r : Request) (psn : ℕ) → Fit c r psn → cutUnfit c (carries r) psn ≡ false
+unfolding cutUnfit
+fits c r psn F =
+    rw (
+      pmtus (c .pmtu) .1 (F .pmtu),
+      known (c .service) r (F .service),
+      lt-leb space (c .dest) (F .dest),
+      lt-leb space psn (F .first),
+      served (carries r) (c .service) r refl (F .service),
+    )
 
 serves : (own : Bool) (s : ℕ) (r : Request) → carries r ≡ own → s ≤ 1 → unserved own s ≡ false
     → (s ≡ 0) ⊎ ((s ≡ 1) × Carrier r)
@@ -75,19 +74,54 @@ serves true s r e l h = go (eqb s 0) refl
     go false q = inr (omega (arith, eqb-false s 0 q), carries-carrier r e)
 serves false s r e l h = inl (omega (arith, eqb-false s 1 h))
 
-pub was-cuttable : (c : Connection) (r : Request) (n psn i : ℕ) → cutRefusal c r n psn i ≡ 0
-    → Cuttable c r n psn × (i < packetsOf r n (c .pmtu))
-was-cuttable c r n psn i e =
-    let P = passed c r n psn i e in (
-      record {
-        pmtu = pmtus (c .pmtu) .0 (P .pmtu);
-        service = serves (carries r) (c .service) r refl (service-small (c .service) (P .service)) (P .served);
-        dest = P .dest;
-        first = P .first;
-        limit = P .limit;
-      },
-      P .index,
-    )
+pub fit : (c : Connection) (r : Request) (psn : ℕ) → cutUnfit c (carries r) psn ≡ false → Fit c r psn
+unfolding cutUnfit
+fit c r psn e =
+    go (pmtuFits (c .pmtu)) (otherService (c .service)) (leb space (c .dest)) (leb space psn) (unserved (carries r) (c .service)) refl refl refl refl refl e
+  where
+    go : (x1 x2 x3 x4 x5 : Bool) → pmtuFits (c .pmtu) ≡ x1 → otherService (c .service) ≡ x2 → leb space (c .dest) ≡ x3
+        → leb space psn ≡ x4
+        → unserved (carries r) (c .service) ≡ x5
+        → (not x1 || (x2 || (x3 || (x4 || x5)))) ≡ false
+        → Fit c r psn
+    go false x2 x3 x4 x5 a b d f g z = absurd (true≢false z)
+    go true true x3 x4 x5 a b d f g z = absurd (true≢false z)
+    go true false true x4 x5 a b d f g z = absurd (true≢false z)
+    go true false false true x5 a b d f g z = absurd (true≢false z)
+    go true false false false true a b d f g z = absurd (true≢false z)
+    go true false false false false a b d f g z =
+        record {
+          pmtu = pmtus (c .pmtu) .0 a;
+          service = serves (carries r) (c .service) r refl (service-small (c .service) b) g;
+          dest = leb-false space (c .dest) d;
+          first = leb-false space psn f;
+        }
+
+-- the refusals before the output is looked at
+module _ (c : Connection) (r : Request) (n psn i : ℕ) where
+  pub refused-39 : (Fit c r psn → ⊥) → cutRefusal c r n psn i ≡ 39
+  unfolding cutRefusal
+  refused-39 h = go (cutUnfit c (carries r) psn) refl
+    where
+      go : (b : Bool) → cutUnfit c (carries r) psn ≡ b
+          → _≡_ {A = ℕ} (cond b 39 (cond (ltb messageLimit (messageLength r n)) 34 (cond (leb (packetsOf r n (c .pmtu)) i) 34 0))) 39
+      go true e = refl
+      go false e = absurd (h (fit c r psn e))
+
+  pub refused-34 : Fit c r psn → (InLimit r n → ⊥) ⊎ (packetsOf r n (c .pmtu) ≤ i) → cutRefusal c r n psn i ≡ 34
+  unfolding cutRefusal
+  refused-34 F h = rw (fits c r psn F) (go (ltb messageLimit (messageLength r n)) refl h)
+    where
+      go : (b : Bool) → ltb messageLimit (messageLength r n) ≡ b → (InLimit r n → ⊥) ⊎ (packetsOf r n (c .pmtu) ≤ i)
+          → _≡_ {A = ℕ} (cond b 34 (cond (leb (packetsOf r n (c .pmtu)) i) 34 0)) 34
+      go true e k = refl
+      go false e (inl k) = absurd (k (limit-in r n (ltb-false messageLimit (messageLength r n) e)))
+      go false e (inr k) = rw (le-leb (packetsOf r n (c .pmtu)) i k)
+
+  pub not-refused : Fit c r psn → InLimit r n → i < packetsOf r n (c .pmtu) → cutRefusal c r n psn i ≡ 0
+  unfolding cutRefusal
+  not-refused F l h =
+      rw (fits c r psn F, le-ltb messageLimit (messageLength r n) (in-limit r n l), lt-leb (packetsOf r n (c .pmtu)) i h)
 
 -- the payload is as long as the numbers say
 pub size-is : (c : Connection) (r : Request) (d : List ℕ) (i : ℕ) → sizeAt r (length d) (c .pmtu) i ≡ length (payloadAt c r d i)
@@ -114,7 +148,7 @@ module _ (c : Connection) (r : Request) (n : ℕ) (first : Psn) (i : ℕ) where
   low-small = omega (arith, low-bound r (placeAt count i) (place-bound count i))
 
   -- the class of its opcode
-  pub class-low : Cuttable c r n (first .0) → classOf (headerAt c r n first i .bth .opcode) ≡ lowClass (lowFor r (placeAt (packetsOf r n (c .pmtu)) i))
+  pub class-low : Fit c r (first .0) → classOf (headerAt c r n first i .bth .opcode) ≡ lowClass (lowFor r (placeAt (packetsOf r n (c .pmtu)) i))
   unfolding low count headerAt bthAt
   class-low K = class-is (c .service) low low-small (go (K .service))
     where
@@ -122,7 +156,7 @@ module _ (c : Connection) (r : Request) (n : ℕ) (first : Psn) (i : ℕ) where
       go (inl z) = inl z
       go (inr z) = inr (z .0, carrier r 0 count i (z .1) .few)
 
-  opcode-small : Cuttable c r n (first .0) → headerAt c r n first i .bth .opcode < 64
+  opcode-small : Fit c r (first .0) → headerAt c r n first i .bth .opcode < 64
   unfolding headerAt bthAt low count
   opcode-small K =
       let s : c .service ≤ 1 = service-small (c .service) (known (c .service) r (K .service)) in
@@ -132,17 +166,17 @@ module _ (c : Connection) (r : Request) (n : ℕ) (first : Psn) (i : ℕ) where
   unfolding headerAt bthAt
   bth-widths S =
       record {
-        opcode = opcode-small (S .cuttable);
+        opcode = opcode-small (S .fit);
         pad = pad-small (sizeAt r n (c .pmtu) i);
         tver = refl;
         pkey = S .pkey;
         reserved8 = omega arith;
-        dest = S .cuttable .dest;
+        dest = S .fit .dest;
         reserved7 = omega arith;
         psn = after-below first i;
       }
 
-  follows : Cuttable c r n (first .0)
+  follows : Fit c r (first .0)
       → classOf (headerAt c r n first i .bth .opcode) .follows ≡ followsBy (headerAt c r n first i .extension)
   unfolding headerAt
   follows K = ap (λ k. k .follows) (class-low K) ∙ shape r (messageLength r n) (packetsOf r n (c .pmtu)) i .follows
@@ -152,8 +186,8 @@ module _ (c : Connection) (r : Request) (n : ℕ) (first : Psn) (i : ℕ) where
   header-fits S =
       both-fit (headerAt c r n first i)
       (bth-fits (headerAt c r n first i .bth) (bth-widths S))
-      (extension-fits (classOf (headerAt c r n first i .bth .opcode) .follows) (headerAt c r n first i .extension) (follows (S .cuttable))
-      (widths r (messageLength r n) (packetsOf r n (c .pmtu)) i (S .widths) (S .cuttable .limit)))
+      (extension-fits (classOf (headerAt c r n first i .bth .opcode) .follows) (headerAt c r n first i .extension) (follows (S .fit))
+      (widths r (messageLength r n) (packetsOf r n (c .pmtu)) i (S .widths) (in-limit r n (S .limit))))
 
 -- the packet is no longer than the longest
 rounded : (n : ℕ) → n ≤ 4096 → n + padOf n ≤ 4096
@@ -164,10 +198,18 @@ pad-none : (n : ℕ) → n ≡ 0 → padOf n ≡ 0
 unfolding padOf
 pad-none n e = omega arith
 
-none-carried : (c : Connection) (r : Request) (d : List ℕ) (i : ℕ) → (Carrier r → ⊥) → length (payloadAt c r d i) ≡ 0
+nothing : (r : Request) (d : List ℕ) → (Carrier r → ⊥) → carried r d ≡ []
+unfolding carried
+nothing r d h = go (carries r) refl
+  where
+    go : (b : Bool) → carries r ≡ b → cond b d [] ≡ []
+    go true e = absurd (h (carries-carrier r e))
+    go false e = refl
+
+pub none-carried : (c : Connection) (r : Request) (d : List ℕ) (i : ℕ) → (Carrier r → ⊥) → length (payloadAt c r d i) ≡ 0
 unfolding payloadAt pieceAt
 none-carried c r d i h =
-    let e : carried r d ≡ [] = cut-one r d (c .pmtu) h .1 in
+    let e : carried r d ≡ [] = nothing r d h in
     let m : min (c .pmtu) (0 - i * c .pmtu) ≡ 0 = omega arith in
     length-take (c .pmtu) (drop (i * c .pmtu) (carried r d))
     ∙ (ap (min (c .pmtu)) (length-drop (i * c .pmtu) (carried r d) ∙ ap (λ x. length x - i * c .pmtu) e) ∙ m)
@@ -193,7 +235,7 @@ packet-short c r d first i S = go (decide r)
         → headerLength (headerAt c r (length d) first i) + (length (payloadAt c r d i) + padOf (length (payloadAt c r d i))) ≤ 4128
     go (inl k) =
         let l = length-is (headerAt c r (length d) first i) (header-fits c r (length d) first i S) in
-        let b = pmtu-bounds (c .pmtu) (pmtus (c .pmtu) .1 (S .cuttable .pmtu)) in
+        let b = pmtu-bounds (c .pmtu) (pmtus (c .pmtu) .1 (S .fit .pmtu)) in
         sum (headerLength (headerAt c r (length d) first i)) (length (payloadAt c r d i)) 32
         (omega (arith, l, extension-short c r (length d) first i k)) (omega (arith, b .1, payload-most c r d i)) (omega arith)
     go (inr k) =

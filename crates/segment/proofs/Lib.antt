@@ -5,3 +5,4 @@ pub mod Fits
 pub mod Whole
 pub mod Numbers
 pub mod Answers
+pub mod Worked

@@ -1,10 +1,10 @@
 -- What the headers of a cut say: class, AckReq, extension headers, numbers.
-use Prim.Native.Nat.{ℕ, zero, suc, _+_}
+use Prim.Native.Nat.{ℕ, zero, suc, _+_, _≤_, _<_}
 use mathlib.Core.Path.{_≡_, refl, sym, ap, _∙_}
 use mathlib.Core.Bool.{Bool, true, false, cond, _||_}
 use native.Mathlib.Omega.{arith}
 use lib.Dec.{eqb}
-use borrow.Author.Tests.{eq-eqb, ne-eqb}
+use borrow.Author.Tests.{eq-eqb, ne-eqb, eqb-true, eqb-false}
 use Rattle.sequence.specs.Sequence.{psnAfter}
 use Rattle.sequence.specs.declared.Psn.{Psn}
 use Rattle.sequence.proofs.Circle.{after-none, after-after}
@@ -12,9 +12,10 @@ use Rattle.opcode.specs.Opcode.{placeOf, lowClass, classOf}
 use Rattle.pieces.specs.Pieces.{pieces, placeAt}
 use Rattle.pieces.proofs.Cuts.{places}
 use Rattle.segment.specs.Message.{carries, carriedLength, messageLength, packetsOf}
-use Rattle.segment.specs.Next.{numbersOf, nextPsn}
+use Rattle.segment.specs.Next.{psnsOf, nextPsn}
 use Rattle.segment.specs.Cut.{ends, starts, lowFor, sendExtension, rethFor, writeExtension, writeEnd, writeImmediateExtension, fetchAddEth, extensionFor, bthAt, headerAt}
-use Rattle.segment.specs.Claims.{CutMarked, CutExtended, PsnFirst, PsnNext, NextMessage, NextOthers}
+use Rattle.segment.specs.Claims.{CutMarked, CutExtended}
+use Rattle.segment.specs.Numbers.{PsnFirst, PsnNext, NextMessage, NextOthers}
 use Rattle.segment.specs.declared.Request.{Request}
 use Rattle.segment.specs.declared.Request.the-variants.{Send, SendImmediate, Write, WriteImmediate, Read, CmpSwap, FetchAdd}
 use Rattle.segment.proofs.Bounds.{place-bound, low-bound}
@@ -64,16 +65,33 @@ unfolding ends
 last-ends count zero h = rw (places count .only (sym h))
 last-ends count (suc i) h = rw (places count .last (suc i) (omega arith) h)
 
+more-not : (count i : ℕ) → suc i < count → ends (placeAt count i) ≡ false
+unfolding ends
+more-not count zero h = rw (places count .first h)
+more-not count (suc i) h = rw (places count .middle (suc i) (omega arith) h)
+
+later : (count i : ℕ) → 0 < i → suc i ≤ count → starts (placeAt count i) ≡ false
+unfolding starts
+later count i g h = go (eqb (suc i) count) refl
+  where
+    go : (b : Bool) → eqb (suc i) count ≡ b → (eqb (placeAt count i) 0 || eqb (placeAt count i) 4) ≡ false
+    go true e = rw (places count .last i g (eqb-true (suc i) count e))
+    go false e = rw (places count .middle i g (omega (arith, eqb-false (suc i) count e)))
+
 pub cut-extended : CutExtended
 unfolding headerAt extensionFor sendExtension writeExtension writeEnd writeImmediateExtension packetsOf carriedLength carries messageLength ends starts rethFor fetchAddEth
 cut-extended c t v n first =
     let P = places (pieces n (c .pmtu)) in
     record {
+      send = λ i. refl;
+      send-more = λ i h. rw (more-not (pieces n (c .pmtu)) i h);
+      send-last = λ i h. rw (last-ends (pieces n (c .pmtu)) i h);
       write = rw (begins (pieces n (c .pmtu)));
+      write-more = λ i g h. rw (later (pieces n (c .pmtu)) i g h);
       write-first = λ h. rw (P .first h);
       write-only = λ h. rw (P .only h);
+      write-middle = λ i g h. rw (P .middle i g h);
       write-last = λ i g h. rw (P .last i g h);
-      send-last = λ i h. rw (last-ends (pieces n (c .pmtu)) i h);
       read = λ a. refl;
       cmp-swap = λ a. refl;
       fetch-add = λ w. refl;
@@ -94,7 +112,7 @@ follows first i m e =
     ap (psnAfter first) q ∙ sym (after-after first i 1)
 
 pub next-message : NextMessage
-unfolding nextPsn numbersOf packetsOf carriedLength messageLength carries headerAt bthAt
+unfolding nextPsn psnsOf packetsOf carriedLength messageLength carries headerAt bthAt
 next-message c Send n first i k e = follows first i (pieces n (c .pmtu)) e
 next-message c (SendImmediate v) n first i k e = follows first i (pieces n (c .pmtu)) e
 next-message c (Write t) n first i k e = follows first i (pieces n (c .pmtu)) e
@@ -104,5 +122,5 @@ next-message c (CmpSwap a) n first i k e = absurd k
 next-message c (FetchAdd t v) n first i k e = absurd k
 
 pub next-others : NextOthers
-unfolding nextPsn numbersOf messageLength pieces
+unfolding nextPsn psnsOf messageLength pieces
 next-others n pmtu first = record { read = λ a. refl; cmp-swap = λ a. refl; fetch-add = λ t v. refl }

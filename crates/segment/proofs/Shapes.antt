@@ -11,9 +11,9 @@ use Rattle.opcode.specs.Opcode.{serviceOf, lowOf, kindOf, placeIn, placeOf, sen
 use Rattle.header.specs.Write.{followsBy, extensionBytes, rethBytes}
 use Rattle.header.specs.Claims.{RethWidths, Widths}
 use Rattle.pieces.specs.Pieces.{pieces, placeAt}
-use Rattle.segment.specs.Message.{carries, carried, carriedLength, packetsOf, messageLimit}
+use Rattle.segment.specs.Message.{carries, carriedLength, packetsOf, messageLength, messageLimit}
 use Rattle.segment.specs.Cut.{ends, starts, withImmediate, lowFor, sendExtension, rethFor, writeExtension, writeEnd, writeImmediateExtension, fetchAddEth, extensionFor}
-use Rattle.segment.specs.Claims.{Carrier, TargetWidths, RequestWidths, CutOne, kindNumber}
+use Rattle.segment.specs.Claims.{Carrier, TargetWidths, RequestWidths, InLimit, CutOne, kindNumber}
 use Rattle.segment.specs.declared.Target.{Target}
 use Rattle.segment.specs.declared.Request.{Request}
 use Rattle.segment.specs.declared.Request.the-variants.{Send, SendImmediate, Write, WriteImmediate, Read, CmpSwap, FetchAdd}
@@ -81,14 +81,14 @@ widths (FetchAdd t v) m count i w h =
 
 -- a READ or atomic request: one packet, with nothing in it
 pub cut-one : CutOne
-unfolding packetsOf carriedLength carried carries pieces
-cut-one Send d p h = absurd (h tt)
-cut-one (SendImmediate v) d p h = absurd (h tt)
-cut-one (Write t) d p h = absurd (h tt)
-cut-one (WriteImmediate t v) d p h = absurd (h tt)
-cut-one (Read a) d p h = (refl, refl)
-cut-one (CmpSwap a) d p h = (refl, refl)
-cut-one (FetchAdd t v) d p h = (refl, refl)
+unfolding packetsOf carriedLength carries pieces
+cut-one Send n p h = absurd (h tt)
+cut-one (SendImmediate v) n p h = absurd (h tt)
+cut-one (Write t) n p h = absurd (h tt)
+cut-one (WriteImmediate t v) n p h = absurd (h tt)
+cut-one (Read a) n p h = refl
+cut-one (CmpSwap a) n p h = refl
+cut-one (FetchAdd t v) n p h = refl
 
 -- the test is the list of requests
 pub carries-carrier : (r : Request) → carries r ≡ true → Carrier r
@@ -110,6 +110,27 @@ carrier-carries (WriteImmediate t v) h = refl
 carrier-carries (Read a) h = absurd h
 carrier-carries (CmpSwap a) h = absurd h
 carrier-carries (FetchAdd t v) h = absurd h
+
+-- so is the limit
+pub in-limit : (r : Request) (n : ℕ) → InLimit r n → messageLength r n ≤ messageLimit
+unfolding messageLength
+in-limit Send n h = h
+in-limit (SendImmediate v) n h = h
+in-limit (Write t) n h = h
+in-limit (WriteImmediate t v) n h = h
+in-limit (Read a) n h = h
+in-limit (CmpSwap a) n h = omega arith
+in-limit (FetchAdd t v) n h = omega arith
+
+pub limit-in : (r : Request) (n : ℕ) → messageLength r n ≤ messageLimit → InLimit r n
+unfolding messageLength
+limit-in Send n h = h
+limit-in (SendImmediate v) n h = h
+limit-in (Write t) n h = h
+limit-in (WriteImmediate t v) n h = h
+limit-in (Read a) n h = h
+limit-in (CmpSwap a) n h = tt
+limit-in (FetchAdd t v) n h = tt
 
 -- the opcode of a service that has the request, by its low five bits
 pub service-is : (s low : ℕ) → low < 32 → serviceOf (s * 32 + low) ≡ s

@@ -12,6 +12,7 @@ use Rattle.laws.proofs.Tests.{not-false, cond-le}
 use Rattle.sequence.specs.Sequence.{space}
 use Rattle.sequence.specs.declared.Psn.{Psn}
 use Rattle.header.specs.Read.{otherService}
+use Rattle.header.specs.Write.{answerBy}
 use Rattle.header.specs.declared.Bth.{Bth}
 use Rattle.header.specs.declared.Extension.{Extension}
 use Rattle.header.specs.declared.Header.{Header}
@@ -22,7 +23,7 @@ use Rattle.pieces.specs.Pieces.{pmtuFits, pieces, placeAt, pieceAt, partAt}
 use Rattle.pieces.specs.declared.Span.{Span}
 use Rattle.pieces.proofs.Cuts.{parts}
 use Rattle.segment.specs.Message.{carries, carried, carriedLength, messageLength, messageLimit, packetsOf, lengthRefusal}
-use Rattle.segment.specs.Cut.{unserved, numbersUnfit, cutRefusal, lowFor, extensionFor, bthAt, sizeAt, headerAt, payloadAt, cutWritten, cutOut}
+use Rattle.segment.specs.Cut.{unserved, cutUnfit, cutRefusal, lowFor, extensionFor, bthAt, sizeAt, headerAt, payloadAt, cutBytes, cutAnswer, cutWritten, cutOut}
 use Rattle.segment.specs.declared.Connection.{Connection}
 use Rattle.segment.specs.declared.Request.{Request}
 use Rattle.segment.proofs.Bounds.{Passed, passed, pieces-bound, index-small, service-small, low-bound}
@@ -46,8 +47,8 @@ count-passed n pmtu code count e z p =
 -- the last of the tests on numbers: whether the service has the request
 pub unfit-last : (c : Connection) (own : Bool) (psn : ℕ) (u o w : Bool) → u ≡ not (pmtuFits (c .pmtu)) → u ≡ false
     → o ≡ otherService (c .service) → o ≡ false → c .dest < space → psn < space → w ≡ unserved own (c .service)
-    → w ≡ numbersUnfit c own psn
-unfolding numbersUnfit
+    → w ≡ cutUnfit c own psn
+unfolding cutUnfit
 unfit-last c own psn u o w e f g h d p q =
     rw (not-false (pmtuFits (c .pmtu)) u e f, sym g ∙ h, lt-leb space (c .dest) d, lt-leb space psn p) q
 
@@ -64,8 +65,8 @@ module _ (c : Connection) (r : Request) (n : ℕ) (first : Psn) (i : ℕ) (e : c
   bth-numbers place low p q =
       (service-small (c .service) (P .service), (subst (λ x. x ≤ 20) (sym q) (low-bound r place p), omega (arith, index-small c r n (first .0) i P)))
 
-  pub length-small : (whole : ℕ) → whole ≡ messageLength r n → whole ≤ 1048576
-  length-small whole q = subst (λ x. x ≤ 1048576) (sym q) (P .limit)
+  pub length-small : (whole : ℕ) → whole ≡ messageLength r n → whole ≤ messageLimit
+  length-small whole q = subst (λ x. x ≤ messageLimit) (sym q) (P .limit)
 
 pub header-is : (c : Connection) (r : Request) (n : ℕ) (first : Psn) (i own count place low whole : ℕ) (span : Span) (bth : Bth) (x : Extension)
     → own ≡ carriedLength r n → count ≡ pieces own (c .pmtu) → place ≡ placeAt count i → span ≡ partAt own (c .pmtu) i
@@ -80,7 +81,7 @@ header-is c r n first i own count place low whole span bth x o k p s l b w y =
 pub refused : (c : Connection) (r : Request) (d out : List ℕ) (first : Psn) (i code : ℕ)
     → code ≡ cutRefusal c r (length d) (first .0) i → (code ≡ 0 → ⊥)
     → (Refused code ≡ cutWritten c r d first i (length out)) × (out ≡ cutOut c r d first i out)
-unfolding cutWritten cutOut
+unfolding cutWritten cutOut cutAnswer answerBy
 refused c r d out first i code e n = (simp (← e, ne-eqb code 0 n), simp (← e, ne-eqb code 0 n))
 
 pub length-carried : (r : Request) (d : List ℕ) → length (carried r d) ≡ carriedLength r (length d)
@@ -129,7 +130,7 @@ pub whole : (c : Connection) (r : Request) (d out : List ℕ) (first : Psn) (i c
     → a ≡ packetWritten h (length (partOf d span)) (length out)
     → w ≡ packetOut h (partOf d span) out
     → (a ≡ cutWritten c r d first i (length out)) × (w ≡ cutOut c r d first i out)
-unfolding cutWritten cutOut payloadAt
+unfolding cutWritten cutOut cutAnswer cutBytes payloadAt packetWritten packetOut
 whole c r d out first i code own h span a w e z k o s x y =
     let p : partOf d span ≡ pieceAt (carried r d) (c .pmtu) i =
     ap (partOf d) (s ∙ ap (λ n. partAt n (c .pmtu) i) o) ∙ part-carried r d (c .pmtu) i in

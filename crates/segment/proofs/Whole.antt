@@ -1,36 +1,37 @@
 -- Cut packets: written, read back, admitted, and joined to the message again.
 use Prim.Native.Nat.{ℕ, zero, suc, _+_, _*_, _≤_, _<_}
 use mathlib.Core.Path.{_≡_, refl, sym, ap, subst, _∙_}
-use mathlib.Core.Bool.{Bool, true, false, cond}
-use mathlib.Core.List.{List, _++_}
+use mathlib.Core.Bool.{true}
+use mathlib.Core.List.{List, [], _∷_, _++_}
 use mathlib.Core.Logic.{_⊎_, inl, inr}
 use native.Mathlib.Omega.{arith}
-use lib.Dec.{eqb}
 use lib.ListN.{length, drop}
-use borrow.Author.Tests.{eqb-true}
+use borrow.Author.Tests.{ne-eqb}
 use Rattle.sequence.specs.declared.Psn.{Psn}
 use Rattle.opcode.specs.Opcode.{lowOf}
-use Rattle.header.specs.Write.{headerFits}
+use Rattle.header.specs.Write.{headerFits, answerBy}
 use Rattle.header.specs.declared.Header.{Header}
-use Rattle.header.specs.declared.Answer.the-variants.{Done, Refused}
+use Rattle.header.specs.declared.Answer.the-variants.{Done}
 use Rattle.header.proofs.Checks.{admits}
-use Rattle.packet.specs.Packet.{padOf, packetBytes, packetLength, packetWritten, payloadOf}
+use Rattle.header.proofs.Writes.{number-by}
+use Rattle.packet.specs.Packet.{padOf, packetLength, packetAnswer, payloadOf}
 use Rattle.packet.specs.Claims.{Found}
-use Rattle.packet.proofs.Bytes.{length-packet, yes, no}
-use Rattle.packet.proofs.ReadBack.{found, none, lacking}
+use Rattle.packet.proofs.Bytes.{length-packet}
+use Rattle.packet.proofs.ReadBack.{found, none}
+use Rattle.packet.proofs.Refusals.{lacking}
 use Rattle.pieces.specs.Pieces.{pieces, placeAt, pieceAt, joined}
 use Rattle.pieces.proofs.Counting.{pmtus, pmtu-bounds}
 use Rattle.pieces.proofs.Cuts.{joins, full, rest, at-most}
 use Rattle.segment.specs.Message.{carried, carriedLength, packetsOf}
-use Rattle.segment.specs.Cut.{lowFor, bthAt, headerAt, payloadAt, cutBytes, cutRefusal, cutWritten, cutOut}
-use Rattle.segment.specs.Claims.{Carrier, Cuttable, Sound, Cuts, CutShort, CutsOnly, CutReads, CutAdmitted, CutJoins, CutFull, CutLast}
+use Rattle.segment.specs.Cut.{lowFor, bthAt, headerAt, payloadAt, cutBytes, cutRefusal, cutAnswer, cutWritten, cutOut}
+use Rattle.segment.specs.Claims.{Carrier, Fit, Sound, Refuses, CutUnfit, CutOver, CutShort, Cuts, CutNumbers, CutReads, CutAdmitted, CutJoins, CutFull, CutLast, CutEmpty}
 use Rattle.segment.specs.declared.Connection.{Connection}
 use Rattle.segment.specs.declared.Request.{Request}
 use Rattle.segment.specs.declared.Request.the-variants.{Send, SendImmediate, Write, WriteImmediate, Read, CmpSwap, FetchAdd}
 use Rattle.segment.proofs.Bounds.{place-bound, immediate-bound, low-bound}
 use Rattle.segment.proofs.Steps.{length-carried}
 use Rattle.segment.proofs.Shapes.{carrier, carrier-carries, service-is, low-is}
-use Rattle.segment.proofs.Fits.{not-refused, was-cuttable, size-is, header-fits, packet-short}
+use Rattle.segment.proofs.Fits.{refused-39, refused-34, not-refused, none-carried, size-is, header-fits, packet-short}
 
 -- what holds of packet i of a sound message
 module _ (c : Connection) (r : Request) (d : List ℕ) (first : Psn) (i : ℕ) (S : Sound c r (length d) (first .0)) where
@@ -57,48 +58,71 @@ module _ (c : Connection) (r : Request) (d : List ℕ) (first : Psn) (i : ℕ) (
   unfolding cutBytes h
   reads = found (headerAt c r (length d) first i) (payloadAt c r d i) good pad short
 
-  module _ (l : i < packetsOf r (length d) (c .pmtu)) (out : List ℕ) where
-    through : cutRefusal c r (length d) (first .0) i ≡ 0
-    through = not-refused c r (length d) (first .0) i (S .cuttable) l
+-- the answer and the output, by the answer's number
+module _ (c : Connection) (r : Request) (d : List ℕ) (first : Psn) (i : ℕ) (out : List ℕ) where
+  refuses : (k : ℕ) → cutAnswer c r d first i (length out) ≡ k → (k ≡ 0 → ⊥) → Refuses c r d first i out k
+  unfolding cutWritten cutOut answerBy
+  refuses k e n = record { answer = rw (e, ne-eqb k 0 n); output = rw (e, ne-eqb k 0 n) }
 
-    pub writes : length (cutBytes c r d first i) ≤ length out
-        → (cutWritten c r d first i (length out) ≡ Done (length (cutBytes c r d first i)))
-        × (cutOut c r d first i out ≡ cutBytes c r d first i ++ drop (length (cutBytes c r d first i)) out)
-    unfolding cutWritten cutOut cutBytes h
-    writes room =
-        let e = none h (length (payloadAt c r d i)) (length out) good pad short (omega (arith, size)) in
-        let Y = yes h (payloadAt c r d i) out e in (
-          rw through (Y .0 ∙ ap Done (sym size)),
-          rw through (Y .1 ∙ ap (λ n. packetBytes h (payloadAt c r d i) ++ drop n out) (sym size)),
-        )
+  early : (k : ℕ) → cutRefusal c r (length d) (first .0) i ≡ k → (k ≡ 0 → ⊥) → cutAnswer c r d first i (length out) ≡ k
+  unfolding cutAnswer
+  early k e n = rw (e, ne-eqb k 0 n)
 
-    pub lacks : length out < length (cutBytes c r d first i)
-        → (cutWritten c r d first i (length out) ≡ Refused 35) × (cutOut c r d first i out ≡ out)
-    unfolding cutWritten cutOut h
-    lacks room =
-        let e = lacking h (length (payloadAt c r d i)) (length out) good pad short (omega (arith, size)) in
-        let N = no h (payloadAt c r d i) out 35 (sym e) (λ z. omega arith) in
-        (rw through (sym (N .0)), rw through (sym (N .1)))
+  late : cutRefusal c r (length d) (first .0) i ≡ 0
+      → cutAnswer c r d first i (length out) ≡ packetAnswer (headerAt c r (length d) first i) (length (payloadAt c r d i)) (length out)
+  unfolding cutAnswer
+  late e = rw e
 
-pub cuts : Cuts
-cuts c r d first i out S l room = writes c r d first i S l out room
+pub cut-unfit : CutUnfit
+cut-unfit c r d first i out h =
+    let n : _≡_ {A = ℕ} 39 0 → ⊥ = λ z. omega arith in
+    refuses c r d first i out 39 (early c r d first i out 39 (refused-39 c r (length d) (first .0) i h) n) n
+
+pub cut-over : CutOver
+cut-over c r d first i out F h =
+    let n : _≡_ {A = ℕ} 34 0 → ⊥ = λ z. omega arith in
+    refuses c r d first i out 34 (early c r d first i out 34 (refused-34 c r (length d) (first .0) i F h) n) n
+
+through : (c : Connection) (r : Request) (d : List ℕ) (first : Psn) (i : ℕ) → Sound c r (length d) (first .0)
+    → i < packetsOf r (length d) (c .pmtu) → cutRefusal c r (length d) (first .0) i ≡ 0
+through c r d first i S l = not-refused c r (length d) (first .0) i (S .fit) (S .limit) l
 
 pub cut-short : CutShort
-cut-short c r d first i out S l room = lacks c r d first i S l out room
+unfolding h
+cut-short c r d first i out S l room =
+    let H = headerAt c r (length d) first i in
+    let n : _≡_ {A = ℕ} 35 0 → ⊥ = λ z. omega arith in
+    let e = lacking H (length (payloadAt c r d i)) (length out) (good c r d first i S) (pad c r d first i S) (short c r d first i S) (subst (λ k. length out < k) (size c r d first i S) room) in
+    refuses c r d first i out 35 (late c r d first i out (through c r d first i S l) ∙ e) n
+
+written : (c : Connection) (r : Request) (d : List ℕ) (first : Psn) (i : ℕ) (out : List ℕ) (m : ℕ)
+    → packetLength (headerAt c r (length d) first i) (length (payloadAt c r d i)) ≡ m
+    → cutAnswer c r d first i (length out) ≡ 0
+    → (cutWritten c r d first i (length out) ≡ Done m) × (cutOut c r d first i out ≡ cutBytes c r d first i ++ drop m out)
+unfolding cutWritten cutOut answerBy
+written c r d first i out m p e = (rw (e, p), rw (e, p))
+
+pub cuts : Cuts
+unfolding h
+cuts c r d first i out S l room =
+    let H = headerAt c r (length d) first i in
+    let s : length (cutBytes c r d first i) ≡ packetLength H (length (payloadAt c r d i)) = size c r d first i S in
+    let e = none H (length (payloadAt c r d i)) (length out) (good c r d first i S) (pad c r d first i S) (short c r d first i S) (subst (λ k. k ≤ length out) s room) in
+    written c r d first i out (length (cutBytes c r d first i)) (sym s) (late c r d first i out (through c r d first i S l) ∙ e)
+
+pub cut-numbers : CutNumbers
+unfolding cutWritten
+cut-numbers c r d first i room = number-by (cutAnswer c r d first i room) (packetLength (headerAt c r (length d) first i) (length (payloadAt c r d i)))
 
 pub cut-reads : CutReads
 cut-reads c r d first i S l = reads c r d first i S
 
--- nothing else
-pub cuts-only : CutsOnly
-unfolding cutWritten
-cuts-only c r d first i room k e = go (eqb (cutRefusal c r (length d) (first .0) i) 0) refl e
+pub cut-empty : CutEmpty
+cut-empty c r d first i k S = reads c r d first i S .payload ∙ empty (payloadAt c r d i) (none-carried c r d i k)
   where
-    go : (b : Bool) → eqb (cutRefusal c r (length d) (first .0) i) 0 ≡ b
-        → cond b (packetWritten (headerAt c r (length d) first i) (length (payloadAt c r d i)) room) (Refused (cutRefusal c r (length d) (first .0) i)) ≡ Done k
-        → Cuttable c r (length d) (first .0) × (i < packetsOf r (length d) (c .pmtu))
-    go true q z = was-cuttable c r (length d) (first .0) i (eqb-true (cutRefusal c r (length d) (first .0) i) 0 q)
-    go false q z = let w : _≡_ {A = ℕ} 0 1 = cc in absurd (omega arith)
+    empty : (x : List ℕ) → length x ≡ 0 → x ≡ []
+    empty [] e = refl
+    empty (y ∷ x) e = absurd (omega arith)
 
 -- the message again
 same-joined : (f g : ℕ → List ℕ) → ((i : ℕ) → f i ≡ g i) → (i k : ℕ) → joined f i k ≡ joined g i k
@@ -110,8 +134,8 @@ carried-all : (r : Request) (d : List ℕ) → Carrier r → carried r d ≡ d
 unfolding carried
 carried-all r d k = rw (carrier-carries r k)
 
-positive : (c : Connection) (r : Request) (n psn : ℕ) → Cuttable c r n psn → 0 < c .pmtu
-positive c r n psn K = omega (arith, pmtu-bounds (c .pmtu) (pmtus (c .pmtu) .1 (K .pmtu)) .0)
+positive : (c : Connection) (r : Request) (psn : ℕ) → Fit c r psn → 0 < c .pmtu
+positive c r psn K = omega (arith, pmtu-bounds (c .pmtu) (pmtus (c .pmtu) .1 (K .pmtu)) .0)
 
 pub cut-joins : CutJoins
 unfolding packetsOf payloadAt
@@ -120,7 +144,7 @@ cut-joins c r d first k S =
     let n : carriedLength r (length d) ≡ length (carried r d) = sym (length-carried r d) in
     same-joined (λ i. payloadOf (cutBytes c r d first i)) (pieceAt (carried r d) (c .pmtu)) (λ i. reads c r d first i S .payload) 0 (pieces (carriedLength r (length d)) (c .pmtu))
     ∙ (ap (λ m. joined (pieceAt (carried r d) (c .pmtu)) 0 (pieces m (c .pmtu))) n
-    ∙ (joins (carried r d) (c .pmtu) (positive c r (length d) (first .0) (S .cuttable)) ∙ e))
+    ∙ (joins (carried r d) (c .pmtu) (positive c r (first .0) (S .fit)) ∙ e))
 
 -- sizes
 pub cut-full : CutFull
@@ -128,14 +152,14 @@ unfolding packetsOf payloadAt
 cut-full c r d first i S l =
     let n : carriedLength r (length d) ≡ length (carried r d) = sym (length-carried r d) in
     ap length (reads c r d first i S .payload)
-    ∙ full (carried r d) (c .pmtu) i (positive c r (length d) (first .0) (S .cuttable)) (subst (λ m. suc i < pieces m (c .pmtu)) n l) .0
+    ∙ full (carried r d) (c .pmtu) i (positive c r (first .0) (S .fit)) (subst (λ m. suc i < pieces m (c .pmtu)) n l) .0
 
 pub cut-last : CutLast
 unfolding packetsOf payloadAt
 cut-last c r d first i S l =
     let n : carriedLength r (length d) ≡ length (carried r d) = sym (length-carried r d) in
     let p : length (payloadOf (cutBytes c r d first i)) ≡ length (pieceAt (carried r d) (c .pmtu) i) = ap length (reads c r d first i S .payload) in
-    let R = rest (carried r d) (c .pmtu) i (positive c r (length d) (first .0) (S .cuttable)) (l ∙ ap (λ m. pieces m (c .pmtu)) n) in (
+    let R = rest (carried r d) (c .pmtu) i (positive c r (first .0) (S .fit)) (l ∙ ap (λ m. pieces m (c .pmtu)) n) in (
       omega (arith, p, at-most (carried r d) (c .pmtu) i),
       λ g. omega (arith, p, R .1 g),
     )
@@ -161,7 +185,7 @@ cut-admitted c r d first i pkey S l m =
     admits (c .service) (c .dest) pkey (cutBytes c r d first i) (headerAt c r (length d) first i) (reads c r d first i S .header)
     (service-is (c .service) low b) refl m
     (subst (λ x. (x < 13) ⊎ (18 < x)) (sym o) (requests r p (place-bound (packetsOf r (length d) (c .pmtu)) i)))
-    (λ e. subst (λ x. x < 12) (sym o) (uc (S .cuttable .service) e))
+    (λ e. subst (λ x. x < 12) (sym o) (uc (S .fit .service) e))
   where
     uc : (c .service ≡ 0) ⊎ ((c .service ≡ 1) × Carrier r) → c .service ≡ 1 → lowFor r (placeAt (packetsOf r (length d) (c .pmtu)) i) < 12
     uc (inl z) e = absurd (omega arith)

@@ -2,10 +2,9 @@
 use Prim.Native.Nat.{ℕ, suc, _+_, _^_, _≤_, _<_}
 use mathlib.Core.Path.{_≡_}
 use mathlib.Core.Bool.{true, false}
-use mathlib.Core.List.{List, [], _++_}
+use mathlib.Core.List.{List, [], _∷_, _++_}
 use mathlib.Core.Logic.{_⊎_}
 use lib.ListN.{length, drop}
-use Rattle.sequence.specs.Sequence.{psnAfter}
 use Rattle.sequence.specs.declared.Psn.{Psn}
 use Rattle.opcode.specs.Opcode.{classOf, serviceOf}
 use Rattle.header.specs.Check.{pkeysMatch, admitted}
@@ -13,23 +12,22 @@ use Rattle.header.specs.Write.{answerNumber}
 use Rattle.header.specs.Claims.{RethWidths, Widths}
 use Rattle.header.specs.declared.Reth.{Reth}
 use Rattle.header.specs.declared.AtomicEth.{AtomicEth}
-use Rattle.header.specs.declared.Extension.the-variants.{Remote, RemoteImmediate, Immediate, Atomic}
+use Rattle.header.specs.declared.Extension.the-variants.{Bare, Remote, RemoteImmediate, Immediate, Atomic}
 use Rattle.header.specs.declared.HeaderRead.the-variants.{Accepted}
 use Rattle.header.specs.declared.Answer.the-variants.{Done, Refused}
-use Rattle.packet.specs.Packet.{padOf, payloadOf}
+use Rattle.packet.specs.Packet.{payloadOf}
 use Rattle.packet.specs.Claims.{Found}
 use Rattle.pieces.specs.Pieces.{pieces, placeAt, joined}
 use Rattle.pieces.specs.Claims.{IsPmtu}
-use Rattle.segment.specs.Message.{carried, messageLength, packetsOf, lengthRefusal, packetsAnswer, responsesAnswer}
-use Rattle.segment.specs.Next.{nextPsn, nextRefusal, nextAnswer, followingNumber}
-use Rattle.segment.specs.Cut.{headerAt, sizeAt, payloadAt, cutBytes, cutWritten, cutOut}
+use Rattle.segment.specs.Message.{messageLength, packetsOf, lengthRefusal, packetsAnswer, responsesAnswer}
+use Rattle.segment.specs.Cut.{headerAt, sizeAt, payloadAt, cutBytes, cutAnswer, cutWritten, cutOut}
 use Rattle.segment.specs.declared.Connection.{Connection}
 use Rattle.segment.specs.declared.Target.{Target}
 use Rattle.segment.specs.declared.Request.{Request}
-use Rattle.segment.specs.declared.Following.the-variants.{Next}
 use Rattle.segment.specs.declared.Request.the-variants.{Send, SendImmediate, Write, WriteImmediate, Read, CmpSwap, FetchAdd}
 
--- the requests whose packets carry the message
+-- The requests whose packets carry the message, listed here once more and not by the definition under test; so are the
+-- limit, the kinds and the RETH below.
 abbrev pub Carrier : Request → Type 0
 Carrier Send = Unit {0}
 Carrier (SendImmediate v) = Unit {0}
@@ -38,6 +36,15 @@ Carrier (WriteImmediate t v) = Unit {0}
 Carrier (Read a) = ⊥
 Carrier (CmpSwap a) = ⊥
 Carrier (FetchAdd t v) = ⊥
+
+abbrev pub InLimit : Request → ℕ → Type 0
+InLimit Send n = n ≤ 1048576
+InLimit (SendImmediate v) n = n ≤ 1048576
+InLimit (Write t) n = n ≤ 1048576
+InLimit (WriteImmediate t v) n = n ≤ 1048576
+InLimit (Read a) n = a .length ≤ 1048576
+InLimit (CmpSwap a) n = Unit {0}
+InLimit (FetchAdd t v) n = Unit {0}
 
 -- each number within the width of its type
 abbrev pub TargetWidths : Target → Type 0
@@ -52,21 +59,45 @@ RequestWidths (Read a) = RethWidths a
 RequestWidths (CmpSwap a) = Widths (Atomic a)
 RequestWidths (FetchAdd t v) = TargetWidths t × (v < 2 ^ 64)
 
--- a message of n bytes that can be cut, from the number psn on: in plain inequalities
-pub record Cuttable (c : Connection) (r : Request) (n psn : ℕ) : Type 0 where
+-- a PMTU, a service that has the request, numbers of 24 bits
+pub record Fit (c : Connection) (r : Request) (psn : ℕ) : Type 0 where
   pub pmtu : IsPmtu (c .pmtu)
   pub service : (c .service ≡ 0) ⊎ ((c .service ≡ 1) × Carrier r)
   pub dest : c .dest < 2 ^ 24
   pub first : psn < 2 ^ 24
-  pub limit : messageLength r n ≤ 1048576
 
--- and whose numbers are within their types
+-- a message of n bytes that can be cut, all its numbers within their types
 pub record Sound (c : Connection) (r : Request) (n psn : ℕ) : Type 0 where
-  pub cuttable : Cuttable c r n psn
+  pub fit : Fit c r psn
+  pub limit : InLimit r n
   pub pkey : c .pkey < 2 ^ 16
   pub widths : RequestWidths r
 
--- Each packet of such a message is written if there is room for it, and nothing is if there is not.
+-- a refusal: its number is the answer, and the output stays as it was
+pub record Refuses (c : Connection) (r : Request) (d : List ℕ) (first : Psn) (i : ℕ) (out : List ℕ) (number : ℕ) : Type 0 where
+  pub answer : cutWritten c r d first i (length out) ≡ Refused number
+  pub output : cutOut c r d first i out ≡ out
+
+-- 39 comes first, whatever else is wrong; then 34, whatever the output is.
+abbrev pub CutUnfit : Type 0
+CutUnfit =
+    (c : Connection) (r : Request) (d : List ℕ) (first : Psn) (i : ℕ) (out : List ℕ) → (Fit c r (first .0) → ⊥)
+    → Refuses c r d first i out 39
+
+abbrev pub CutOver : Type 0
+CutOver =
+    (c : Connection) (r : Request) (d : List ℕ) (first : Psn) (i : ℕ) (out : List ℕ) → Fit c r (first .0)
+    → (InLimit r (length d) → ⊥) ⊎ (packetsOf r (length d) (c .pmtu) ≤ i)
+    → Refuses c r d first i out 34
+
+-- Each packet of a sound message is refused with 35 if there is no room for it, and is written if there is.
+abbrev pub CutShort : Type 0
+CutShort =
+    (c : Connection) (r : Request) (d : List ℕ) (first : Psn) (i : ℕ) (out : List ℕ) → Sound c r (length d) (first .0)
+    → i < packetsOf r (length d) (c .pmtu)
+    → length out < length (cutBytes c r d first i)
+    → Refuses c r d first i out 35
+
 abbrev pub Cuts : Type 0
 Cuts =
     (c : Connection) (r : Request) (d : List ℕ) (first : Psn) (i : ℕ) (out : List ℕ) → Sound c r (length d) (first .0)
@@ -75,18 +106,11 @@ Cuts =
     → (cutWritten c r d first i (length out) ≡ Done (length (cutBytes c r d first i)))
     × (cutOut c r d first i out ≡ cutBytes c r d first i ++ drop (length (cutBytes c r d first i)) out)
 
-abbrev pub CutShort : Type 0
-CutShort =
-    (c : Connection) (r : Request) (d : List ℕ) (first : Psn) (i : ℕ) (out : List ℕ) → Sound c r (length d) (first .0)
-    → i < packetsOf r (length d) (c .pmtu)
-    → length out < length (cutBytes c r d first i)
-    → (cutWritten c r d first i (length out) ≡ Refused 35) × (cutOut c r d first i out ≡ out)
-
--- Nothing else is written.
-abbrev pub CutsOnly : Type 0
-CutsOnly =
-    (c : Connection) (r : Request) (d : List ℕ) (first : Psn) (i room k : ℕ) → cutWritten c r d first i room ≡ Done k
-    → Cuttable c r (length d) (first .0) × (i < packetsOf r (length d) (c .pmtu))
+-- The number of an answer.
+abbrev pub CutNumbers : Type 0
+CutNumbers =
+    (c : Connection) (r : Request) (d : List ℕ) (first : Psn) (i room : ℕ)
+    → answerNumber (cutWritten c r d first i room) ≡ cutAnswer c r d first i room
 
 -- Reading a cut packet finds its header and its payload.
 abbrev pub CutReads : Type 0
@@ -124,8 +148,12 @@ CutLast =
 
 -- A READ or atomic request is one packet and carries nothing.
 abbrev pub CutOne : Type 0
-CutOne =
-    (r : Request) (d : List ℕ) (pmtu : ℕ) → (Carrier r → ⊥) → (packetsOf r (length d) pmtu ≡ 1) × (carried r d ≡ [])
+CutOne = (r : Request) (n pmtu : ℕ) → (Carrier r → ⊥) → packetsOf r n pmtu ≡ 1
+
+abbrev pub CutEmpty : Type 0
+CutEmpty =
+    (c : Connection) (r : Request) (d : List ℕ) (first : Psn) (i : ℕ) → (Carrier r → ⊥) → Sound c r (length d) (first .0)
+    → payloadOf (cutBytes c r d first i) ≡ []
 
 -- the kinds, by the numbers of their classes
 abbrev pub kindNumber : Request → ℕ
@@ -152,20 +180,25 @@ pub record Marked (c : Connection) (r : Request) (n : ℕ) (first : Psn) (i : �
 
 abbrev pub CutMarked : Type 0
 CutMarked =
-    (c : Connection) (r : Request) (n : ℕ) (first : Psn) (i : ℕ) → Cuttable c r n (first .0)
+    (c : Connection) (r : Request) (n : ℕ) (first : Psn) (i : ℕ) → Fit c r (first .0)
     → i < packetsOf r n (c .pmtu)
     → Marked c r n first i
 
--- A WRITE begins with its RETH, whose DMA length is the message's; an immediate stands on the last packet.
+-- A WRITE begins with its RETH, whose DMA length is the message's; an immediate stands on the last packet; no other
+-- packet of a SEND or WRITE has a header after the BTH.
 abbrev pub wholeReth : Target → ℕ → Reth
 wholeReth t n = record { address = t .address; key = t .key; length = n }
 
 pub record Extended (c : Connection) (t : Target) (v n : ℕ) (first : Psn) : Type 0 where
+  pub send : (i : ℕ) → headerAt c Send n first i .extension ≡ Bare
+  pub send-more : (i : ℕ) → suc i < pieces n (c .pmtu) → headerAt c (SendImmediate v) n first i .extension ≡ Bare
+  pub send-last : (i : ℕ) → suc i ≡ pieces n (c .pmtu) → headerAt c (SendImmediate v) n first i .extension ≡ Immediate v
   pub write : headerAt c (Write t) n first 0 .extension ≡ Remote (wholeReth t n)
+  pub write-more : (i : ℕ) → 0 < i → suc i ≤ pieces n (c .pmtu) → headerAt c (Write t) n first i .extension ≡ Bare
   pub write-first : 1 < pieces n (c .pmtu) → headerAt c (WriteImmediate t v) n first 0 .extension ≡ Remote (wholeReth t n)
   pub write-only : pieces n (c .pmtu) ≡ 1 → headerAt c (WriteImmediate t v) n first 0 .extension ≡ RemoteImmediate (wholeReth t n) v
+  pub write-middle : (i : ℕ) → 0 < i → suc i < pieces n (c .pmtu) → headerAt c (WriteImmediate t v) n first i .extension ≡ Bare
   pub write-last : (i : ℕ) → 0 < i → suc i ≡ pieces n (c .pmtu) → headerAt c (WriteImmediate t v) n first i .extension ≡ Immediate v
-  pub send-last : (i : ℕ) → suc i ≡ pieces n (c .pmtu) → headerAt c (SendImmediate v) n first i .extension ≡ Immediate v
   pub read : (a : Reth) → headerAt c (Read a) n first 0 .extension ≡ Remote a
   pub cmp-swap : (a : AtomicEth) → headerAt c (CmpSwap a) n first 0 .extension ≡ Atomic a
   pub fetch-add : (w : ℕ) → headerAt c (FetchAdd t w) n first 0 .extension ≡ Atomic (record { address = t .address; key = t .key; swap = w; compare = 0 })
@@ -173,72 +206,38 @@ pub record Extended (c : Connection) (t : Target) (v n : ℕ) (first : Psn) : Ty
 abbrev pub CutExtended : Type 0
 CutExtended = (c : Connection) (t : Target) (v n : ℕ) (first : Psn) → Extended c t v n first
 
--- PSNs are consecutive from the first; the next message goes on behind the last packet, but after a READ behind its
--- responses.
-abbrev pub PsnFirst : Type 0
-PsnFirst = (c : Connection) (r : Request) (n : ℕ) (first : Psn) → first .0 < 2 ^ 24 → headerAt c r n first 0 .bth .psn ≡ first
+-- The counts: 39 without a PMTU, then 34 over the limit, else the count.
+pub record Counted (r : Request) (n pmtu : ℕ) : Type 0 where
+  pub unfit : (IsPmtu pmtu → ⊥) → (packetsAnswer r n pmtu ≡ Refused 39) × (responsesAnswer n pmtu ≡ Refused 39)
+  pub over : IsPmtu pmtu → (InLimit r n → ⊥) → packetsAnswer r n pmtu ≡ Refused 34
+  pub packets : IsPmtu pmtu → InLimit r n → packetsAnswer r n pmtu ≡ Done (packetsOf r n pmtu)
+  pub long : IsPmtu pmtu → 1048576 < n → responsesAnswer n pmtu ≡ Refused 34
+  pub responses : IsPmtu pmtu → n ≤ 1048576 → responsesAnswer n pmtu ≡ Done (pieces n pmtu)
 
-abbrev pub PsnNext : Type 0
-PsnNext =
-    (c : Connection) (r : Request) (n : ℕ) (first : Psn) (i : ℕ)
-    → headerAt c r n first (suc i) .bth .psn ≡ psnAfter (headerAt c r n first i .bth .psn) 1
+abbrev pub Counts : Type 0
+Counts = (r : Request) (n pmtu : ℕ) → Counted r n pmtu
 
-abbrev pub NextMessage : Type 0
-NextMessage =
-    (c : Connection) (r : Request) (n : ℕ) (first : Psn) (i : ℕ) → Carrier r → suc i ≡ packetsOf r n (c .pmtu)
-    → nextPsn r n (c .pmtu) first ≡ psnAfter (headerAt c r n first i .bth .psn) 1
-
-pub record Skips (n pmtu : ℕ) (first : Psn) : Type 0 where
-  pub read : (a : Reth) → nextPsn (Read a) n pmtu first ≡ psnAfter first (pieces (a .length) pmtu)
-  pub cmp-swap : (a : AtomicEth) → nextPsn (CmpSwap a) n pmtu first ≡ psnAfter first 1
-  pub fetch-add : (t : Target) (v : ℕ) → nextPsn (FetchAdd t v) n pmtu first ≡ psnAfter first 1
-
-abbrev pub NextOthers : Type 0
-NextOthers = (n pmtu : ℕ) (first : Psn) → Skips n pmtu first
-
--- The counts and the next PSN are answered for every PMTU, number and length within the limits, and for no other.
-pub record Within (r : Request) (n pmtu psn : ℕ) : Type 0 where
-  pub pmtu-is : IsPmtu pmtu
-  pub first : psn < 2 ^ 24
-  pub limit : messageLength r n ≤ 1048576
-
-abbrev pub CountsAnswered : Type 0
-CountsAnswered =
-    (r : Request) (n pmtu : ℕ) → IsPmtu pmtu
-    → (messageLength r n ≤ 1048576 → packetsAnswer r n pmtu ≡ Done (packetsOf r n pmtu))
-    × (n ≤ 1048576 → responsesAnswer n pmtu ≡ Done (pieces n pmtu))
-
-abbrev pub NextAnswered : Type 0
-NextAnswered =
-    (r : Request) (n pmtu : ℕ) (first : Psn) → Within r n pmtu (first .0)
-    → nextAnswer r n pmtu first ≡ Next (nextPsn r n pmtu first)
-
-abbrev pub AnsweredOnly : Type 0
-AnsweredOnly =
-    (r : Request) (n pmtu k : ℕ) (first p : Psn)
-    → (packetsAnswer r n pmtu ≡ Done k → IsPmtu pmtu × (messageLength r n ≤ 1048576))
-    × (responsesAnswer n pmtu ≡ Done k → IsPmtu pmtu × (n ≤ 1048576))
-    × (nextAnswer r n pmtu first ≡ Next p → Within r n pmtu (first .0))
-
--- The numbers of the answers.
 abbrev pub CountNumbers : Type 0
 CountNumbers =
     (r : Request) (n pmtu : ℕ) → (answerNumber (packetsAnswer r n pmtu) ≡ lengthRefusal (messageLength r n) pmtu)
     × (answerNumber (responsesAnswer n pmtu) ≡ lengthRefusal n pmtu)
 
-abbrev pub NextNumbers : Type 0
-NextNumbers =
-    (r : Request) (n pmtu : ℕ) (first : Psn)
-    → followingNumber (nextAnswer r n pmtu first) ≡ nextRefusal (messageLength r n) pmtu (first .0)
-
 -- Worked examples: no bytes, one packet, an Only; 256 and 257 bytes at PMTU 256; a READ of 1,025 bytes at PSN 24; the
--- longest message at the smallest PMTU.
-abbrev pub readOf : ℕ → Request
-readOf n = Read (record { address = 0; key = 0; length = n })
+-- longest message at the smallest PMTU; and a packet, byte for byte.
+abbrev pub example : Connection
+example = record { service = 0; pmtu = 256; pkey = 65535; dest = 18 }
+
+abbrev pub at : ℕ → Psn
+at n = record { 0 = n }
+
+abbrev pub abc : List ℕ
+abc = 97 ∷ 98 ∷ 99 ∷ []
 
 pub record Worked : Type 0 where
-  pub empty : (packetsOf Send 0 256 ≡ 1) × (placeAt (packetsOf Send 0 256) 0 ≡ 4)
-  pub full : packetsOf Send 256 256 ≡ 1
-  pub one-more : (packetsOf Send 257 256 ≡ 2) × (sizeAt Send 257 256 1 ≡ 1) × (padOf (sizeAt Send 257 256 1) ≡ 3)
-  pub read : (pieces 1025 256 ≡ 5) × (nextPsn (readOf 1025) 0 256 (record { 0 = 24 }) ≡ record { 0 = 29 })
-  pub longest : packetsOf Send 1048576 256 ≡ 4096
+  pub empty : (packetsAnswer Send 0 256 ≡ Done 1) × (classOf (headerAt example Send 0 (at 0) 0 .bth .opcode) .place ≡ 4)
+  pub full : packetsAnswer Send 256 256 ≡ Done 1
+  pub one-more : (packetsAnswer Send 257 256 ≡ Done 2) × (sizeAt Send 257 256 1 ≡ 1) × (headerAt example Send 257 (at 0) 1 .bth .pad ≡ 3)
+  pub read : responsesAnswer 1025 256 ≡ Done 5
+  pub longest : packetsAnswer Send 1048576 256 ≡ Done 4096
+  pub packet : cutBytes example Send abc (at 7) 0 ≡ 4 ∷ 16 ∷ 255 ∷ 255 ∷ 0 ∷ 0 ∷ 0 ∷ 18 ∷ 128 ∷ 0 ∷ 0 ∷ 7 ∷ 97 ∷ 98 ∷ 99 ∷ 0 ∷ []
+  pub written : cutWritten example Send abc (at 7) 0 16 ≡ Done 16

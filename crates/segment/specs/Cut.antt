@@ -1,12 +1,13 @@
 -- Packet i of a message.
 use Prim.Native.Nat.{ℕ, _+_, _-_, _*_}
 use mathlib.Core.Bool.{Bool, false, cond, not, _&&_, _||_}
-use mathlib.Core.List.{List}
+use mathlib.Core.List.{List, _++_}
 use lib.Dec.{leb, ltb, eqb}
-use lib.ListN.{length}
+use lib.ListN.{length, drop}
 use Rattle.sequence.specs.Sequence.{space, psnAfter}
 use Rattle.sequence.specs.declared.Psn.{Psn}
 use Rattle.header.specs.Read.{otherService}
+use Rattle.header.specs.Write.{answerBy}
 use Rattle.header.specs.declared.Bth.{Bth}
 use Rattle.header.specs.declared.Reth.{Reth}
 use Rattle.header.specs.declared.AtomicEth.{AtomicEth}
@@ -14,8 +15,7 @@ use Rattle.header.specs.declared.Extension.{Extension}
 use Rattle.header.specs.declared.Extension.the-variants.{Bare, Remote, RemoteImmediate, Immediate, Atomic}
 use Rattle.header.specs.declared.Header.{Header}
 use Rattle.header.specs.declared.Answer.{Answer}
-use Rattle.header.specs.declared.Answer.the-variants.{Refused}
-use Rattle.packet.specs.Packet.{padOf, packetBytes, packetWritten, packetOut}
+use Rattle.packet.specs.Packet.{padOf, packetBytes, packetLength, packetAnswer}
 use Rattle.pieces.specs.Pieces.{pmtuFits, placeAt, pieceAt, partAt}
 use Rattle.segment.specs.Message.{carries, carried, carriedLength, messageLength, messageLimit, packetsOf}
 use Rattle.segment.specs.declared.Connection.{Connection}
@@ -116,30 +116,36 @@ cutBytes c r d first i = packetBytes (headerAt c r (length d) first i) (payloadA
 
 -- READs and atomics, which carry no bytes, are not for UC
 unfoldable pub unserved : Bool → ℕ → Bool
-unserved own service = not own && eqb service 1
+unserved carrying service = not carrying && eqb service 1
 
--- The refusal of a cut, or 0. 39: no such PMTU, a service that is neither RC nor UC, a number over 24 bits, a READ or
--- atomic on UC; 34: a message over the limit, or no packet i in it. What is left, 35, is the packet writer's
-unfoldable pub numbersUnfit : Connection → Bool → ℕ → Bool
-numbersUnfit c own psn =
+-- no such PMTU, a service that is neither RC nor UC, a number over 24 bits, a READ or atomic on UC
+unfoldable pub cutUnfit : Connection → Bool → ℕ → Bool
+cutUnfit c carrying psn =
     not (pmtuFits (c .pmtu))
-    || (otherService (c .service) || (leb space (c .dest) || (leb space psn || unserved own (c .service))))
+    || (otherService (c .service) || (leb space (c .dest) || (leb space psn || unserved carrying (c .service))))
 
+-- the refusal of a cut before its output is looked at, or 0. 39: as above; 34: a message over the limit, or no packet i in it
 unfoldable pub cutRefusal : Connection → Request → ℕ → ℕ → ℕ → ℕ
 cutRefusal c r n psn i =
-    cond (numbersUnfit c (carries r) psn) 39
+    cond (cutUnfit c (carries r) psn) 39
     (cond (ltb messageLimit (messageLength r n)) 34
     (cond (leb (packetsOf r n (c .pmtu)) i) 34 0))
 
--- the answer, and the output: packet i as the packet writer answers and leaves it, or, refused, as it was
+-- the answer's number: that, or what the packet writer answers, which is 35 where the packet does not fit the output
+unfoldable pub cutAnswer : Connection → Request → List ℕ → Psn → ℕ → ℕ → ℕ
+cutAnswer c r d first i room =
+    cond (eqb (cutRefusal c r (length d) (first .0) i) 0)
+    (packetAnswer (headerAt c r (length d) first i) (length (payloadAt c r d i)) room)
+    (cutRefusal c r (length d) (first .0) i)
+
+-- the answer: with 0 the bytes written
 unfoldable pub cutWritten : Connection → Request → List ℕ → Psn → ℕ → ℕ → Answer
 cutWritten c r d first i room =
-    cond (eqb (cutRefusal c r (length d) (first .0) i) 0)
-    (packetWritten (headerAt c r (length d) first i) (length (payloadAt c r d i)) room)
-    (Refused (cutRefusal c r (length d) (first .0) i))
+    answerBy (cutAnswer c r d first i room) (packetLength (headerAt c r (length d) first i) (length (payloadAt c r d i)))
 
+-- the output: packet i and what stood behind it, or, refused, as it was
 unfoldable pub cutOut : Connection → Request → List ℕ → Psn → ℕ → List ℕ → List ℕ
 cutOut c r d first i out =
-    cond (eqb (cutRefusal c r (length d) (first .0) i) 0)
-    (packetOut (headerAt c r (length d) first i) (payloadAt c r d i) out)
+    cond (eqb (cutAnswer c r d first i (length out)) 0)
+    (cutBytes c r d first i ++ drop (packetLength (headerAt c r (length d) first i) (length (payloadAt c r d i))) out)
     out

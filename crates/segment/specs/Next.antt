@@ -11,11 +11,11 @@ use Rattle.segment.specs.declared.Following.{Following}
 use Rattle.segment.specs.declared.Following.the-variants.{Next, Refused}
 
 -- how many PSNs a message takes: one for each packet, but a READ as many as it has responses
-unfoldable pub numbersOf : Request → ℕ → ℕ → ℕ
-numbersOf r n pmtu = pieces (messageLength r n) pmtu
+unfoldable pub psnsOf : Request → ℕ → ℕ → ℕ
+psnsOf r n pmtu = pieces (messageLength r n) pmtu
 
 unfoldable pub nextPsn : Request → ℕ → ℕ → Psn → Psn
-nextPsn r n pmtu first = psnAfter first (numbersOf r n pmtu)
+nextPsn r n pmtu first = psnAfter first (psnsOf r n pmtu)
 
 -- the refusal, or 0. 39: a PSN over 24 bits, no such PMTU; 34: over the limit
 unfoldable pub nextRefusal : ℕ → ℕ → ℕ → ℕ

@@ -10,7 +10,7 @@ ghost use mathlib.Core.Path.{_≡_};
 ghost use lib.ListN.{length};
 ghost use Rattle.segment.specs.Message.{carries, carriedLength, messageLength, lengthRefusal, packetsAnswer, responsesAnswer};
 ghost use Rattle.segment.specs.Next.{nextAnswer};
-ghost use Rattle.segment.specs.Cut.{unserved, numbersUnfit, cutRefusal, headerAt, cutWritten, cutOut};
+ghost use Rattle.segment.specs.Cut.{unserved, cutUnfit, cutRefusal, headerAt, cutWritten, cutOut};
 
 // The longest message.
 pub const MESSAGE_LIMIT: usize = 1048576;
@@ -66,8 +66,8 @@ fn carries(request: Request) -> bool
 fn carried_length(request: Request, n: usize) -> usize
     ensures { λ r. ⌜ r ≡ carriedLength request n ⌝ }
 {
-    let own = carries(request);
-    if own {
+    let carrying = carries(request);
+    if carrying {
         return n;
     }
     0
@@ -111,8 +111,8 @@ pub fn packets(request: Request, n: usize, pmtu: usize) -> Answer
     if code != 0 {
         return Answer::Refused(code);
     }
-    let own = carried_length(request, n);
-    let count = pieces::count(own, pmtu);
+    let carried = carried_length(request, n);
+    let count = pieces::count(carried, pmtu);
     Answer::Done(count)
 }
 
@@ -146,21 +146,21 @@ pub fn next_psn(request: Request, n: usize, pmtu: usize, first: Psn) -> Followin
 }
 
 // Whether the service lacks the request: UC has those alone that carry bytes.
-fn unserved(own: bool, service: u8) -> bool
-    ensures { λ r. ⌜ r ≡ unserved own service ⌝ }
+fn unserved(carrying: bool, service: u8) -> bool
+    ensures { λ r. ⌜ r ≡ unserved carrying service ⌝ }
 {
-    if own {
+    if carrying {
         return false;
     }
     service == opcode::UC
 }
 
 // Whether a number is none that a packet can have, or the service has no such request.
-fn numbers_unfit(connection: Connection, own: bool, first: Psn) -> bool
-    ensures { λ r. ⌜ r ≡ numbersUnfit connection own (first .0) ⌝ }
+fn unfit(connection: Connection, carrying: bool, first: Psn) -> bool
+    ensures { λ r. ⌜ r ≡ cutUnfit connection carrying (first .0) ⌝ }
 {
-    let unfit = pieces::pmtu_unfit(connection.pmtu);
-    if unfit {
+    let uncut = pieces::pmtu_unfit(connection.pmtu);
+    if uncut {
         return true;
     }
     let other = header::other_service(connection.service);
@@ -173,16 +173,16 @@ fn numbers_unfit(connection: Connection, own: bool, first: Psn) -> bool
     if Psn::SPACE <= first.0 {
         return true;
     }
-    unserved(own, connection.service)
+    unserved(carrying, connection.service)
 }
 
 // Which refusal the cut gets before its output is looked at, or 0.
 fn refusal(connection: Connection, request: Request, n: usize, first: Psn, index: usize) -> u8
     ensures { λ r. ⌜ r ≡ cutRefusal connection request n (first .0) index ⌝ }
 {
-    let own = carries(request);
-    let unfit = numbers_unfit(connection, own, first);
-    if unfit {
+    let carrying = carries(request);
+    let bad = unfit(connection, carrying, first);
+    if bad {
         return 39;
     }
     let whole = message_length(request, n);
@@ -202,10 +202,10 @@ fn header_at(connection: Connection, request: Request, n: usize, first: Psn, ind
     requires { ⌜ cutRefusal connection request n (first .0) index ≡ 0 ⌝ }
     ensures { λ r. ⌜ r ≡ headerAt connection request n first index ⌝ }
 {
-    let own = carried_length(request, n);
-    let count = pieces::count(own, connection.pmtu);
+    let bytes = carried_length(request, n);
+    let count = pieces::count(bytes, connection.pmtu);
     let place = pieces::place(count, index);
-    let span = pieces::part(own, connection.pmtu, index);
+    let span = pieces::part(bytes, connection.pmtu, index);
     let low = shape::low_for(request, place);
     let bth = shape::bth_at(connection, low, first, index, count, span.end - span.start);
     let whole = message_length(request, n);

@@ -1,0 +1,59 @@
+-- What is proved of a message's numbers, each statement by a name; the proofs stand in proofs/.
+use Prim.Native.Nat.{ℕ, suc, _^_, _<_}
+use mathlib.Core.Path.{_≡_}
+use Rattle.sequence.specs.Sequence.{psnAfter}
+use Rattle.sequence.specs.declared.Psn.{Psn}
+use Rattle.header.specs.declared.Reth.{Reth}
+use Rattle.header.specs.declared.AtomicEth.{AtomicEth}
+use Rattle.pieces.specs.Pieces.{pieces}
+use Rattle.pieces.specs.Claims.{IsPmtu}
+use Rattle.segment.specs.Message.{messageLength, packetsOf}
+use Rattle.segment.specs.Next.{nextPsn, nextRefusal, nextAnswer, followingNumber}
+use Rattle.segment.specs.Cut.{headerAt}
+use Rattle.segment.specs.Claims.{Carrier, InLimit}
+use Rattle.segment.specs.declared.Connection.{Connection}
+use Rattle.segment.specs.declared.Target.{Target}
+use Rattle.segment.specs.declared.Request.{Request}
+use Rattle.segment.specs.declared.Request.the-variants.{Read, CmpSwap, FetchAdd}
+use Rattle.segment.specs.declared.Following.the-variants.{Next, Refused}
+
+-- PSNs are consecutive from the first; the next message goes on behind the last packet, but after a READ behind its
+-- responses.
+abbrev pub PsnFirst : Type 0
+PsnFirst = (c : Connection) (r : Request) (n : ℕ) (first : Psn) → first .0 < 2 ^ 24 → headerAt c r n first 0 .bth .psn ≡ first
+
+abbrev pub PsnNext : Type 0
+PsnNext =
+    (c : Connection) (r : Request) (n : ℕ) (first : Psn) (i : ℕ)
+    → headerAt c r n first (suc i) .bth .psn ≡ psnAfter (headerAt c r n first i .bth .psn) 1
+
+abbrev pub NextMessage : Type 0
+NextMessage =
+    (c : Connection) (r : Request) (n : ℕ) (first : Psn) (i : ℕ) → Carrier r → suc i ≡ packetsOf r n (c .pmtu)
+    → nextPsn r n (c .pmtu) first ≡ psnAfter (headerAt c r n first i .bth .psn) 1
+
+pub record Skips (n pmtu : ℕ) (first : Psn) : Type 0 where
+  pub read : (a : Reth) → nextPsn (Read a) n pmtu first ≡ psnAfter first (pieces (a .length) pmtu)
+  pub cmp-swap : (a : AtomicEth) → nextPsn (CmpSwap a) n pmtu first ≡ psnAfter first 1
+  pub fetch-add : (t : Target) (v : ℕ) → nextPsn (FetchAdd t v) n pmtu first ≡ psnAfter first 1
+
+abbrev pub NextOthers : Type 0
+NextOthers = (n pmtu : ℕ) (first : Psn) → Skips n pmtu first
+
+-- The answer: 39 without a PMTU or with a PSN over 24 bits, then 34 over the limit, else the PSN.
+pub record Followed (r : Request) (n pmtu : ℕ) (first : Psn) : Type 0 where
+  pub unfit : (IsPmtu pmtu × (first .0 < 2 ^ 24) → ⊥) → nextAnswer r n pmtu first ≡ Refused 39
+  pub over : IsPmtu pmtu → first .0 < 2 ^ 24 → (InLimit r n → ⊥) → nextAnswer r n pmtu first ≡ Refused 34
+  pub next : IsPmtu pmtu → first .0 < 2 ^ 24 → InLimit r n → nextAnswer r n pmtu first ≡ Next (nextPsn r n pmtu first)
+
+abbrev pub Follows : Type 0
+Follows = (r : Request) (n pmtu : ℕ) (first : Psn) → Followed r n pmtu first
+
+abbrev pub NextNumbers : Type 0
+NextNumbers =
+    (r : Request) (n pmtu : ℕ) (first : Psn)
+    → followingNumber (nextAnswer r n pmtu first) ≡ nextRefusal (messageLength r n) pmtu (first .0)
+
+-- A READ of 1,025 bytes at PMTU 256 and PSN 24: the next message has PSN 29.
+abbrev pub NextWorked : Type 0
+NextWorked = nextAnswer (Read (record { address = 0; key = 0; length = 1025 })) 0 256 (record { 0 = 24 }) ≡ Next (record { 0 = 29 })
