@@ -3,21 +3,27 @@ use crate::print::bytes_line;
 use crate::print::number;
 use crate::print::number_line;
 use crate::print::text;
+use crate::values;
 use header::Answer;
 use segment::Connection;
 use segment::Following;
 use segment::Request;
 use sequence::Psn;
 
-// The packet at the start of the output.
+// The packet at the start of the output, behind which nothing may have changed.
 fn show(out: &[u8], n: usize) {
     if n <= out.len() {
         bytes_line(&out[0..n]);
+    }
+    let kept = values::is_blank(out, n);
+    if !kept {
+        text(b"output spoiled\n");
     }
 }
 
 fn cut_one(connection: Connection, request: Request, message: &[u8], first: Psn, index: usize) {
     let mut out = io::large_buffer();
+    values::blank(&mut out);
     match segment::cut(connection, request, message, first, index, &mut out) {
         Answer::Done(n) => show(&out, n),
         Answer::Refused(code) => number_line(b"refused ", code as u64),

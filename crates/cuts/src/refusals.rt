@@ -9,28 +9,56 @@ use segment::Following;
 use segment::Request;
 use sequence::Psn;
 
-fn answer_line(a: Answer) {
+fn answer_line(words: &[u8], a: Answer) {
     match a {
-        Answer::Done(n) => number_line(b": ", n as u64),
+        Answer::Done(n) => number_line(words, n as u64),
         Answer::Refused(code) => number_line(b": refused ", code as u64),
     }
 }
 
 fn packets(n: usize, pmtu: usize) {
-    number(b"packets ", n as u64);
+    number(b"packets of SEND ", n as u64);
     number(b" at ", pmtu as u64);
-    answer_line(segment::packets(Request::Send, n, pmtu));
+    answer_line(b": ", segment::packets(Request::Send, n, pmtu));
+}
+
+fn packets_of_read(n: u32, pmtu: usize) {
+    number(b"packets of READ ", n as u64);
+    number(b" at ", pmtu as u64);
+    answer_line(b": ", segment::packets(values::read(n), 0, pmtu));
+}
+
+fn responses(n: usize, pmtu: usize) {
+    number(b"responses ", n as u64);
+    number(b" at ", pmtu as u64);
+    answer_line(b": ", segment::responses(n, pmtu));
+}
+
+fn next_line(pmtu: usize, first: u32, f: Following) {
+    number(b" at ", pmtu as u64);
+    number(b" from ", first as u64);
+    match f {
+        Following::Next(p) => number_line(b": ", p.0 as u64),
+        Following::Refused(code) => number_line(b": refused ", code as u64),
+    }
 }
 
 fn next_after_read(n: u32, pmtu: usize, first: u32) {
     number(b"next after READ ", n as u64);
-    number(b" at ", pmtu as u64);
-    number(b" from ", first as u64);
-    let request = values::read(n);
-    match segment::next_psn(request, 0, pmtu, Psn(first)) {
-        Following::Next(p) => number_line(b": ", p.0 as u64),
-        Following::Refused(code) => number_line(b": refused ", code as u64),
-    }
+    next_line(
+        pmtu,
+        first,
+        segment::next_psn(values::read(n), 0, pmtu, Psn(first)),
+    );
+}
+
+fn next_after_send(n: usize, pmtu: usize, first: u32) {
+    number(b"next after SEND ", n as u64);
+    next_line(
+        pmtu,
+        first,
+        segment::next_psn(Request::Send, n, pmtu, Psn(first)),
+    );
 }
 
 pub(crate) fn counts() {
@@ -44,6 +72,14 @@ pub(crate) fn counts() {
     packets(1048577, 256);
     packets(1, 300);
     packets(1048577, 0);
+    packets_of_read(1025, 256);
+    packets_of_read(1048577, 256);
+    responses(0, 256);
+    responses(1025, 256);
+    responses(1048576, 512);
+    responses(1048577, 256);
+    responses(1, 300);
+    responses(1048577, 8192);
     next_after_read(1025, 256, 24);
     next_after_read(0, 256, 16777215);
     next_after_read(1048576, 256, 16777215);
@@ -51,16 +87,47 @@ pub(crate) fn counts() {
     next_after_read(1, 256, 16777216);
     next_after_read(1048577, 256, 0);
     next_after_read(1048577, 256, 16777216);
+    next_after_send(1025, 256, 16777215);
+    next_after_send(1048577, 256, 0);
+    next_after_send(1048577, 256, 16777216);
 }
 
-fn done_line(a: Answer) {
-    match a {
-        Answer::Done(n) => number_line(b": done ", n as u64),
-        Answer::Refused(code) => number_line(b": refused ", code as u64),
+// The output from n on is as it was; else a line says so, which the stored output has not.
+fn rest_kept(out: &[u8], n: usize) {
+    let kept = values::is_blank(out, n);
+    if !kept {
+        text(b"output spoiled\n");
     }
 }
 
-// One call, with an output of room bytes.
+// One call, with an output of room bytes in a blank buffer.
+fn call(
+    connection: Connection,
+    request: Request,
+    message: &[u8],
+    first: Psn,
+    index: usize,
+    out: &mut [u8],
+    room: usize,
+) {
+    if out.len() < room {
+        return;
+    }
+    let a = segment::cut(
+        connection,
+        request,
+        message,
+        first,
+        index,
+        &mut out[0..room],
+    );
+    answer_line(b": done ", a);
+    match a {
+        Answer::Done(n) => rest_kept(out, n),
+        Answer::Refused(_) => rest_kept(out, 0),
+    }
+}
+
 fn case(
     name: &[u8],
     connection: Connection,
@@ -72,15 +139,24 @@ fn case(
 ) {
     text(name);
     let mut out = io::large_buffer();
-    if room <= out.len() {
-        done_line(segment::cut(
-            connection,
-            request,
-            message,
-            Psn(first),
-            index,
-            &mut out[0..room],
-        ));
+    values::blank(&mut out);
+    call(
+        connection,
+        request,
+        message,
+        Psn(first),
+        index,
+        &mut out,
+        room,
+    );
+}
+
+fn to(dest: u32) -> Connection {
+    Connection {
+        service: 0,
+        pmtu: 256,
+        pkey: 0x8001,
+        dest,
     }
 }
 
@@ -115,13 +191,24 @@ fn numbers(m: &[u8]) {
         0,
         4200,
     );
-    let far = Connection {
-        service: 0,
-        pmtu: 256,
-        pkey: 0x8001,
-        dest: 16777216,
-    };
-    case(b"DestQP 16777216", far, Request::Send, m, 0, 0, 4200);
+    case(
+        b"DestQP 16777215",
+        to(16777215),
+        Request::Send,
+        m,
+        0,
+        0,
+        4200,
+    );
+    case(
+        b"DestQP 16777216",
+        to(16777216),
+        Request::Send,
+        m,
+        0,
+        0,
+        4200,
+    );
     case(b"PSN 16777216", rc, Request::Send, m, 16777216, 0, 4200);
     case(
         b"service 2",
@@ -165,7 +252,17 @@ fn lengths(m: &[u8]) {
     );
     case(b"index 2", rc, Request::Send, m, 0, 2, 4200);
     case(b"index 3", rc, Request::Send, m, 0, 3, 4200);
+    case(
+        b"index 18446744073709551615",
+        rc,
+        Request::Send,
+        m,
+        0,
+        18446744073709551615,
+        4200,
+    );
     case(b"READ index 1", rc, values::read(513), m, 0, 1, 4200);
+    case(b"FETCH_ADD", rc, values::fetch_add(), m, 0, 0, 4200);
     case(b"FETCH_ADD index 1", rc, values::fetch_add(), m, 0, 1, 4200);
 }
 

@@ -74,3 +74,24 @@ pub(crate) fn fill(bytes: &mut [u8]) {
         i += 1;
     }
 }
+
+// An output is blank before a call, in a byte that no pad has.
+pub(crate) fn blank(out: &mut [u8]) {
+    let mut i = 0;
+    while i < out.len() {
+        out[i] = 0xee;
+        i += 1;
+    }
+}
+
+// Whether it still is from n on.
+pub(crate) fn is_blank(out: &[u8], n: usize) -> bool {
+    let mut i = n;
+    while i < out.len() {
+        if out[i] != 0xee {
+            return false;
+        }
+        i += 1;
+    }
+    true
+}
