@@ -61,8 +61,7 @@ fn next_after_send(n: usize, pmtu: usize, first: u32) {
     );
 }
 
-pub(crate) fn counts() {
-    text(b"counts\n");
+fn packet_counts() {
     packets(0, 256);
     packets(256, 256);
     packets(257, 256);
@@ -74,12 +73,18 @@ pub(crate) fn counts() {
     packets(1048577, 0);
     packets_of_read(1025, 256);
     packets_of_read(1048577, 256);
+}
+
+fn response_counts() {
     responses(0, 256);
     responses(1025, 256);
     responses(1048576, 512);
     responses(1048577, 256);
     responses(1, 300);
     responses(1048577, 8192);
+}
+
+fn next_psns() {
     next_after_read(1025, 256, 24);
     next_after_read(0, 256, 16777215);
     next_after_read(1048576, 256, 16777215);
@@ -90,6 +95,13 @@ pub(crate) fn counts() {
     next_after_send(1025, 256, 16777215);
     next_after_send(1048577, 256, 0);
     next_after_send(1048577, 256, 16777216);
+}
+
+pub(crate) fn counts() {
+    text(b"counts\n");
+    packet_counts();
+    response_counts();
+    next_psns();
 }
 
 // The output from n on is as it was; else a line says so, which the stored output has not.
@@ -160,10 +172,16 @@ fn to(dest: u32) -> Connection {
     }
 }
 
-// A call whose numbers are wrong, or not.
-fn numbers(m: &[u8]) {
-    let rc = values::connection(0, 256);
-    case(b"base", rc, Request::Send, m, 0, 0, 4200);
+fn pmtus(m: &[u8]) {
+    case(
+        b"base",
+        values::connection(0, 256),
+        Request::Send,
+        m,
+        0,
+        0,
+        4200,
+    );
     case(
         b"PMTU 0",
         values::connection(0, 0),
@@ -191,6 +209,9 @@ fn numbers(m: &[u8]) {
         0,
         4200,
     );
+}
+
+fn numbers(m: &[u8]) {
     case(
         b"DestQP 16777215",
         to(16777215),
@@ -209,10 +230,22 @@ fn numbers(m: &[u8]) {
         0,
         4200,
     );
+    let rc = values::connection(0, 256);
+    case(b"PSN 16777215", rc, Request::Send, m, 16777215, 0, 4200);
     case(b"PSN 16777216", rc, Request::Send, m, 16777216, 0, 4200);
+    case(b"PSN 4294967295", rc, Request::Send, m, 4294967295, 0, 4200);
     case(
         b"service 2",
         values::connection(2, 256),
+        Request::Send,
+        m,
+        0,
+        0,
+        4200,
+    );
+    case(
+        b"service 255",
+        values::connection(255, 256),
         Request::Send,
         m,
         0,
@@ -250,6 +283,10 @@ fn lengths(m: &[u8]) {
         0,
         4200,
     );
+}
+
+fn indices(m: &[u8]) {
+    let rc = values::connection(0, 256);
     case(b"index 2", rc, Request::Send, m, 0, 2, 4200);
     case(b"index 3", rc, Request::Send, m, 0, 3, 4200);
     case(
@@ -297,8 +334,10 @@ fn outputs(m: &[u8]) {
 pub(crate) fn list() {
     text(b"refusals\n");
     let bytes = io::large_buffer();
+    pmtus(&bytes[0..513]);
     numbers(&bytes[0..513]);
     services(&bytes[0..513]);
     lengths(&bytes[0..513]);
+    indices(&bytes[0..513]);
     outputs(&bytes[0..513]);
 }
