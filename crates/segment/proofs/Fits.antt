@@ -30,7 +30,7 @@ use Rattle.segment.specs.declared.Connection.{Connection}
 use Rattle.segment.specs.declared.Request.{Request}
 use Rattle.segment.proofs.Bounds.{place-bound, low-bound, service-small}
 use Rattle.segment.proofs.Steps.{part-carried, span-inside}
-use Rattle.segment.proofs.Shapes.{shape, carrier, widths, carries-carrier, carrier-carries, in-limit, limit-in, class-is}
+use Rattle.segment.proofs.Shapes.{shape, place-said, few, widths, carries-carrier, carrier-carries, in-limit, limit-in, class-is}
 
 -- a request carries bytes, or it does not
 decide : (r : Request) → Carrier r ⊎ (Carrier r → ⊥)
@@ -154,7 +154,7 @@ module _ (c : Connection) (r : Request) (n : ℕ) (first : Psn) (i : ℕ) where
     where
       go : (c .service ≡ 0) ⊎ ((c .service ≡ 1) × Carrier r) → (c .service ≡ 0) ⊎ ((c .service ≡ 1) × (low < 12))
       go (inl z) = inl z
-      go (inr z) = inr (z .0, carrier r 0 count i (z .1) .few)
+      go (inr z) = inr (z .0, place-said r count i (z .1) .1)
 
   opcode-small : Fit c r (first .0) → headerAt c r n first i .bth .opcode < 64
   unfolding headerAt bthAt low count
@@ -179,7 +179,7 @@ module _ (c : Connection) (r : Request) (n : ℕ) (first : Psn) (i : ℕ) where
   follows : Fit c r (first .0)
       → classOf (headerAt c r n first i .bth .opcode) .follows ≡ followsBy (headerAt c r n first i .extension)
   unfolding headerAt
-  follows K = ap (λ k. k .follows) (class-low K) ∙ shape r (messageLength r n) (packetsOf r n (c .pmtu)) i .follows
+  follows K = ap (λ k. k .follows) (class-low K) ∙ shape r (messageLength r n) (packetsOf r n (c .pmtu)) i .0
 
   pub header-fits : Sound c r n (first .0) → headerFits (headerAt c r n first i) ≡ true
   unfolding headerAt
@@ -217,7 +217,7 @@ none-carried c r d i h =
 extension-short : (c : Connection) (r : Request) (n : ℕ) (first : Psn) (i : ℕ) → Carrier r
     → 12 + length (extensionBytes (headerAt c r n first i .extension)) ≤ 32
 unfolding headerAt
-extension-short c r n first i k = carrier r (messageLength r n) (packetsOf r n (c .pmtu)) i k .short
+extension-short c r n first i k = few r (messageLength r n) (packetsOf r n (c .pmtu)) i k
 
 payload-most : (c : Connection) (r : Request) (d : List ℕ) (i : ℕ) → length (payloadAt c r d i) ≤ c .pmtu
 unfolding payloadAt

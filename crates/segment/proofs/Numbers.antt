@@ -19,17 +19,17 @@ use Rattle.segment.specs.Numbers.{PsnFirst, PsnNext, NextMessage, NextOt
 use Rattle.segment.specs.declared.Request.{Request}
 use Rattle.segment.specs.declared.Request.the-variants.{Send, SendImmediate, Write, WriteImmediate, Read, CmpSwap, FetchAdd}
 use Rattle.segment.proofs.Bounds.{place-bound, low-bound}
-use Rattle.segment.proofs.Shapes.{shape, carrier, service-is}
+use Rattle.segment.proofs.Shapes.{shape, place-said, service-is}
 use Rattle.segment.proofs.Fits.{class-low}
 
 -- the place that the opcode says; a READ or atomic request is an Only
 place-of : (r : Request) (n pmtu i : ℕ)
     → lowClass (lowFor r (placeAt (packetsOf r n pmtu) i)) .place ≡ placeAt (packetsOf r n pmtu) i
 unfolding lowClass placeOf lowFor packetsOf carriedLength carries pieces placeAt
-place-of Send n pmtu i = carrier Send 0 (packetsOf Send n pmtu) i tt .place-is
-place-of (SendImmediate v) n pmtu i = carrier (SendImmediate v) 0 (packetsOf (SendImmediate v) n pmtu) i tt .place-is
-place-of (Write t) n pmtu i = carrier (Write t) 0 (packetsOf (Write t) n pmtu) i tt .place-is
-place-of (WriteImmediate t v) n pmtu i = carrier (WriteImmediate t v) 0 (packetsOf (WriteImmediate t v) n pmtu) i tt .place-is
+place-of Send n pmtu i = place-said Send (packetsOf Send n pmtu) i tt .0
+place-of (SendImmediate v) n pmtu i = place-said (SendImmediate v) (packetsOf (SendImmediate v) n pmtu) i tt .0
+place-of (Write t) n pmtu i = place-said (Write t) (packetsOf (Write t) n pmtu) i tt .0
+place-of (WriteImmediate t v) n pmtu i = place-said (WriteImmediate t v) (packetsOf (WriteImmediate t v) n pmtu) i tt .0
 place-of (Read a) n pmtu i = refl
 place-of (CmpSwap a) n pmtu i = refl
 place-of (FetchAdd t v) n pmtu i = refl
@@ -41,7 +41,7 @@ cut-marked c r n first i K l =
     let k : classOf (headerAt c r n first i .bth .opcode) ≡ lowClass (lowFor r (placeAt count i)) = class-low c r n first i K in
     record {
       service = service-is (c .service) (lowFor r (placeAt count i)) (omega (arith, low-bound r (placeAt count i) (place-bound count i)));
-      kind = ap (λ x. x .kind) k ∙ shape r 0 count i .kind;
+      kind = ap (λ x. x .kind) k ∙ shape r 0 count i .1;
       place = ap (λ x. x .place) k ∙ place-of r n (c .pmtu) i;
       pkey = refl;
       dest = refl;

@@ -29,36 +29,47 @@ by-place P first middle last only count i = go (eqb count 1) (eqb i 0) (eqb (i +
     go false false true = last
     go false false false = middle
 
--- what a request's opcode and headers have in common, at a place
-pub record Shape (r : Request) (m place : ℕ) : Type 0 where
-  pub follows : lowClass (lowFor r place) .follows ≡ followsBy (extensionFor r m place)
-  pub kind : lowClass (lowFor r place) .kind ≡ kindNumber r
+-- what opcode and headers have in common at a place: the headers are those of the opcode, whose kind is the request's
+abbrev Shape : Request → ℕ → ℕ → Type 0
+Shape r m place =
+    (lowClass (lowFor r place) .follows ≡ followsBy (extensionFor r m place)) × (lowClass (lowFor r place) .kind ≡ kindNumber r)
 
 pub shape : (r : Request) (m count i : ℕ) → Shape r m (placeAt count i)
 unfolding lowClass kindOf placeIn placeOf followsOf sendWriteFollows lowFor withImmediate extensionFor sendExtension writeExtension writeEnd writeImmediateExtension ends starts followsBy
-shape Send m count i = by-place (λ p. Shape Send m p) (record { follows = refl; kind = refl }) (record { follows = refl; kind = refl }) (record { follows = refl; kind = refl }) (record { follows = refl; kind = refl }) count i
-shape (SendImmediate v) m count i = by-place (λ p. Shape (SendImmediate v) m p) (record { follows = refl; kind = refl }) (record { follows = refl; kind = refl }) (record { follows = refl; kind = refl }) (record { follows = refl; kind = refl }) count i
-shape (Write t) m count i = by-place (λ p. Shape (Write t) m p) (record { follows = refl; kind = refl }) (record { follows = refl; kind = refl }) (record { follows = refl; kind = refl }) (record { follows = refl; kind = refl }) count i
-shape (WriteImmediate t v) m count i = by-place (λ p. Shape (WriteImmediate t v) m p) (record { follows = refl; kind = refl }) (record { follows = refl; kind = refl }) (record { follows = refl; kind = refl }) (record { follows = refl; kind = refl }) count i
-shape (Read a) m count i = record { follows = refl; kind = refl }
-shape (CmpSwap a) m count i = record { follows = refl; kind = refl }
-shape (FetchAdd t v) m count i = record { follows = refl; kind = refl }
+shape Send m count i = by-place (Shape Send m) (refl, refl) (refl, refl) (refl, refl) (refl, refl) count i
+shape (SendImmediate v) m count i = by-place (Shape (SendImmediate v) m) (refl, refl) (refl, refl) (refl, refl) (refl, refl) count i
+shape (Write t) m count i = by-place (Shape (Write t) m) (refl, refl) (refl, refl) (refl, refl) (refl, refl) count i
+shape (WriteImmediate t v) m count i = by-place (Shape (WriteImmediate t v) m) (refl, refl) (refl, refl) (refl, refl) (refl, refl) count i
+shape (Read a) m count i = (refl, refl)
+shape (CmpSwap a) m count i = (refl, refl)
+shape (FetchAdd t v) m count i = (refl, refl)
 
--- the place, for requests that carry bytes; their opcodes are UC's too
-pub record Carried (r : Request) (m place : ℕ) : Type 0 where
-  pub place-is : lowClass (lowFor r place) .place ≡ place
-  pub few : lowFor r place < 12
-  pub short : 12 + length (extensionBytes (extensionFor r m place)) ≤ 32
+-- of requests that carry bytes, the opcode says the place too, and is UC's; the headers have at most 32 bytes
+abbrev PlaceSaid : Request → ℕ → Type 0
+PlaceSaid r place = (lowClass (lowFor r place) .place ≡ place) × (lowFor r place < 12)
 
-pub carrier : (r : Request) (m count i : ℕ) → Carrier r → Carried r m (placeAt count i)
-unfolding lowClass kindOf placeIn placeOf followsOf sendWriteFollows lowFor withImmediate extensionFor sendExtension writeExtension writeEnd writeImmediateExtension ends starts extensionBytes rethBytes
-carrier Send m count i h = by-place (λ p. Carried Send m p) (record { place-is = refl; few = omega arith; short = omega arith }) (record { place-is = refl; few = omega arith; short = omega arith }) (record { place-is = refl; few = omega arith; short = omega arith }) (record { place-is = refl; few = omega arith; short = omega arith }) count i
-carrier (SendImmediate v) m count i h = by-place (λ p. Carried (SendImmediate v) m p) (record { place-is = refl; few = omega arith; short = omega arith }) (record { place-is = refl; few = omega arith; short = omega arith }) (record { place-is = refl; few = omega arith; short = omega arith }) (record { place-is = refl; few = omega arith; short = omega arith }) count i
-carrier (Write t) m count i h = by-place (λ p. Carried (Write t) m p) (record { place-is = refl; few = omega arith; short = omega arith }) (record { place-is = refl; few = omega arith; short = omega arith }) (record { place-is = refl; few = omega arith; short = omega arith }) (record { place-is = refl; few = omega arith; short = omega arith }) count i
-carrier (WriteImmediate t v) m count i h = by-place (λ p. Carried (WriteImmediate t v) m p) (record { place-is = refl; few = omega arith; short = omega arith }) (record { place-is = refl; few = omega arith; short = omega arith }) (record { place-is = refl; few = omega arith; short = omega arith }) (record { place-is = refl; few = omega arith; short = omega arith }) count i
-carrier (Read a) m count i h = absurd h
-carrier (CmpSwap a) m count i h = absurd h
-carrier (FetchAdd t v) m count i h = absurd h
+pub place-said : (r : Request) (count i : ℕ) → Carrier r → PlaceSaid r (placeAt count i)
+unfolding lowClass placeIn placeOf lowFor withImmediate ends
+place-said Send count i h = by-place (PlaceSaid Send) (refl, omega arith) (refl, omega arith) (refl, omega arith) (refl, omega arith) count i
+place-said (SendImmediate v) count i h = by-place (PlaceSaid (SendImmediate v)) (refl, omega arith) (refl, omega arith) (refl, omega arith) (refl, omega arith) count i
+place-said (Write t) count i h = by-place (PlaceSaid (Write t)) (refl, omega arith) (refl, omega arith) (refl, omega arith) (refl, omega arith) count i
+place-said (WriteImmediate t v) count i h = by-place (PlaceSaid (WriteImmediate t v)) (refl, omega arith) (refl, omega arith) (refl, omega arith) (refl, omega arith) count i
+place-said (Read a) count i h = absurd h
+place-said (CmpSwap a) count i h = absurd h
+place-said (FetchAdd t v) count i h = absurd h
+
+abbrev Few : Request → ℕ → ℕ → Type 0
+Few r m place = 12 + length (extensionBytes (extensionFor r m place)) ≤ 32
+
+pub few : (r : Request) (m count i : ℕ) → Carrier r → Few r m (placeAt count i)
+unfolding extensionFor sendExtension writeExtension writeEnd writeImmediateExtension ends starts extensionBytes rethBytes
+few Send m count i h = omega arith
+few (SendImmediate v) m count i h = by-place (Few (SendImmediate v) m) (omega arith) (omega arith) (omega arith) (omega arith) count i
+few (Write t) m count i h = by-place (Few (Write t) m) (omega arith) (omega arith) (omega arith) (omega arith) count i
+few (WriteImmediate t v) m count i h = by-place (Few (WriteImmediate t v) m) (omega arith) (omega arith) (omega arith) (omega arith) count i
+few (Read a) m count i h = absurd h
+few (CmpSwap a) m count i h = absurd h
+few (FetchAdd t v) m count i h = absurd h
 
 -- each field within its width
 target : (t : Target) (n : ℕ) → TargetWidths t → n ≤ messageLimit → RethWidths (rethFor t n)

@@ -30,7 +30,7 @@ use Rattle.segment.specs.declared.Request.{Request}
 use Rattle.segment.specs.declared.Request.the-variants.{Send, SendImmediate, Write, WriteImmediate, Read, CmpSwap, FetchAdd}
 use Rattle.segment.proofs.Bounds.{place-bound, immediate-bound, low-bound}
 use Rattle.segment.proofs.Steps.{length-carried}
-use Rattle.segment.proofs.Shapes.{carrier, carrier-carries, service-is, low-is}
+use Rattle.segment.proofs.Shapes.{place-said, carrier-carries, service-is, low-is}
 use Rattle.segment.proofs.Fits.{refused-39, refused-34, not-refused, none-carried, size-is, header-fits, packet-short}
 
 -- what holds of packet i of a sound message
@@ -189,4 +189,4 @@ cut-admitted c r d first i pkey S l m =
   where
     uc : (c .service ≡ 0) ⊎ ((c .service ≡ 1) × Carrier r) → c .service ≡ 1 → lowFor r (placeAt (packetsOf r (length d) (c .pmtu)) i) < 12
     uc (inl z) e = absurd (omega arith)
-    uc (inr z) e = carrier r 0 (packetsOf r (length d) (c .pmtu)) i (z .1) .few
+    uc (inr z) e = place-said r (packetsOf r (length d) (c .pmtu)) i (z .1) .1
