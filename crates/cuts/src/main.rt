@@ -13,8 +13,8 @@ use segment::Request;
 use sequence::Psn;
 ghost use Prim.Native.Nat.{_≤_};
 
-// SENDs of no bytes, of one packet and of several, with immediate and without, across the wrap: the first
-// has the last PSN but two. Those of n bytes and a few more have as many packets as n asks for.
+// SENDs of no bytes, of one packet and of several, with immediate and without, across the wrap of the PSN:
+// the first has the last PSN but two. n is the length, but for a few bytes, of those that go with the PMTU.
 fn sends(c: Connection, bytes: &[u8], p: usize, n: usize)
     requires { ⌜ p ≤ 4096 ⌝ }
     requires { ⌜ n ≤ 8192 ⌝ }

@@ -48,8 +48,8 @@ pub(crate) fn cmp_swap() -> Request {
     let a = AtomicEth {
         address: 0x0123456789abcdef,
         key: 0xfedcba98,
-        swap: 0x1111222233334444,
-        compare: 0x5555666677778888,
+        swap: 0x1112131415161718,
+        compare: 0x2122232425262728,
     };
     Request::CmpSwap(a)
 }

@@ -34,6 +34,13 @@ payload-back h d good pad is =
     ∙ (ap (λ n. take n (drop (headerLength h) (b ++ (d ++ z)))) l
     ∙ (ap (take (length d)) (drop-at b (d ++ z) (headerLength h) lb) ∙ take-at d z (length d) refl))
 
+-- it stands right behind the headers
+within : (h : Header) (d : List ℕ) → headerFits h ≡ true → take (length d) (drop (headerLength h) (packetBytes h d)) ≡ d
+unfolding packetBytes
+within h d good =
+    let z = replicate {A = ℕ} (padOf (length d)) 0 in
+    ap (take (length d)) (drop-at (headerBytes h) (d ++ z) (headerLength h) (length-header h good)) ∙ take-at d z (length d) refl
+
 -- the pad, behind both
 behind : (h : Header) (d : List ℕ) → headerFits h ≡ true
     → drop (headerLength h + length d) (packetBytes h d) ≡ replicate (padOf (length d)) 0
@@ -56,6 +63,7 @@ found h d good pad short =
     record {
       header = read;
       payload = payload-back h d good pad (accepted (packetBytes h d) h read .1);
+      bytes = within h d good;
       zeros = behind h d good ∙ ap (λ n. replicate n 0) (sym pad);
     }
 
@@ -83,5 +91,6 @@ read-back h d out n e =
     record {
       header = ap readHeader same ∙ F .header;
       payload = ap payloadOf same ∙ F .payload;
+      bytes = ap (λ p. take (length d) (drop (headerLength h) p)) same ∙ F .bytes;
       zeros = ap (drop (headerLength h + length d)) same ∙ F .zeros;
     }

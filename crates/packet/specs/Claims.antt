@@ -24,6 +24,7 @@ PadLeast = (n k : ℕ) → (n + k) % 4 ≡ 0 → padOf n ≤ k
 pub record Found (h : Header) (d p : List ℕ) : Type 0 where
   pub header : readHeader p ≡ Accepted h
   pub payload : payloadOf p ≡ d
+  pub bytes : take (length d) (drop (headerLength h) p) ≡ d
   pub zeros : drop (headerLength h + length d) p ≡ replicate (h .bth .pad) 0
 
 abbrev pub ReadBack : Type 0

@@ -17,6 +17,7 @@ padOf n = (4 - n % 4) % 4
 unfoldable pub packetBytes : Header → List ℕ → List ℕ
 packetBytes h d = headerBytes h ++ (d ++ replicate (padOf (length d)) 0)
 
+-- and how many they are, of a payload of n bytes
 unfoldable pub packetLength : Header → ℕ → ℕ
 packetLength h n = headerLength h + (n + padOf n)
 
@@ -29,6 +30,7 @@ refusalBy unfit padcnt headers n room =
     (cond (ltb 4128 (headers + (n + padOf n))) 34
     (cond (ltb room (headers + (n + padOf n))) 35 0)))
 
+-- the same of a header: the answer's number
 unfoldable pub packetAnswer : Header → ℕ → ℕ → ℕ
 packetAnswer h n room = refusalBy (not (headerFits h)) (h .bth .pad) (headerLength h) n room
 

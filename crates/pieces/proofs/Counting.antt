@@ -8,7 +8,7 @@ use native.Mathlib.Nat.{mod-add-div', mod-lt, mul-le-mul-right, le-of-mul-le-mul
 use lib.Dec.{ltb, eqb}
 use borrow.Author.Tests.{ltb-true, ltb-false, eqb-true, eqb-false}
 use Rattle.pieces.specs.Pieces.{pmtuFits, pieces}
-use Rattle.pieces.specs.Claims.{Counted, Counts, IsPmtu, Pmtus}
+use Rattle.pieces.specs.Claims.{Counted, Counts, IsPmtu, Pmtus, PmtuBounds}
 
 -- fewer multiples of p make less
 less : (p q k : ℕ) → q * p < k * p → q < k
@@ -83,13 +83,13 @@ fits-pmtu p (inr (inr (inr (inr e)))) = rw e
 pub pmtus : Pmtus
 pmtus p = (is-pmtu p, fits-pmtu p)
 
--- the smallest and the largest
-bounds : (p : ℕ) → IsPmtu p → (256 ≤ p) × (p ≤ 4096)
-bounds p (inl e) = (omega arith, omega arith)
-bounds p (inr (inl e)) = (omega arith, omega arith)
-bounds p (inr (inr (inl e))) = (omega arith, omega arith)
-bounds p (inr (inr (inr (inl e)))) = (omega arith, omega arith)
-bounds p (inr (inr (inr (inr e)))) = (omega arith, omega arith)
+-- the smallest and the largest; all are words
+pub bounds : PmtuBounds
+bounds p (inl e) = (omega arith, omega arith, omega arith)
+bounds p (inr (inl e)) = (omega arith, omega arith, omega arith)
+bounds p (inr (inr (inl e))) = (omega arith, omega arith, omega arith)
+bounds p (inr (inr (inr (inl e)))) = (omega arith, omega arith, omega arith)
+bounds p (inr (inr (inr (inr e)))) = (omega arith, omega arith, omega arith)
 
 pub pmtu-bounds : (p : ℕ) → pmtuFits p ≡ true → (256 ≤ p) × (p ≤ 4096)
-pmtu-bounds p h = bounds p (is-pmtu p h)
+pmtu-bounds p h = let b = bounds p (is-pmtu p h) in (b .0, b .1)

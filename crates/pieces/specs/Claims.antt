@@ -1,5 +1,5 @@
 -- What is proved of pieces, each statement by a name; the proofs stand in proofs/.
-use Prim.Native.Nat.{ℕ, suc, _+_, _-_, _*_, _≤_, _<_}
+use Prim.Native.Nat.{ℕ, suc, _+_, _-_, _*_, _%_, _≤_, _<_}
 use mathlib.Core.Path.{_≡_}
 use mathlib.Core.Bool.{true}
 use mathlib.Core.List.{List}
@@ -60,3 +60,6 @@ IsPmtu pmtu = (pmtu ≡ 256) ⊎ ((pmtu ≡ 512) ⊎ ((pmtu ≡ 1024) ⊎ ((pmtu
 
 abbrev pub Pmtus : Type 0
 Pmtus = (pmtu : ℕ) → (pmtuFits pmtu ≡ true → IsPmtu pmtu) × (IsPmtu pmtu → pmtuFits pmtu ≡ true)
+
+abbrev pub PmtuBounds : Type 0
+PmtuBounds = (pmtu : ℕ) → IsPmtu pmtu → (256 ≤ pmtu) × (pmtu ≤ 4096) × (pmtu % 4 ≡ 0)

@@ -65,7 +65,7 @@ pub fn place(count: usize, i: usize) -> u8
     opcode::MIDDLE
 }
 
-// Where piece i of n bytes stands; past the last one, an empty part at the end.
+// Where piece i of n bytes stands; past the last one, an empty part at the end, and without a PMTU at the start.
 pub fn part(n: usize, pmtu: usize, i: usize) -> Span
     ensures { λ r. ⌜ r ≡ partAt n pmtu i ⌝ }
 {

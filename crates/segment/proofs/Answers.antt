@@ -15,7 +15,7 @@ use Rattle.pieces.specs.Claims.{IsPmtu}
 use Rattle.pieces.proofs.Counting.{pmtus}
 use Rattle.segment.specs.Message.{messageLength, messageLimit, packetsOf, lengthRefusal, packetsAnswer, responsesAnswer}
 use Rattle.segment.specs.Next.{nextPsn, nextRefusal, followingBy, nextAnswer, followingNumber}
-use Rattle.segment.specs.Claims.{InLimit, Counts, CountNumbers}
+use Rattle.segment.specs.Claims.{InLimit, CountAnswers, CountNumbers}
 use Rattle.segment.specs.Numbers.{Follows, NextNumbers}
 use Rattle.segment.specs.declared.Following.the-variants.{Next, Refused}
 use Rattle.segment.specs.declared.Request.{Request}
@@ -48,9 +48,9 @@ by-number : (a m k : ℕ) → a ≡ k → (k ≡ 0 → ⊥) → answerBy a m ≡
 unfolding answerBy
 by-number a m k e n = rw (e, ne-eqb k 0 n)
 
-pub counts : Counts
+pub count-answers : CountAnswers
 unfolding packetsAnswer responsesAnswer answerBy
-counts r n pmtu =
+count-answers r n pmtu =
     let n39 : _≡_ {A = ℕ} 39 0 → ⊥ = λ z. omega arith in
     let n34 : _≡_ {A = ℕ} 34 0 → ⊥ = λ z. omega arith in
     record {

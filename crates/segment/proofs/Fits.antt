@@ -25,7 +25,7 @@ use Rattle.pieces.proofs.Counting.{pmtus, pmtu-bounds}
 use Rattle.pieces.proofs.Cuts.{at-most}
 use Rattle.segment.specs.Message.{carries, carried, carriedLength, messageLength, messageLimit, packetsOf}
 use Rattle.segment.specs.Cut.{lowFor, bthAt, sizeAt, headerAt, payloadAt, unserved, cutUnfit, cutRefusal}
-use Rattle.segment.specs.Claims.{Carrier, InLimit, Fit, Sound}
+use Rattle.segment.specs.Claims.{Carrier, InLimit, Fit, Cuttable}
 use Rattle.segment.specs.declared.Connection.{Connection}
 use Rattle.segment.specs.declared.Request.{Request}
 use Rattle.segment.proofs.Bounds.{place-bound, low-bound, service-small}
@@ -162,7 +162,7 @@ module _ (c : Connection) (r : Request) (n : ℕ) (first : Psn) (i : ℕ) where
       let s : c .service ≤ 1 = service-small (c .service) (known (c .service) r (K .service)) in
       omega (arith, low-small)
 
-  bth-widths : Sound c r n (first .0) → BthWidths (headerAt c r n first i .bth)
+  bth-widths : Cuttable c r n (first .0) → BthWidths (headerAt c r n first i .bth)
   unfolding headerAt bthAt
   bth-widths S =
       record {
@@ -176,17 +176,17 @@ module _ (c : Connection) (r : Request) (n : ℕ) (first : Psn) (i : ℕ) where
         psn = after-below first i;
       }
 
-  follows : Fit c r (first .0)
+  pub follows-said : Fit c r (first .0)
       → classOf (headerAt c r n first i .bth .opcode) .follows ≡ followsBy (headerAt c r n first i .extension)
   unfolding headerAt
-  follows K = ap (λ k. k .follows) (class-low K) ∙ shape r (messageLength r n) (packetsOf r n (c .pmtu)) i .0
+  follows-said K = ap (λ k. k .follows) (class-low K) ∙ shape r (messageLength r n) (packetsOf r n (c .pmtu)) i .0
 
-  pub header-fits : Sound c r n (first .0) → headerFits (headerAt c r n first i) ≡ true
+  pub header-fits : Cuttable c r n (first .0) → headerFits (headerAt c r n first i) ≡ true
   unfolding headerAt
   header-fits S =
       both-fit (headerAt c r n first i)
       (bth-fits (headerAt c r n first i .bth) (bth-widths S))
-      (extension-fits (classOf (headerAt c r n first i .bth .opcode) .follows) (headerAt c r n first i .extension) (follows (S .fit))
+      (extension-fits (classOf (headerAt c r n first i .bth .opcode) .follows) (headerAt c r n first i .extension) (follows-said (S .fit))
       (widths r (messageLength r n) (packetsOf r n (c .pmtu)) i (S .widths) (in-limit r n (S .limit))))
 
 -- the packet is no longer than the longest
@@ -226,7 +226,7 @@ payload-most c r d i = at-most (carried r d) (c .pmtu) i
 sum : (h n m : ℕ) → h ≤ m → n ≤ 4096 → m + 4096 ≤ 4128 → h + (n + padOf n) ≤ 4128
 sum h n m a b e = omega (arith, rounded n b)
 
-pub packet-short : (c : Connection) (r : Request) (d : List ℕ) (first : Psn) (i : ℕ) → Sound c r (length d) (first .0)
+pub packet-short : (c : Connection) (r : Request) (d : List ℕ) (first : Psn) (i : ℕ) → Cuttable c r (length d) (first .0)
     → packetLength (headerAt c r (length d) first i) (length (payloadAt c r d i)) ≤ 4128
 unfolding packetLength
 packet-short c r d first i S = go (decide r)

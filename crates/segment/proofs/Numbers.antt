@@ -13,14 +13,14 @@ use Rattle.pieces.specs.Pieces.{pieces, placeAt}
 use Rattle.pieces.proofs.Cuts.{places}
 use Rattle.segment.specs.Message.{carries, carriedLength, messageLength, packetsOf}
 use Rattle.segment.specs.Next.{psnsOf, nextPsn}
-use Rattle.segment.specs.Cut.{ends, starts, lowFor, sendExtension, rethFor, writeExtension, writeEnd, writeImmediateExtension, fetchAddEth, extensionFor, bthAt, headerAt}
-use Rattle.segment.specs.Claims.{CutMarked, CutExtended}
-use Rattle.segment.specs.Numbers.{PsnFirst, PsnNext, NextMessage, NextOthers}
+use Rattle.segment.specs.Cut.{ends, starts, withImmediate, lowFor, sendExtension, rethFor, writeExtension, writeEnd, writeImmediateExtension, fetchAddEth, extensionFor, bthAt, headerAt}
+use Rattle.segment.specs.Claims.{Carrier, CutMarked, CutOpcodes, CutExtended}
+use Rattle.segment.specs.Numbers.{PsnsTaken, PsnAt, PsnFirst, PsnNext, NextMessage, NextOthers}
 use Rattle.segment.specs.declared.Request.{Request}
 use Rattle.segment.specs.declared.Request.the-variants.{Send, SendImmediate, Write, WriteImmediate, Read, CmpSwap, FetchAdd}
 use Rattle.segment.proofs.Bounds.{place-bound, low-bound}
 use Rattle.segment.proofs.Shapes.{shape, place-said, service-is}
-use Rattle.segment.proofs.Fits.{class-low}
+use Rattle.segment.proofs.Fits.{class-low, follows-said}
 
 -- the place that the opcode says; a READ or atomic request is an Only
 place-of : (r : Request) (n pmtu i : ℕ)
@@ -43,6 +43,7 @@ cut-marked c r n first i K l =
       service = service-is (c .service) (lowFor r (placeAt count i)) (omega (arith, low-bound r (placeAt count i) (place-bound count i)));
       kind = ap (λ x. x .kind) k ∙ shape r 0 count i .1;
       place = ap (λ x. x .place) k ∙ place-of r n (c .pmtu) i;
+      follows = follows-said c r n first i K;
       pkey = refl;
       dest = refl;
       plain = (refl, refl);
@@ -97,7 +98,37 @@ cut-extended c t v n first =
       fetch-add = λ w. refl;
     }
 
+pub cut-opcodes : CutOpcodes
+unfolding headerAt bthAt lowFor withImmediate ends
+cut-opcodes t v w a b =
+    record {
+      is = λ c r n first i. refl;
+      send = (refl, refl, refl, refl);
+      send-imm = (refl, refl, refl, refl);
+      write = (refl, refl, refl, refl);
+      write-imm = (refl, refl, refl, refl);
+      one = (refl, refl, refl);
+    }
+
 -- PSNs
+same-taken : (n pmtu : ℕ) (r : Request) → Carrier r → psnsOf r n pmtu ≡ packetsOf r n pmtu
+unfolding psnsOf messageLength packetsOf carriedLength carries
+same-taken n pmtu Send k = refl
+same-taken n pmtu (SendImmediate v) k = refl
+same-taken n pmtu (Write t) k = refl
+same-taken n pmtu (WriteImmediate t v) k = refl
+same-taken n pmtu (Read a) k = absurd k
+same-taken n pmtu (CmpSwap a) k = absurd k
+same-taken n pmtu (FetchAdd t v) k = absurd k
+
+pub psns-taken : PsnsTaken
+unfolding psnsOf pieces messageLength
+psns-taken n pmtu = record { packets = same-taken n pmtu; read = λ a. refl; cmp-swap = λ a. refl; fetch-add = λ t v. refl }
+
+pub psn-at : PsnAt
+unfolding headerAt bthAt
+psn-at c r n first i = refl
+
 pub psn-first : PsnFirst
 unfolding headerAt bthAt
 psn-first c r n first h = after-none first h
@@ -112,14 +143,8 @@ follows first i m e =
     ap (psnAfter first) q ∙ sym (after-after first i 1)
 
 pub next-message : NextMessage
-unfolding nextPsn psnsOf packetsOf carriedLength messageLength carries headerAt bthAt
-next-message c Send n first i k e = follows first i (pieces n (c .pmtu)) e
-next-message c (SendImmediate v) n first i k e = follows first i (pieces n (c .pmtu)) e
-next-message c (Write t) n first i k e = follows first i (pieces n (c .pmtu)) e
-next-message c (WriteImmediate t v) n first i k e = follows first i (pieces n (c .pmtu)) e
-next-message c (Read a) n first i k e = absurd k
-next-message c (CmpSwap a) n first i k e = absurd k
-next-message c (FetchAdd t v) n first i k e = absurd k
+unfolding nextPsn headerAt bthAt
+next-message c r n first i k e = follows first i (psnsOf r n (c .pmtu)) (e ∙ sym (same-taken n (c .pmtu) r k))
 
 pub next-others : NextOthers
 unfolding nextPsn psnsOf messageLength pieces

@@ -13,7 +13,7 @@ use Rattle.header.specs.Claims.{RethWidths, Widths}
 use Rattle.pieces.specs.Pieces.{pieces, placeAt}
 use Rattle.segment.specs.Message.{carries, carriedLength, packetsOf, messageLength, messageLimit}
 use Rattle.segment.specs.Cut.{ends, starts, withImmediate, lowFor, sendExtension, rethFor, writeExtension, writeEnd, writeImmediateExtension, fetchAddEth, extensionFor}
-use Rattle.segment.specs.Claims.{Carrier, TargetWidths, RequestWidths, InLimit, CutOne, kindNumber}
+use Rattle.segment.specs.Claims.{Carrier, TargetWidths, RequestWidths, InLimit, CutMany, CutOne, kindNumber}
 use Rattle.segment.specs.declared.Target.{Target}
 use Rattle.segment.specs.declared.Request.{Request}
 use Rattle.segment.specs.declared.Request.the-variants.{Send, SendImmediate, Write, WriteImmediate, Read, CmpSwap, FetchAdd}
@@ -90,7 +90,17 @@ widths (FetchAdd t v) m count i w h =
     let z : 0 < 2 ^ 64 = omega arith in
     (w .0 .0, w .0 .1, w .1, z)
 
--- a READ or atomic request: one packet, with nothing in it
+-- how many packets
+pub cut-many : CutMany
+unfolding packetsOf carriedLength carries
+cut-many Send n p h = refl
+cut-many (SendImmediate v) n p h = refl
+cut-many (Write t) n p h = refl
+cut-many (WriteImmediate t v) n p h = refl
+cut-many (Read a) n p h = absurd h
+cut-many (CmpSwap a) n p h = absurd h
+cut-many (FetchAdd t v) n p h = absurd h
+
 pub cut-one : CutOne
 unfolding packetsOf carriedLength carries pieces
 cut-one Send n p h = absurd (h tt)

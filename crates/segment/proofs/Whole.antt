@@ -1,11 +1,11 @@
 -- Cut packets: written, read back, admitted, and joined to the message again.
 use Prim.Native.Nat.{ℕ, zero, suc, _+_, _*_, _≤_, _<_}
 use mathlib.Core.Path.{_≡_, refl, sym, ap, subst, _∙_}
-use mathlib.Core.Bool.{true}
+use mathlib.Core.Bool.{Bool, true, false, cond}
 use mathlib.Core.List.{List, [], _∷_, _++_}
 use mathlib.Core.Logic.{_⊎_, inl, inr}
 use native.Mathlib.Omega.{arith}
-use lib.ListN.{length, drop}
+use lib.ListN.{length, take, drop}
 use borrow.Author.Tests.{ne-eqb}
 use Rattle.sequence.specs.declared.Psn.{Psn}
 use Rattle.opcode.specs.Opcode.{lowOf}
@@ -22,9 +22,9 @@ use Rattle.packet.proofs.Refusals.{lacking}
 use Rattle.pieces.specs.Pieces.{pieces, placeAt, pieceAt, joined}
 use Rattle.pieces.proofs.Counting.{pmtus, pmtu-bounds}
 use Rattle.pieces.proofs.Cuts.{joins, full, rest, at-most}
-use Rattle.segment.specs.Message.{carried, carriedLength, packetsOf}
+use Rattle.segment.specs.Message.{carries, carried, carriedLength, packetsOf}
 use Rattle.segment.specs.Cut.{lowFor, bthAt, headerAt, payloadAt, cutBytes, cutRefusal, cutAnswer, cutWritten, cutOut}
-use Rattle.segment.specs.Claims.{Carrier, Fit, Sound, Refuses, CutUnfit, CutOver, CutShort, Cuts, CutNumbers, CutReads, CutAdmitted, CutJoins, CutFull, CutLast, CutEmpty}
+use Rattle.segment.specs.Claims.{Carrier, Fit, Cuttable, Refuses, CutUnfit, CutOver, CutShort, Cuts, CutNumbers, CutReads, CutAdmitted, CutPayload, CutPad, CutJoins, CutFull, CutLast, CutEmpty}
 use Rattle.segment.specs.declared.Connection.{Connection}
 use Rattle.segment.specs.declared.Request.{Request}
 use Rattle.segment.specs.declared.Request.the-variants.{Send, SendImmediate, Write, WriteImmediate, Read, CmpSwap, FetchAdd}
@@ -34,7 +34,7 @@ use Rattle.segment.proofs.Shapes.{place-said, carrier-carries, service-
 use Rattle.segment.proofs.Fits.{refused-39, refused-34, not-refused, none-carried, size-is, header-fits, packet-short}
 
 -- what holds of packet i of a sound message
-module _ (c : Connection) (r : Request) (d : List ℕ) (first : Psn) (i : ℕ) (S : Sound c r (length d) (first .0)) where
+module _ (c : Connection) (r : Request) (d : List ℕ) (first : Psn) (i : ℕ) (S : Cuttable c r (length d) (first .0)) where
   h : Header
   h = headerAt c r (length d) first i
 
@@ -83,7 +83,7 @@ cut-over c r d first i out F h =
     let n : _≡_ {A = ℕ} 34 0 → ⊥ = λ z. omega arith in
     refuses c r d first i out 34 (early c r d first i out 34 (refused-34 c r (length d) (first .0) i F h) n) n
 
-through : (c : Connection) (r : Request) (d : List ℕ) (first : Psn) (i : ℕ) → Sound c r (length d) (first .0)
+through : (c : Connection) (r : Request) (d : List ℕ) (first : Psn) (i : ℕ) → Cuttable c r (length d) (first .0)
     → i < packetsOf r (length d) (c .pmtu) → cutRefusal c r (length d) (first .0) i ≡ 0
 through c r d first i S l = not-refused c r (length d) (first .0) i (S .fit) (S .limit) l
 
@@ -147,12 +147,29 @@ cut-joins c r d first k S =
     ∙ (joins (carried r d) (c .pmtu) (positive c r (first .0) (S .fit)) ∙ e))
 
 -- sizes
+pub cut-payload : CutPayload
+unfolding payloadAt pieceAt
+cut-payload c r d first i k S =
+    reads c r d first i S .payload ∙ ap (λ x. take (c .pmtu) (drop (i * c .pmtu) x)) (carried-all r d k)
+
+pub cut-pad : CutPad
+unfolding h
+cut-pad c r d first i S = pad c r d first i S ∙ ap (λ x. padOf (length x)) (sym (reads c r d first i S .payload))
+
+carried-most : (r : Request) (d : List ℕ) → length (carried r d) ≤ length d
+unfolding carried
+carried-most r d = go (carries r)
+  where
+    go : (b : Bool) → length (cond b d []) ≤ length d
+    go true = omega arith
+    go false = omega arith
+
 pub cut-full : CutFull
 unfolding packetsOf payloadAt
 cut-full c r d first i S l =
     let n : carriedLength r (length d) ≡ length (carried r d) = sym (length-carried r d) in
-    ap length (reads c r d first i S .payload)
-    ∙ full (carried r d) (c .pmtu) i (positive c r (first .0) (S .fit)) (subst (λ m. suc i < pieces m (c .pmtu)) n l) .0
+    let F = full (carried r d) (c .pmtu) i (positive c r (first .0) (S .fit)) (subst (λ m. suc i < pieces m (c .pmtu)) n l) in
+    (ap length (reads c r d first i S .payload) ∙ F .0, omega (arith, F .1, carried-most r d))
 
 pub cut-last : CutLast
 unfolding packetsOf payloadAt
@@ -162,6 +179,7 @@ cut-last c r d first i S l =
     let R = rest (carried r d) (c .pmtu) i (positive c r (first .0) (S .fit)) (l ∙ ap (λ m. pieces m (c .pmtu)) n) in (
       omega (arith, p, at-most (carried r d) (c .pmtu) i),
       λ g. omega (arith, p, R .1 g),
+      λ k. omega (arith, p, R .0, ap length (carried-all r d k)),
     )
 
 -- the header checks of a pair

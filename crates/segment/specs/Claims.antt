@@ -1,26 +1,26 @@
 -- What is proved of cut messages, each statement by a name; the proofs stand in proofs/.
-use Prim.Native.Nat.{ℕ, suc, _+_, _^_, _≤_, _<_}
+use Prim.Native.Nat.{ℕ, suc, _+_, _*_, _^_, _≤_, _<_}
 use mathlib.Core.Path.{_≡_}
 use mathlib.Core.Bool.{true, false}
 use mathlib.Core.List.{List, [], _∷_, _++_}
 use mathlib.Core.Logic.{_⊎_}
-use lib.ListN.{length, drop}
+use lib.ListN.{length, take, drop, replicate}
 use Rattle.sequence.specs.declared.Psn.{Psn}
 use Rattle.opcode.specs.Opcode.{classOf, serviceOf}
 use Rattle.header.specs.Check.{pkeysMatch, admitted}
-use Rattle.header.specs.Write.{answerNumber}
+use Rattle.header.specs.Write.{followsBy, answerNumber}
 use Rattle.header.specs.Claims.{RethWidths, Widths}
 use Rattle.header.specs.declared.Reth.{Reth}
 use Rattle.header.specs.declared.AtomicEth.{AtomicEth}
 use Rattle.header.specs.declared.Extension.the-variants.{Bare, Remote, RemoteImmediate, Immediate, Atomic}
 use Rattle.header.specs.declared.HeaderRead.the-variants.{Accepted}
 use Rattle.header.specs.declared.Answer.the-variants.{Done, Refused}
-use Rattle.packet.specs.Packet.{payloadOf}
+use Rattle.packet.specs.Packet.{padOf, payloadOf}
 use Rattle.packet.specs.Claims.{Found}
 use Rattle.pieces.specs.Pieces.{pieces, placeAt, joined}
 use Rattle.pieces.specs.Claims.{IsPmtu}
 use Rattle.segment.specs.Message.{messageLength, packetsOf, lengthRefusal, packetsAnswer, responsesAnswer}
-use Rattle.segment.specs.Cut.{headerAt, sizeAt, payloadAt, cutBytes, cutAnswer, cutWritten, cutOut}
+use Rattle.segment.specs.Cut.{lowFor, headerAt, payloadAt, cutBytes, cutAnswer, cutWritten, cutOut}
 use Rattle.segment.specs.declared.Connection.{Connection}
 use Rattle.segment.specs.declared.Target.{Target}
 use Rattle.segment.specs.declared.Request.{Request}
@@ -67,7 +67,7 @@ pub record Fit (c : Connection) (r : Request) (psn : ℕ) : Type 0 where
   pub first : psn < 2 ^ 24
 
 -- a message of n bytes that can be cut, all its numbers within their types
-pub record Sound (c : Connection) (r : Request) (n psn : ℕ) : Type 0 where
+pub record Cuttable (c : Connection) (r : Request) (n psn : ℕ) : Type 0 where
   pub fit : Fit c r psn
   pub limit : InLimit r n
   pub pkey : c .pkey < 2 ^ 16
@@ -93,14 +93,14 @@ CutOver =
 -- Each packet of a sound message is refused with 35 if there is no room for it, and is written if there is.
 abbrev pub CutShort : Type 0
 CutShort =
-    (c : Connection) (r : Request) (d : List ℕ) (first : Psn) (i : ℕ) (out : List ℕ) → Sound c r (length d) (first .0)
+    (c : Connection) (r : Request) (d : List ℕ) (first : Psn) (i : ℕ) (out : List ℕ) → Cuttable c r (length d) (first .0)
     → i < packetsOf r (length d) (c .pmtu)
     → length out < length (cutBytes c r d first i)
     → Refuses c r d first i out 35
 
 abbrev pub Cuts : Type 0
 Cuts =
-    (c : Connection) (r : Request) (d : List ℕ) (first : Psn) (i : ℕ) (out : List ℕ) → Sound c r (length d) (first .0)
+    (c : Connection) (r : Request) (d : List ℕ) (first : Psn) (i : ℕ) (out : List ℕ) → Cuttable c r (length d) (first .0)
     → i < packetsOf r (length d) (c .pmtu)
     → length (cutBytes c r d first i) ≤ length out
     → (cutWritten c r d first i (length out) ≡ Done (length (cutBytes c r d first i)))
@@ -115,44 +115,61 @@ CutNumbers =
 -- Reading a cut packet finds its header and its payload.
 abbrev pub CutReads : Type 0
 CutReads =
-    (c : Connection) (r : Request) (d : List ℕ) (first : Psn) (i : ℕ) → Sound c r (length d) (first .0)
+    (c : Connection) (r : Request) (d : List ℕ) (first : Psn) (i : ℕ) → Cuttable c r (length d) (first .0)
     → i < packetsOf r (length d) (c .pmtu)
     → Found (headerAt c r (length d) first i) (payloadAt c r d i) (cutBytes c r d first i)
 
 -- It passes the header checks of the pair that it is for.
 abbrev pub CutAdmitted : Type 0
 CutAdmitted =
-    (c : Connection) (r : Request) (d : List ℕ) (first : Psn) (i pkey : ℕ) → Sound c r (length d) (first .0)
+    (c : Connection) (r : Request) (d : List ℕ) (first : Psn) (i pkey : ℕ) → Cuttable c r (length d) (first .0)
     → i < packetsOf r (length d) (c .pmtu)
     → pkeysMatch (c .pkey) pkey ≡ true
     → admitted (c .service) (c .dest) pkey true (cutBytes c r d first i) ≡ Accepted (headerAt c r (length d) first i)
 
+-- Packet i carries PMTU bytes, or as many as are left, from byte i x PMTU on; its PadCnt is their pad.
+abbrev pub CutPayload : Type 0
+CutPayload =
+    (c : Connection) (r : Request) (d : List ℕ) (first : Psn) (i : ℕ) → Carrier r → Cuttable c r (length d) (first .0)
+    → payloadOf (cutBytes c r d first i) ≡ take (c .pmtu) (drop (i * c .pmtu) d)
+
+abbrev pub CutPad : Type 0
+CutPad =
+    (c : Connection) (r : Request) (d : List ℕ) (first : Psn) (i : ℕ) → Cuttable c r (length d) (first .0)
+    → headerAt c r (length d) first i .bth .pad ≡ padOf (length (payloadOf (cutBytes c r d first i)))
+
 -- The payloads of all packets, in order and without pad, are the message.
 abbrev pub CutJoins : Type 0
 CutJoins =
-    (c : Connection) (r : Request) (d : List ℕ) (first : Psn) → Carrier r → Sound c r (length d) (first .0)
+    (c : Connection) (r : Request) (d : List ℕ) (first : Psn) → Carrier r → Cuttable c r (length d) (first .0)
     → joined (λ i. payloadOf (cutBytes c r d first i)) 0 (packetsOf r (length d) (c .pmtu)) ≡ d
 
--- All packets but the last carry a full PMTU; the last carries no more, and of several at least 1 byte.
+-- All packets but the last carry a full PMTU, and bytes are to come; the last carries no more, of several at least 1 byte,
+-- and ends the message.
 abbrev pub CutFull : Type 0
 CutFull =
-    (c : Connection) (r : Request) (d : List ℕ) (first : Psn) (i : ℕ) → Sound c r (length d) (first .0)
+    (c : Connection) (r : Request) (d : List ℕ) (first : Psn) (i : ℕ) → Cuttable c r (length d) (first .0)
     → suc i < packetsOf r (length d) (c .pmtu)
-    → length (payloadOf (cutBytes c r d first i)) ≡ c .pmtu
+    → (length (payloadOf (cutBytes c r d first i)) ≡ c .pmtu) × (i * c .pmtu + c .pmtu < length d)
 
 abbrev pub CutLast : Type 0
 CutLast =
-    (c : Connection) (r : Request) (d : List ℕ) (first : Psn) (i : ℕ) → Sound c r (length d) (first .0)
+    (c : Connection) (r : Request) (d : List ℕ) (first : Psn) (i : ℕ) → Cuttable c r (length d) (first .0)
     → suc i ≡ packetsOf r (length d) (c .pmtu)
     → (length (payloadOf (cutBytes c r d first i)) ≤ c .pmtu) × (0 < i → 0 < length (payloadOf (cutBytes c r d first i)))
+    × (Carrier r → i * c .pmtu + length (payloadOf (cutBytes c r d first i)) ≡ length d)
 
--- A READ or atomic request is one packet and carries nothing.
+-- A SEND or WRITE has as many packets as its bytes have pieces; a READ or atomic request is one packet, which carries
+-- nothing.
+abbrev pub CutMany : Type 0
+CutMany = (r : Request) (n pmtu : ℕ) → Carrier r → packetsOf r n pmtu ≡ pieces n pmtu
+
 abbrev pub CutOne : Type 0
 CutOne = (r : Request) (n pmtu : ℕ) → (Carrier r → ⊥) → packetsOf r n pmtu ≡ 1
 
 abbrev pub CutEmpty : Type 0
 CutEmpty =
-    (c : Connection) (r : Request) (d : List ℕ) (first : Psn) (i : ℕ) → (Carrier r → ⊥) → Sound c r (length d) (first .0)
+    (c : Connection) (r : Request) (d : List ℕ) (first : Psn) (i : ℕ) → (Carrier r → ⊥) → Cuttable c r (length d) (first .0)
     → payloadOf (cutBytes c r d first i) ≡ []
 
 -- the kinds, by the numbers of their classes
@@ -165,12 +182,13 @@ kindNumber (Read a) = 12
 kindNumber (CmpSwap a) = 19
 kindNumber (FetchAdd t v) = 20
 
--- The opcode says the service, the kind and the place; AckReq is set on the last packet and on no other; P_Key and DestQP
--- are the connection's, and all other bits 0.
+-- The opcode says the service, the kind, the place and the headers; AckReq is set on the last packet and on no other;
+-- P_Key and DestQP are the connection's; SE, MigReq, TVer and reserved bits are 0.
 pub record Marked (c : Connection) (r : Request) (n : ℕ) (first : Psn) (i : ℕ) : Type 0 where
   pub service : serviceOf (headerAt c r n first i .bth .opcode) ≡ c .service
   pub kind : classOf (headerAt c r n first i .bth .opcode) .kind ≡ kindNumber r
   pub place : classOf (headerAt c r n first i .bth .opcode) .place ≡ placeAt (packetsOf r n (c .pmtu)) i
+  pub follows : classOf (headerAt c r n first i .bth .opcode) .follows ≡ followsBy (headerAt c r n first i .extension)
   pub pkey : headerAt c r n first i .bth .pkey ≡ c .pkey
   pub dest : headerAt c r n first i .bth .dest ≡ c .dest
   pub plain : (headerAt c r n first i .bth .se ≡ false) × (headerAt c r n first i .bth .migreq ≡ false)
@@ -183,6 +201,18 @@ CutMarked =
     (c : Connection) (r : Request) (n : ℕ) (first : Psn) (i : ℕ) → Fit c r (first .0)
     → i < packetsOf r n (c .pmtu)
     → Marked c r n first i
+
+-- The opcodes at First, Middle, Last and Only, and those of the requests that are one packet.
+pub record Opcodes (t : Target) (v w : ℕ) (a : Reth) (b : AtomicEth) : Type 0 where
+  pub is : (c : Connection) (r : Request) (n : ℕ) (first : Psn) (i : ℕ) → headerAt c r n first i .bth .opcode ≡ c .service * 32 + lowFor r (placeAt (packetsOf r n (c .pmtu)) i)
+  pub send : (lowFor Send 0 ≡ 0) × (lowFor Send 1 ≡ 1) × (lowFor Send 2 ≡ 2) × (lowFor Send 4 ≡ 4)
+  pub send-imm : (lowFor (SendImmediate v) 0 ≡ 0) × (lowFor (SendImmediate v) 1 ≡ 1) × (lowFor (SendImmediate v) 2 ≡ 3) × (lowFor (SendImmediate v) 4 ≡ 5)
+  pub write : (lowFor (Write t) 0 ≡ 6) × (lowFor (Write t) 1 ≡ 7) × (lowFor (Write t) 2 ≡ 8) × (lowFor (Write t) 4 ≡ 10)
+  pub write-imm : (lowFor (WriteImmediate t v) 0 ≡ 6) × (lowFor (WriteImmediate t v) 1 ≡ 7) × (lowFor (WriteImmediate t v) 2 ≡ 9) × (lowFor (WriteImmediate t v) 4 ≡ 11)
+  pub one : (lowFor (Read a) 4 ≡ 12) × (lowFor (CmpSwap b) 4 ≡ 19) × (lowFor (FetchAdd t w) 4 ≡ 20)
+
+abbrev pub CutOpcodes : Type 0
+CutOpcodes = (t : Target) (v w : ℕ) (a : Reth) (b : AtomicEth) → Opcodes t v w a b
 
 -- A WRITE begins with its RETH, whose DMA length is the message's; an immediate stands on the last packet; no other
 -- packet of a SEND or WRITE has a header after the BTH.
@@ -207,23 +237,23 @@ abbrev pub CutExtended : Type 0
 CutExtended = (c : Connection) (t : Target) (v n : ℕ) (first : Psn) → Extended c t v n first
 
 -- The counts: 39 without a PMTU, then 34 over the limit, else the count.
-pub record Counted (r : Request) (n pmtu : ℕ) : Type 0 where
+pub record Answered (r : Request) (n pmtu : ℕ) : Type 0 where
   pub unfit : (IsPmtu pmtu → ⊥) → (packetsAnswer r n pmtu ≡ Refused 39) × (responsesAnswer n pmtu ≡ Refused 39)
   pub over : IsPmtu pmtu → (InLimit r n → ⊥) → packetsAnswer r n pmtu ≡ Refused 34
   pub packets : IsPmtu pmtu → InLimit r n → packetsAnswer r n pmtu ≡ Done (packetsOf r n pmtu)
   pub long : IsPmtu pmtu → 1048576 < n → responsesAnswer n pmtu ≡ Refused 34
   pub responses : IsPmtu pmtu → n ≤ 1048576 → responsesAnswer n pmtu ≡ Done (pieces n pmtu)
 
-abbrev pub Counts : Type 0
-Counts = (r : Request) (n pmtu : ℕ) → Counted r n pmtu
+abbrev pub CountAnswers : Type 0
+CountAnswers = (r : Request) (n pmtu : ℕ) → Answered r n pmtu
 
 abbrev pub CountNumbers : Type 0
 CountNumbers =
     (r : Request) (n pmtu : ℕ) → (answerNumber (packetsAnswer r n pmtu) ≡ lengthRefusal (messageLength r n) pmtu)
     × (answerNumber (responsesAnswer n pmtu) ≡ lengthRefusal n pmtu)
 
--- Worked examples: no bytes, one packet, an Only; 256 and 257 bytes at PMTU 256; a READ of 1,025 bytes at PSN 24; the
--- longest message at the smallest PMTU; and a packet, byte for byte.
+-- Worked examples: no bytes, one packet, an Only; 256 and 257 bytes at PMTU 256; a READ of 1,025 bytes; the longest message
+-- at the smallest PMTU; and a packet, byte for byte.
 abbrev pub example : Connection
 example = record { service = 0; pmtu = 256; pkey = 65535; dest = 18 }
 
@@ -236,7 +266,7 @@ abc = 97 ∷ 98 ∷ 99 ∷ []
 pub record Worked : Type 0 where
   pub empty : (packetsAnswer Send 0 256 ≡ Done 1) × (classOf (headerAt example Send 0 (at 0) 0 .bth .opcode) .place ≡ 4)
   pub full : packetsAnswer Send 256 256 ≡ Done 1
-  pub one-more : (packetsAnswer Send 257 256 ≡ Done 2) × (sizeAt Send 257 256 1 ≡ 1) × (headerAt example Send 257 (at 0) 1 .bth .pad ≡ 3)
+  pub one-more : (packetsAnswer Send 257 256 ≡ Done 2) × (length (payloadAt example Send (replicate 257 0) 1) ≡ 1) × (headerAt example Send 257 (at 0) 1 .bth .pad ≡ 3)
   pub read : responsesAnswer 1025 256 ≡ Done 5
   pub longest : packetsAnswer Send 1048576 256 ≡ Done 4096
   pub packet : cutBytes example Send abc (at 7) 0 ≡ 4 ∷ 16 ∷ 255 ∷ 255 ∷ 0 ∷ 0 ∷ 0 ∷ 18 ∷ 128 ∷ 0 ∷ 0 ∷ 7 ∷ 97 ∷ 98 ∷ 99 ∷ 0 ∷ []

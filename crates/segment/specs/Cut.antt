@@ -45,11 +45,11 @@ lowFor (Read a) place = 12
 lowFor (CmpSwap a) place = 19
 lowFor (FetchAdd t v) place = 20
 
--- a WRITE's RETH, on the packet that begins it, has the length of the message; an Immediate stands, last, on the packet
--- that ends it
+-- an Immediate stands on the packet that ends a message
 unfoldable pub sendExtension : ℕ → ℕ → Extension
 sendExtension v place = cond (ends place) (Immediate v) Bare
 
+-- a WRITE's RETH, on the packet that begins it, has the length of the message; an Immediate stands behind it
 unfoldable pub rethFor : Target → ℕ → Reth
 rethFor t n = record { address = t .address; key = t .key; length = n }
 
@@ -62,10 +62,11 @@ writeEnd a v begins = cond begins (RemoteImmediate a v) (Immediate v)
 unfoldable pub writeImmediateExtension : Reth → ℕ → ℕ → Extension
 writeImmediateExtension a v place = cond (ends place) (writeEnd a v (starts place)) (writeExtension a place)
 
--- a FetchAdd has one operand: its compare field is sent as 0
+-- A FetchAdd has one operand: its compare field is sent as 0
 unfoldable pub fetchAddEth : Target → ℕ → AtomicEth
 fetchAddEth t v = record { address = t .address; key = t .key; swap = v; compare = 0 }
 
+-- the headers after the BTH, by the request, the length n of the message and the packet's place in it
 unfoldable pub extensionFor : Request → ℕ → ℕ → Extension
 extensionFor Send n place = Bare
 extensionFor (SendImmediate v) n place = sendExtension v place
@@ -106,7 +107,7 @@ headerAt c r n first i =
       extension = extensionFor r (messageLength r n) (placeAt (packetsOf r n (c .pmtu)) i);
     }
 
--- the bytes it carries: those of the message d from its own place on
+-- the bytes it carries: those of the message d from byte i x PMTU on
 unfoldable pub payloadAt : Connection → Request → List ℕ → ℕ → List ℕ
 payloadAt c r d i = pieceAt (carried r d) (c .pmtu) i
 

@@ -26,7 +26,7 @@ carried r d = cond (carries r) d []
 unfoldable pub carriedLength : Request → ℕ → ℕ
 carriedLength r n = cond (carries r) n 0
 
--- the length of a message of n lent bytes: a READ's is its DMA length
+-- the length of a message of n lent bytes: a READ's is its DMA length, an atomic has none
 unfoldable pub messageLength : Request → ℕ → ℕ
 messageLength Send n = n
 messageLength (SendImmediate v) n = n

@@ -14,6 +14,7 @@ use Rattle.segment.specs.declared.Following.the-variants.{Next, Refused}
 unfoldable pub psnsOf : Request → ℕ → ℕ → ℕ
 psnsOf r n pmtu = pieces (messageLength r n) pmtu
 
+-- the next message's first PSN, this one's being `first`
 unfoldable pub nextPsn : Request → ℕ → ℕ → Psn → Psn
 nextPsn r n pmtu first = psnAfter first (psnsOf r n pmtu)
 
@@ -21,6 +22,7 @@ nextPsn r n pmtu first = psnAfter first (psnsOf r n pmtu)
 unfoldable pub nextRefusal : ℕ → ℕ → ℕ → ℕ
 nextRefusal n pmtu psn = cond (leb space psn) 39 (lengthRefusal n pmtu)
 
+-- the answer: with 0 the PSN
 unfoldable pub followingBy : ℕ → Psn → Following
 followingBy refusal psn = cond (eqb refusal 0) (Next psn) (Refused refusal)
 

@@ -8,7 +8,7 @@ use Rattle.header.specs.declared.AtomicEth.{AtomicEth}
 use Rattle.pieces.specs.Pieces.{pieces}
 use Rattle.pieces.specs.Claims.{IsPmtu}
 use Rattle.segment.specs.Message.{messageLength, packetsOf}
-use Rattle.segment.specs.Next.{nextPsn, nextRefusal, nextAnswer, followingNumber}
+use Rattle.segment.specs.Next.{psnsOf, nextPsn, nextRefusal, nextAnswer, followingNumber}
 use Rattle.segment.specs.Cut.{headerAt}
 use Rattle.segment.specs.Claims.{Carrier, InLimit}
 use Rattle.segment.specs.declared.Connection.{Connection}
@@ -16,6 +16,20 @@ use Rattle.segment.specs.declared.Target.{Target}
 use Rattle.segment.specs.declared.Request.{Request}
 use Rattle.segment.specs.declared.Request.the-variants.{Read, CmpSwap, FetchAdd}
 use Rattle.segment.specs.declared.Following.the-variants.{Next, Refused}
+
+-- A message takes as many PSNs as it has packets, but a READ as many as it has responses.
+pub record Taken (n pmtu : ℕ) : Type 0 where
+  pub packets : (r : Request) → Carrier r → psnsOf r n pmtu ≡ packetsOf r n pmtu
+  pub read : (a : Reth) → psnsOf (Read a) n pmtu ≡ pieces (a .length) pmtu
+  pub cmp-swap : (a : AtomicEth) → psnsOf (CmpSwap a) n pmtu ≡ 1
+  pub fetch-add : (t : Target) (v : ℕ) → psnsOf (FetchAdd t v) n pmtu ≡ 1
+
+abbrev pub PsnsTaken : Type 0
+PsnsTaken = (n pmtu : ℕ) → Taken n pmtu
+
+-- Packet i has the PSN i after the first.
+abbrev pub PsnAt : Type 0
+PsnAt = (c : Connection) (r : Request) (n : ℕ) (first : Psn) (i : ℕ) → headerAt c r n first i .bth .psn ≡ psnAfter first i
 
 -- PSNs are consecutive from the first; the next message goes on behind the last packet, but after a READ behind its
 -- responses.

@@ -155,7 +155,7 @@ fn unserved(carrying: bool, service: u8) -> bool
     service == opcode::UC
 }
 
-// Whether a number is none that a packet can have, or the service has no such request.
+// Whether there is no such PMTU or service, a number is over 24 bits, or the service lacks the request.
 fn unfit(connection: Connection, carrying: bool, first: Psn) -> bool
     ensures { λ r. ⌜ r ≡ cutUnfit connection carrying (first .0) ⌝ }
 {
