@@ -19,32 +19,32 @@ fn sends(c: Connection, bytes: &[u8], p: usize, n: usize)
     requires { ⌜ p ≤ 4096 ⌝ }
     requires { ⌜ n ≤ 8192 ⌝ }
 {
-    let a = list(b"SEND", c, Request::Send, bytes, 0, Psn(16777213));
-    let b = list(b"SEND", c, Request::Send, bytes, 2 * p + 1, a);
-    let d = list(b"SEND_IMM", c, values::send_immediate(), bytes, 5, b);
-    list(b"SEND_IMM", c, values::send_immediate(), bytes, n + 2, d);
+    let a = list(c, Request::Send, bytes, 0, Psn(16777213));
+    let b = list(c, Request::Send, bytes, 2 * p + 1, a);
+    let d = list(c, values::send_immediate(), bytes, 5, b);
+    list(c, values::send_immediate(), bytes, n + 2, d);
 }
 
 // WRITEs likewise.
 fn writes(c: Connection, bytes: &[u8], p: usize, n: usize)
     requires { ⌜ n ≤ 8192 ⌝ }
 {
-    let a = list(b"WRITE", c, values::write(), bytes, 0, Psn(7));
-    let b = list(b"WRITE", c, values::write(), bytes, 6, a);
-    let d = list(b"WRITE", c, values::write(), bytes, n + 1, b);
-    let e = list(b"WRITE_IMM", c, values::write_immediate(), bytes, p, d);
-    list(b"WRITE_IMM", c, values::write_immediate(), bytes, n + 3, e);
+    let a = list(c, values::write(), bytes, 0, Psn(7));
+    let b = list(c, values::write(), bytes, 6, a);
+    let d = list(c, values::write(), bytes, n + 1, b);
+    let e = list(c, values::write_immediate(), bytes, p, d);
+    list(c, values::write_immediate(), bytes, n + 3, e);
 }
 
 // What RC has besides, a READ across the wrap first.
 fn others(c: Connection, bytes: &[u8], p: u32)
     requires { ⌜ p ≤ 4096 ⌝ }
 {
-    let a = list(b"READ", c, values::read(2 * p + 1), bytes, 0, Psn(16777214));
-    let b = list(b"READ", c, values::read(0), bytes, 0, a);
-    let d = list(b"CMP_SWAP", c, values::cmp_swap(), bytes, 0, b);
-    let e = list(b"FETCH_ADD", c, values::fetch_add(), bytes, 0, d);
-    list(b"SEND", c, Request::Send, bytes, 3, e);
+    let a = list(c, values::read(2 * p + 1), bytes, 0, Psn(16777214));
+    let b = list(c, values::read(0), bytes, 0, a);
+    let d = list(c, values::cmp_swap(), bytes, 0, b);
+    let e = list(c, values::fetch_add(), bytes, 0, d);
+    list(c, Request::Send, bytes, 3, e);
 }
 
 fn blocks(pmtu: u32, n: usize, bytes: &[u8]) {

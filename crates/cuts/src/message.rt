@@ -68,6 +68,20 @@ fn responses(request: Request, pmtu: usize) {
     }
 }
 
+// A request's kind.
+fn kind(request: Request) {
+    match request {
+        Request::Send => text(b"SEND"),
+        Request::SendImmediate(_) => text(b"SEND_IMM"),
+        Request::Write(_) => text(b"WRITE"),
+        Request::WriteImmediate(_, _) => text(b"WRITE_IMM"),
+        Request::Read(_) => text(b"READ"),
+        Request::CmpSwap(_) => text(b"CMP_SWAP"),
+        Request::FetchAdd(_, _) => text(b"FETCH_ADD"),
+    }
+}
+
+// Its length, if it has one; n is that of the bytes lent.
 fn length(request: Request, n: usize) {
     match request {
         Request::Send => number(b" length ", n as u64),
@@ -78,6 +92,12 @@ fn length(request: Request, n: usize) {
         Request::CmpSwap(_) => {}
         Request::FetchAdd(_, _) => {}
     }
+}
+
+// Both.
+pub(crate) fn head(request: Request, n: usize) {
+    kind(request);
+    length(request, n);
 }
 
 // The next message's PSN; refused, it is the first of all.
@@ -95,7 +115,7 @@ fn next_of(f: Following) -> Psn {
 }
 
 fn whole(connection: Connection, request: Request, message: &[u8], first: Psn) -> Psn {
-    length(request, message.len());
+    head(request, message.len());
     number(b" first ", first.0 as u64);
     let count = count_of(
         b" packets",
@@ -109,16 +129,14 @@ fn whole(connection: Connection, request: Request, message: &[u8], first: Psn) -
 
 // A message of n of the bytes. Gives the PSN of the next one.
 pub(crate) fn list(
-    name: &[u8],
     connection: Connection,
     request: Request,
     bytes: &[u8],
     n: usize,
     first: Psn,
 ) -> Psn {
-    text(name);
     if bytes.len() < n {
-        text(b" too long\n");
+        text(b"too long\n");
         return first;
     }
     whole(connection, request, &bytes[0..n], first)
