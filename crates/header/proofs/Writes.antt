@@ -95,6 +95,11 @@ no-done r n e = let z : _≡_ {A = ℕ} 0 1 = cc in omega arith
 same-done : (m n : ℕ) → Done m ≡ Done n → n ≡ m
 same-done m n e = cc
 
+-- a number that is not 0 is a refusal
+pub refused-by : (a n k : ℕ) → a ≡ k → (k ≡ 0 → ⊥) → answerBy a n ≡ Refused k
+unfolding answerBy
+refused-by a n k e z = rw (e, ne-eqb k 0 z)
+
 -- an answer of how many: nothing was refused
 pub was-done : (a m n : ℕ) → answerBy a m ≡ Done n → (a ≡ 0) × (n ≡ m)
 unfolding answerBy

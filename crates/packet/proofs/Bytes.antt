@@ -1,6 +1,6 @@
 -- What writing a packet answers and leaves.
 use Prim.Native.Nat.{ℕ, _+_, _≤_}
-use mathlib.Core.Path.{_≡_, refl, sym, ap, subst, _∙_}
+use mathlib.Core.Path.{_≡_, sym, ap, subst, _∙_}
 use mathlib.Core.Bool.{Bool, true, not}
 use mathlib.Core.List.{List, _++_, append-assoc}
 use native.Mathlib.Omega.{arith}
@@ -28,20 +28,7 @@ length-packet h d good =
     ∙ (ap (λ n. n + length (d ++ z)) (length-header h good)
     ∙ ap (λ n. headerLength h + n) (length-append d z ∙ ap (λ n. length d + n) (length-replicate (padOf (length d)) 0)))
 
--- a packet that no refusal stops
-pub record Passing (h : Header) (n m : ℕ) : Type 0 where
-  pub good : headerFits h ≡ true
-  pub pad : h .bth .pad ≡ padOf n
-  pub short : packetLength h n ≤ 4128
-  pub room : packetLength h n ≤ m
-
-pub passing : (h : Header) (n room : ℕ) → packetAnswer h n room ≡ 0 → Passing h n room
-unfolding packetAnswer packetLength
-passing h n room e =
-    let P = passed (not (headerFits h)) (h .bth .pad) (headerLength h) n room e in
-    record { good = not-false (headerFits h) (not (headerFits h)) refl (P .good); pad = P .pad; short = P .short; room = P .room }
-
--- is written whole: the header, the payload behind it, the pad behind that
+-- written whole: the header, the payload behind it, the pad behind that
 pub three-parts : (h : Header) (d out : List ℕ) → headerFits h ≡ true → packetLength h (length d) ≤ length out
     → placed (placed (writtenOut h out) (headerLength h) d) (headerLength h + length d) (replicate (padOf (length d)) 0)
     ≡ packetBytes h d ++ drop (packetLength h (length d)) out

@@ -6,6 +6,7 @@ use mathlib.Core.List.{List, _++_, append-assoc}
 use native.Mathlib.Omega.{arith}
 use lib.ListN.{length, take, drop, replicate, length-append, length-replicate}
 use lib.Seq.{take-at, drop-at}
+use Rattle.laws.proofs.Tests.{not-false}
 use Rattle.header.specs.Read.{headerOf, readHeader}
 use Rattle.header.specs.Write.{headerBytes, headerFits, headerLength}
 use Rattle.header.specs.declared.Header.{Header}
@@ -17,8 +18,8 @@ use Rattle.header.proofs.Writes.{was-done}
 use Rattle.packet.specs.Packet.{padOf, packetBytes, packetLength, packetAnswer, packetWritten, packetOut, payloadOf}
 use Rattle.packet.specs.Claims.{Found, ReadBack, Writes}
 use Rattle.packet.proofs.Pads.{pad-fills}
-use Rattle.packet.proofs.Passes.{passes}
-use Rattle.packet.proofs.Bytes.{Passing, passing, length-packet, yes}
+use Rattle.packet.proofs.Passes.{passed, passes}
+use Rattle.packet.proofs.Bytes.{length-packet, yes}
 
 -- the payload, behind the header that the packet's bytes have
 payload-back : (h : Header) (d : List ℕ) → headerFits h ≡ true → h .bth .pad ≡ padOf (length d)
@@ -79,15 +80,16 @@ pub writes : Writes
 writes h d out good pad short room = yes h d out (none h (length d) (length out) good pad short room)
 
 pub read-back : ReadBack
-unfolding packetWritten
+unfolding packetWritten packetAnswer packetLength
 read-back h d out n e =
     let D = was-done (packetAnswer h (length d) (length out)) (packetLength h (length d)) n e in
-    let P : Passing h (length d) (length out) = passing h (length d) (length out) (D .0) in
-    let W = writes h d out (P .good) (P .pad) (P .short) (P .room) in
+    let P = passed (not (headerFits h)) (h .bth .pad) (headerLength h) (length d) (length out) (D .0) in
+    let good = not-false (headerFits h) (not (headerFits h)) refl (P .good) in
+    let W = writes h d out good (P .pad) (P .short) (P .room) in
     let same : take n (packetOut h d out) ≡ packetBytes h d =
     ap (take n) (W .1)
-    ∙ take-at (packetBytes h d) (drop (packetLength h (length d)) out) n (length-packet h d (P .good) ∙ sym (D .1)) in
-    let F = found h d (P .good) (P .pad) (P .short) in
+    ∙ take-at (packetBytes h d) (drop (packetLength h (length d)) out) n (length-packet h d good ∙ sym (D .1)) in
+    let F = found h d good (P .pad) (P .short) in
     record {
       header = ap readHeader same ∙ F .header;
       payload = ap payloadOf same ∙ F .payload;

@@ -8,8 +8,7 @@ use borrow.Author.Tests.{lt-ltb, le-ltb, lt-leb, leb-false, ltb-true, ltb-false,
 use Rattle.sequence.specs.Sequence.{space}
 use Rattle.sequence.specs.declared.Psn.{Psn}
 use Rattle.header.specs.Write.{answerBy}
-use Rattle.header.specs.declared.Answer.the-variants as Answered
-use Rattle.header.proofs.Writes.{number-by}
+use Rattle.header.proofs.Writes.{number-by, refused-by}
 use Rattle.pieces.specs.Pieces.{pmtuFits, pieces}
 use Rattle.pieces.specs.Claims.{IsPmtu}
 use Rattle.pieces.proofs.Counting.{pmtus}
@@ -44,10 +43,6 @@ over r n h = go (ltb messageLimit (messageLength r n)) refl
     go true e = ltb-true messageLimit (messageLength r n) e
     go false e = absurd (h (limit-in r n (ltb-false messageLimit (messageLength r n) e)))
 
-by-number : (a m k : ℕ) → a ≡ k → (k ≡ 0 → ⊥) → answerBy a m ≡ Answered.Refused k
-unfolding answerBy
-by-number a m k e n = rw (e, ne-eqb k 0 n)
-
 pub count-answers : CountAnswers
 unfolding packetsAnswer responsesAnswer answerBy
 count-answers r n pmtu =
@@ -55,12 +50,12 @@ count-answers r n pmtu =
     let n34 : _≡_ {A = ℕ} 34 0 → ⊥ = λ z. omega arith in
     record {
       unfit = λ h. (
-        by-number (lengthRefusal (messageLength r n) pmtu) (packetsOf r n pmtu) 39 (length-unfit (messageLength r n) pmtu h) n39,
-        by-number (lengthRefusal n pmtu) (pieces n pmtu) 39 (length-unfit n pmtu h) n39,
+        refused-by (lengthRefusal (messageLength r n) pmtu) (packetsOf r n pmtu) 39 (length-unfit (messageLength r n) pmtu h) n39,
+        refused-by (lengthRefusal n pmtu) (pieces n pmtu) 39 (length-unfit n pmtu h) n39,
       );
-      over = λ p h. by-number (lengthRefusal (messageLength r n) pmtu) (packetsOf r n pmtu) 34 (length-over (messageLength r n) pmtu p (over r n h)) n34;
+      over = λ p h. refused-by (lengthRefusal (messageLength r n) pmtu) (packetsOf r n pmtu) 34 (length-over (messageLength r n) pmtu p (over r n h)) n34;
       packets = λ p h. rw (length-passes (messageLength r n) pmtu p (in-limit r n h));
-      long = λ p h. by-number (lengthRefusal n pmtu) (pieces n pmtu) 34 (length-over n pmtu p h) n34;
+      long = λ p h. refused-by (lengthRefusal n pmtu) (pieces n pmtu) 34 (length-over n pmtu p h) n34;
       responses = λ p h. rw (length-passes n pmtu p h);
     }
 

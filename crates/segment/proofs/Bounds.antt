@@ -1,18 +1,16 @@
 -- How large the numbers of a cut are.
 use Prim.Native.Nat.{ℕ, _+_, _≤_, _<_}
-use mathlib.Core.Path.{_≡_, refl}
-use mathlib.Core.Bool.{Bool, true, false, cond, not, _||_}
+use mathlib.Core.Path.{_≡_}
+use mathlib.Core.Bool.{true, false}
 use native.Mathlib.Omega.{arith}
-use lib.Dec.{leb, ltb, eqb}
-use borrow.Author.Tests.{leb-false, ltb-false}
+use lib.Dec.{eqb}
+use borrow.Author.Tests.{ltb-false}
 use Rattle.laws.proofs.Tests.{cond-le}
-use Rattle.sequence.specs.Sequence.{space}
 use Rattle.header.specs.Read.{otherService}
 use Rattle.pieces.specs.Pieces.{pmtuFits, pieces, placeAt}
 use Rattle.pieces.proofs.Counting.{counts, pmtu-bounds}
 use Rattle.segment.specs.Message.{carries, carriedLength, messageLength, messageLimit, packetsOf}
-use Rattle.segment.specs.Cut.{ends, withImmediate, lowFor, unserved, cutUnfit, cutRefusal}
-use Rattle.segment.specs.declared.Connection.{Connection}
+use Rattle.segment.specs.Cut.{ends, withImmediate, lowFor}
 use Rattle.segment.specs.declared.Request.{Request}
 use Rattle.segment.specs.declared.Request.the-variants.{Send, SendImmediate, Write, WriteImmediate, Read, CmpSwap, FetchAdd}
 
@@ -53,59 +51,14 @@ pieces-bound n pmtu f h =
     let w : 256 ≤ pmtu = b .0 in
     counts n pmtu (omega arith) .least 4096 (omega arith) (omega arith)
 
--- what a cut that is not refused tells
-pub record Passed (c : Connection) (own : Bool) (psn whole count i : ℕ) : Type 0 where
-  pub pmtu : pmtuFits (c .pmtu) ≡ true
-  pub service : otherService (c .service) ≡ false
-  pub dest : c .dest < space
-  pub first : psn < space
-  pub served : unserved own (c .service) ≡ false
-  pub limit : whole ≤ messageLimit
-  pub index : i < count
-
-pub passed : (c : Connection) (r : Request) (n psn i : ℕ) → cutRefusal c r n psn i ≡ 0
-    → Passed c (carries r) psn (messageLength r n) (packetsOf r n (c .pmtu)) i
-unfolding cutRefusal cutUnfit
-passed c r n psn i e =
-    go (pmtuFits (c .pmtu)) (otherService (c .service)) (leb space (c .dest)) (leb space psn)
-    (unserved (carries r) (c .service)) (ltb messageLimit (messageLength r n)) (leb (packetsOf r n (c .pmtu)) i)
-    refl refl refl refl refl refl refl e
-  where
-    go : (x1 x2 x3 x4 x5 x6 x7 : Bool) → pmtuFits (c .pmtu) ≡ x1 → otherService (c .service) ≡ x2
-        → leb space (c .dest) ≡ x3
-        → leb space psn ≡ x4
-        → unserved (carries r) (c .service) ≡ x5
-        → ltb messageLimit (messageLength r n) ≡ x6
-        → leb (packetsOf r n (c .pmtu)) i ≡ x7
-        → _≡_ {A = ℕ} (cond (not x1 || (x2 || (x3 || (x4 || x5)))) 39 (cond x6 34 (cond x7 34 0))) 0
-        → Passed c (carries r) psn (messageLength r n) (packetsOf r n (c .pmtu)) i
-    go false x2 x3 x4 x5 x6 x7 a b d f g h k z = absurd (omega arith)
-    go true true x3 x4 x5 x6 x7 a b d f g h k z = absurd (omega arith)
-    go true false true x4 x5 x6 x7 a b d f g h k z = absurd (omega arith)
-    go true false false true x5 x6 x7 a b d f g h k z = absurd (omega arith)
-    go true false false false true x6 x7 a b d f g h k z = absurd (omega arith)
-    go true false false false false true x7 a b d f g h k z = absurd (omega arith)
-    go true false false false false false true a b d f g h k z = absurd (omega arith)
-    go true false false false false false false a b d f g h k z =
-        record {
-          pmtu = a;
-          service = b;
-          dest = leb-false space (c .dest) d;
-          first = leb-false space psn f;
-          served = g;
-          limit = ltb-false messageLimit (messageLength r n) h;
-          index = leb-false (packetsOf r n (c .pmtu)) i k;
-        }
-
--- so the packet's index is small
-pub index-small : (c : Connection) (r : Request) (n psn i : ℕ)
-    → Passed c (carries r) psn (messageLength r n) (packetsOf r n (c .pmtu)) i → i < 4096
+-- so an index within the packets of a message is small
+pub index-small : (r : Request) (n pmtu i : ℕ) → pmtuFits pmtu ≡ true → messageLength r n ≤ messageLimit
+    → i < packetsOf r n pmtu → i < 4096
 unfolding packetsOf
-index-small c r n psn i P =
+index-small r n pmtu i f l h =
     let a : carriedLength r n ≤ messageLength r n = carried-bound r n in
-    let b : messageLength r n ≤ messageLimit = P .limit in
-    let m : pieces (carriedLength r n) (c .pmtu) ≤ 4096 = pieces-bound (carriedLength r n) (c .pmtu) (P .pmtu) (omega arith) in
-    omega (arith, P .index)
+    let m : pieces (carriedLength r n) pmtu ≤ 4096 = pieces-bound (carriedLength r n) pmtu f (omega arith) in
+    omega arith
 
 pub service-small : (s : ℕ) → otherService s ≡ false → s ≤ 1
 unfolding otherService

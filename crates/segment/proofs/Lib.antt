@@ -1,6 +1,7 @@
 pub mod Bounds
-pub mod Steps
 pub mod Shapes
+pub mod Fitting
+pub mod Steps
 pub mod Fits
 pub mod Whole
 pub mod Numbers

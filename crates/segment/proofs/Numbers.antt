@@ -15,7 +15,7 @@ use Rattle.segment.specs.Message.{carries, carriedLength, messageLength,
 use Rattle.segment.specs.Next.{psnsOf, nextPsn}
 use Rattle.segment.specs.Cut.{ends, starts, withImmediate, lowFor, sendExtension, rethFor, writeExtension, writeEnd, writeImmediateExtension, fetchAddEth, extensionFor, bthAt, headerAt}
 use Rattle.segment.specs.Claims.{Carrier, CutMarked, CutOpcodes, CutExtended}
-use Rattle.segment.specs.Numbers.{PsnsTaken, PsnAt, PsnFirst, PsnNext, NextMessage, NextOthers}
+use Rattle.segment.specs.Numbers.{PsnsTaken, PsnAt, PsnFirst, PsnNext, NextMessage, NextIs}
 use Rattle.segment.specs.declared.Request.{Request}
 use Rattle.segment.specs.declared.Request.the-variants.{Send, SendImmediate, Write, WriteImmediate, Read, CmpSwap, FetchAdd}
 use Rattle.segment.proofs.Bounds.{place-bound, low-bound}
@@ -146,6 +146,6 @@ pub next-message : NextMessage
 unfolding nextPsn headerAt bthAt
 next-message c r n first i k e = follows first i (psnsOf r n (c .pmtu)) (e ∙ sym (same-taken n (c .pmtu) r k))
 
-pub next-others : NextOthers
-unfolding nextPsn psnsOf messageLength pieces
-next-others n pmtu first = record { read = λ a. refl; cmp-swap = λ a. refl; fetch-add = λ t v. refl }
+pub next-is : NextIs
+unfolding nextPsn
+next-is r n pmtu first = refl

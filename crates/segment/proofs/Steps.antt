@@ -21,12 +21,15 @@ use Rattle.header.specs.declared.Answer.the-variants.{Refused}
 use Rattle.packet.specs.Packet.{packetWritten, packetOut}
 use Rattle.pieces.specs.Pieces.{pmtuFits, pieces, placeAt, pieceAt, partAt}
 use Rattle.pieces.specs.declared.Span.{Span}
-use Rattle.pieces.proofs.Cuts.{parts}
+use Rattle.pieces.proofs.Counting.{pmtus}
+use Rattle.pieces.proofs.Cuts.{parts, parts-within}
 use Rattle.segment.specs.Message.{carries, carried, carriedLength, messageLength, messageLimit, packetsOf, lengthRefusal}
 use Rattle.segment.specs.Cut.{unserved, cutUnfit, cutRefusal, lowFor, extensionFor, bthAt, sizeAt, headerAt, payloadAt, cutBytes, cutAnswer, cutWritten, cutOut}
+use Rattle.segment.specs.Claims.{Fit}
 use Rattle.segment.specs.declared.Connection.{Connection}
 use Rattle.segment.specs.declared.Request.{Request}
-use Rattle.segment.proofs.Bounds.{Passed, passed, pieces-bound, index-small, service-small, low-bound}
+use Rattle.segment.proofs.Bounds.{pieces-bound, index-small, service-small, low-bound}
+use Rattle.segment.proofs.Fitting.{known, passed}
 
 -- a length that is not refused
 pub length-passed : (n pmtu : ℕ) → lengthRefusal n pmtu ≡ 0 → (pmtuFits pmtu ≡ true) × (n ≤ messageLimit)
@@ -45,36 +48,34 @@ count-passed n pmtu code count e z p =
     subst (λ k. k ≤ 4096) (sym p) (pieces-bound n pmtu (L .0) (L .1))
 
 -- the last of the tests on numbers: whether the service has the request
-pub unfit-last : (c : Connection) (own : Bool) (psn : ℕ) (u o w : Bool) → u ≡ not (pmtuFits (c .pmtu)) → u ≡ false
-    → o ≡ otherService (c .service) → o ≡ false → c .dest < space → psn < space → w ≡ unserved own (c .service)
-    → w ≡ cutUnfit c own psn
+pub unfit-last : (c : Connection) (bytes : Bool) (psn : ℕ) (u o w : Bool) → u ≡ not (pmtuFits (c .pmtu)) → u ≡ false
+    → o ≡ otherService (c .service) → o ≡ false → c .dest < space → psn < space → w ≡ unserved bytes (c .service)
+    → w ≡ cutUnfit c bytes psn
 unfolding cutUnfit
-unfit-last c own psn u o w e f g h d p q =
+unfit-last c bytes psn u o w e f g h d p q =
     rw (not-false (pmtuFits (c .pmtu)) u e f, sym g ∙ h, lt-leb space (c .dest) d, lt-leb space psn p) q
 
--- the header
-pub span-order : (n pmtu i : ℕ) → partAt n pmtu i .start ≤ partAt n pmtu i .end
-unfolding partAt
-span-order n pmtu i = omega arith
-
+-- the header: what the numbers of a cut that is not refused are
 module _ (c : Connection) (r : Request) (n : ℕ) (first : Psn) (i : ℕ) (e : cutRefusal c r n (first .0) i ≡ 0) where
-  P : Passed c (carries r) (first .0) (messageLength r n) (packetsOf r n (c .pmtu)) i
+  P : Fit c r (first .0) × (messageLength r n ≤ messageLimit) × (i < packetsOf r n (c .pmtu))
   P = passed c r n (first .0) i e
 
   pub bth-numbers : (place low : ℕ) (p : place ≤ 4) → low ≡ lowFor r place → (c .service ≤ 1) × ((low ≤ 20) × (i < 16777216))
-  bth-numbers place low p q =
-      (service-small (c .service) (P .service), (subst (λ x. x ≤ 20) (sym q) (low-bound r place p), omega (arith, index-small c r n (first .0) i P)))
+  bth-numbers place low p q = (
+    service-small (c .service) (known (c .service) r (P .0 .service)),
+    (subst (λ x. x ≤ 20) (sym q) (low-bound r place p), omega (arith, index-small r n (c .pmtu) i (pmtus (c .pmtu) .1 (P .0 .pmtu)) (P .1) (P .2))),
+  )
 
   pub length-small : (whole : ℕ) → whole ≡ messageLength r n → whole ≤ messageLimit
-  length-small whole q = subst (λ x. x ≤ messageLimit) (sym q) (P .limit)
+  length-small whole q = subst (λ x. x ≤ messageLimit) (sym q) (P .1)
 
-pub header-is : (c : Connection) (r : Request) (n : ℕ) (first : Psn) (i own count place low whole : ℕ) (span : Span) (bth : Bth) (x : Extension)
-    → own ≡ carriedLength r n → count ≡ pieces own (c .pmtu) → place ≡ placeAt count i → span ≡ partAt own (c .pmtu) i
+pub header-is : (c : Connection) (r : Request) (n : ℕ) (first : Psn) (i bytes count place low whole : ℕ) (span : Span) (bth : Bth) (x : Extension)
+    → bytes ≡ carriedLength r n → count ≡ pieces bytes (c .pmtu) → place ≡ placeAt count i → span ≡ partAt bytes (c .pmtu) i
     → low ≡ lowFor r place → bth ≡ bthAt c low first i count (span .end - span .start) → whole ≡ messageLength r n
     → x ≡ extensionFor r whole place
     → record { bth = bth; extension = x } ≡ headerAt c r n first i
 unfolding headerAt sizeAt packetsOf
-header-is c r n first i own count place low whole span bth x o k p s l b w y =
+header-is c r n first i bytes count place low whole span bth x o k p s l b w y =
     simp (y, w, b, l, s, p, k, o)
 
 -- the packet: part `span` of the message, written under the header h
@@ -111,27 +112,25 @@ part-carried r d pmtu i = go (carries r)
     go true = parts d pmtu i
     go false = none d pmtu i
 
-pub span-inside : (r : Request) (n own pmtu i : ℕ) (span : Span) → own ≡ carriedLength r n → span ≡ partAt own pmtu i
+pub span-inside : (r : Request) (n carried pmtu i : ℕ) (span : Span) → carried ≡ carriedLength r n → span ≡ partAt carried pmtu i
     → (span .start ≤ span .end) × (span .end ≤ n)
-unfolding partAt carriedLength
-span-inside r n own pmtu i span o s = go (carries r) o
-  where
-    go : (b : Bool) → own ≡ cond b n 0 → (span .start ≤ span .end) × (span .end ≤ n)
-    go b q =
-        let f : own ≤ n = subst (λ x. x ≤ n) (sym q) (cond-le b (omega arith) (omega arith)) in
-        let u : span .start ≡ min (i * pmtu) own = ap (λ x. x .start) s in
-        let v : span .end ≡ min (i * pmtu + pmtu) own = ap (λ x. x .end) s in
-        (omega arith, omega arith)
+unfolding carriedLength
+span-inside r n carried pmtu i span o s =
+    let f : carried ≤ n = subst (λ x. x ≤ n) (sym o) (cond-le (carries r) (omega arith) (omega arith)) in
+    let W = parts-within carried pmtu i in (
+      subst (λ x. x .start ≤ x .end) (sym s) (W .0),
+      subst (λ x. x .end ≤ n) (sym s) (omega (arith, W .1)),
+    )
 
-pub whole : (c : Connection) (r : Request) (d out : List ℕ) (first : Psn) (i code own : ℕ) (h : Header) (span : Span) (a : Answer)
+pub whole : (c : Connection) (r : Request) (d out : List ℕ) (first : Psn) (i code bytes : ℕ) (h : Header) (span : Span) (a : Answer)
     (w : List ℕ) → code ≡ cutRefusal c r (length d) (first .0) i → code ≡ 0 → h ≡ headerAt c r (length d) first i
-    → own ≡ carriedLength r (length d)
-    → span ≡ partAt own (c .pmtu) i
+    → bytes ≡ carriedLength r (length d)
+    → span ≡ partAt bytes (c .pmtu) i
     → a ≡ packetWritten h (length (partOf d span)) (length out)
     → w ≡ packetOut h (partOf d span) out
     → (a ≡ cutWritten c r d first i (length out)) × (w ≡ cutOut c r d first i out)
 unfolding cutWritten cutOut cutAnswer cutBytes payloadAt packetWritten packetOut
-whole c r d out first i code own h span a w e z k o s x y =
+whole c r d out first i code bytes h span a w e z k o s x y =
     let p : partOf d span ≡ pieceAt (carried r d) (c .pmtu) i =
     ap (partOf d) (s ∙ ap (λ n. partAt n (c .pmtu) i) o) ∙ part-carried r d (c .pmtu) i in
     let q : cutRefusal c r (length d) (first .0) i ≡ 0 = sym e ∙ z in

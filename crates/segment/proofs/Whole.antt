@@ -6,7 +6,6 @@ use mathlib.Core.List.{List, [], _∷_, _++_}
 use mathlib.Core.Logic.{_⊎_, inl, inr}
 use native.Mathlib.Omega.{arith}
 use lib.ListN.{length, take, drop}
-use borrow.Author.Tests.{ne-eqb}
 use Rattle.sequence.specs.declared.Psn.{Psn}
 use Rattle.opcode.specs.Opcode.{lowOf}
 use Rattle.header.specs.Write.{headerFits, answerBy}
@@ -29,9 +28,10 @@ use Rattle.segment.specs.declared.Connection.{Connection}
 use Rattle.segment.specs.declared.Request.{Request}
 use Rattle.segment.specs.declared.Request.the-variants.{Send, SendImmediate, Write, WriteImmediate, Read, CmpSwap, FetchAdd}
 use Rattle.segment.proofs.Bounds.{place-bound, immediate-bound, low-bound}
-use Rattle.segment.proofs.Steps.{length-carried}
+use Rattle.segment.proofs.Steps.{refused, length-carried}
 use Rattle.segment.proofs.Shapes.{place-said, carrier-carries, service-is, low-is}
-use Rattle.segment.proofs.Fits.{refused-39, refused-34, not-refused, none-carried, size-is, header-fits, packet-short}
+use Rattle.segment.proofs.Fitting.{refused-39, refused-34, not-refused}
+use Rattle.segment.proofs.Fits.{none-carried, size-is, header-fits, packet-short}
 
 -- what holds of packet i of a sound message
 module _ (c : Connection) (r : Request) (d : List ℕ) (first : Psn) (i : ℕ) (S : Cuttable c r (length d) (first .0)) where
@@ -58,42 +58,37 @@ module _ (c : Connection) (r : Request) (d : List ℕ) (first : Psn) (i : ℕ) (
   unfolding cutBytes h
   reads = found (headerAt c r (length d) first i) (payloadAt c r d i) good pad short
 
--- the answer and the output, by the answer's number
-module _ (c : Connection) (r : Request) (d : List ℕ) (first : Psn) (i : ℕ) (out : List ℕ) where
-  refuses : (k : ℕ) → cutAnswer c r d first i (length out) ≡ k → (k ≡ 0 → ⊥) → Refuses c r d first i out k
-  unfolding cutWritten cutOut answerBy
-  refuses k e n = record { answer = rw (e, ne-eqb k 0 n); output = rw (e, ne-eqb k 0 n) }
-
-  early : (k : ℕ) → cutRefusal c r (length d) (first .0) i ≡ k → (k ≡ 0 → ⊥) → cutAnswer c r d first i (length out) ≡ k
-  unfolding cutAnswer
-  early k e n = rw (e, ne-eqb k 0 n)
-
-  late : cutRefusal c r (length d) (first .0) i ≡ 0
-      → cutAnswer c r d first i (length out) ≡ packetAnswer (headerAt c r (length d) first i) (length (payloadAt c r d i)) (length out)
-  unfolding cutAnswer
-  late e = rw e
+-- what is refused before the output is looked at
+early : (c : Connection) (r : Request) (d : List ℕ) (first : Psn) (i : ℕ) (out : List ℕ) (k : ℕ)
+    → cutRefusal c r (length d) (first .0) i ≡ k → (k ≡ 0 → ⊥) → Refuses c r d first i out k
+early c r d first i out k e n =
+    let R = refused c r d out first i k (sym e) n in
+    record { answer = sym (R .0); output = sym (R .1) }
 
 pub cut-unfit : CutUnfit
-cut-unfit c r d first i out h =
-    let n : _≡_ {A = ℕ} 39 0 → ⊥ = λ z. omega arith in
-    refuses c r d first i out 39 (early c r d first i out 39 (refused-39 c r (length d) (first .0) i h) n) n
+cut-unfit c r d first i out h = early c r d first i out 39 (refused-39 c r (length d) (first .0) i h) (λ z. omega arith)
 
 pub cut-over : CutOver
-cut-over c r d first i out F h =
-    let n : _≡_ {A = ℕ} 34 0 → ⊥ = λ z. omega arith in
-    refuses c r d first i out 34 (early c r d first i out 34 (refused-34 c r (length d) (first .0) i F h) n) n
+cut-over c r d first i out F h = early c r d first i out 34 (refused-34 c r (length d) (first .0) i F h) (λ z. omega arith)
+
+-- and after: as the packet writer answers
+late : (c : Connection) (r : Request) (d : List ℕ) (first : Psn) (i room : ℕ) → cutRefusal c r (length d) (first .0) i ≡ 0
+    → cutAnswer c r d first i room ≡ packetAnswer (headerAt c r (length d) first i) (length (payloadAt c r d i)) room
+unfolding cutAnswer
+late c r d first i room e = rw e
 
 through : (c : Connection) (r : Request) (d : List ℕ) (first : Psn) (i : ℕ) → Cuttable c r (length d) (first .0)
     → i < packetsOf r (length d) (c .pmtu) → cutRefusal c r (length d) (first .0) i ≡ 0
 through c r d first i S l = not-refused c r (length d) (first .0) i (S .fit) (S .limit) l
 
 pub cut-short : CutShort
-unfolding h
+unfolding h cutWritten cutOut answerBy
 cut-short c r d first i out S l room =
     let H = headerAt c r (length d) first i in
-    let n : _≡_ {A = ℕ} 35 0 → ⊥ = λ z. omega arith in
-    let e = lacking H (length (payloadAt c r d i)) (length out) (good c r d first i S) (pad c r d first i S) (short c r d first i S) (subst (λ k. length out < k) (size c r d first i S) room) in
-    refuses c r d first i out 35 (late c r d first i out (through c r d first i S l) ∙ e) n
+    let e : cutAnswer c r d first i (length out) ≡ 35 =
+    late c r d first i (length out) (through c r d first i S l)
+    ∙ lacking H (length (payloadAt c r d i)) (length out) (good c r d first i S) (pad c r d first i S) (short c r d first i S) (subst (λ k. length out < k) (size c r d first i S) room) in
+    record { answer = rw e; output = rw e }
 
 written : (c : Connection) (r : Request) (d : List ℕ) (first : Psn) (i : ℕ) (out : List ℕ) (m : ℕ)
     → packetLength (headerAt c r (length d) first i) (length (payloadAt c r d i)) ≡ m
@@ -108,7 +103,7 @@ cuts c r d first i out S l room =
     let H = headerAt c r (length d) first i in
     let s : length (cutBytes c r d first i) ≡ packetLength H (length (payloadAt c r d i)) = size c r d first i S in
     let e = none H (length (payloadAt c r d i)) (length out) (good c r d first i S) (pad c r d first i S) (short c r d first i S) (subst (λ k. k ≤ length out) s room) in
-    written c r d first i out (length (cutBytes c r d first i)) (sym s) (late c r d first i out (through c r d first i S l) ∙ e)
+    written c r d first i out (length (cutBytes c r d first i)) (sym s) (late c r d first i (length out) (through c r d first i S l) ∙ e)
 
 pub cut-numbers : CutNumbers
 unfolding cutWritten

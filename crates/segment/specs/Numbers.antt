@@ -27,12 +27,15 @@ pub record Taken (n pmtu : ℕ) : Type 0 where
 abbrev pub PsnsTaken : Type 0
 PsnsTaken = (n pmtu : ℕ) → Taken n pmtu
 
+-- The next message's PSN is as much further on.
+abbrev pub NextIs : Type 0
+NextIs = (r : Request) (n pmtu : ℕ) (first : Psn) → nextPsn r n pmtu first ≡ psnAfter first (psnsOf r n pmtu)
+
 -- Packet i has the PSN i after the first.
 abbrev pub PsnAt : Type 0
 PsnAt = (c : Connection) (r : Request) (n : ℕ) (first : Psn) (i : ℕ) → headerAt c r n first i .bth .psn ≡ psnAfter first i
 
--- PSNs are consecutive from the first; the next message goes on behind the last packet, but after a READ behind its
--- responses.
+-- PSNs are consecutive from the first, and the next message goes on behind the last packet.
 abbrev pub PsnFirst : Type 0
 PsnFirst = (c : Connection) (r : Request) (n : ℕ) (first : Psn) → first .0 < 2 ^ 24 → headerAt c r n first 0 .bth .psn ≡ first
 
@@ -45,14 +48,6 @@ abbrev pub NextMessage : Type 0
 NextMessage =
     (c : Connection) (r : Request) (n : ℕ) (first : Psn) (i : ℕ) → Carrier r → suc i ≡ packetsOf r n (c .pmtu)
     → nextPsn r n (c .pmtu) first ≡ psnAfter (headerAt c r n first i .bth .psn) 1
-
-pub record Skips (n pmtu : ℕ) (first : Psn) : Type 0 where
-  pub read : (a : Reth) → nextPsn (Read a) n pmtu first ≡ psnAfter first (pieces (a .length) pmtu)
-  pub cmp-swap : (a : AtomicEth) → nextPsn (CmpSwap a) n pmtu first ≡ psnAfter first 1
-  pub fetch-add : (t : Target) (v : ℕ) → nextPsn (FetchAdd t v) n pmtu first ≡ psnAfter first 1
-
-abbrev pub NextOthers : Type 0
-NextOthers = (n pmtu : ℕ) (first : Psn) → Skips n pmtu first
 
 -- The answer: 39 without a PMTU or with a PSN over 24 bits, then 34 over the limit, else the PSN.
 pub record Followed (r : Request) (n pmtu : ℕ) (first : Psn) : Type 0 where

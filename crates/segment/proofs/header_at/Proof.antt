@@ -1,4 +1,5 @@
-use Rattle.segment.proofs.Steps.{span-order, bth-numbers, length-small, header-is}
+use Rattle.pieces.proofs.Cuts.{parts-within}
+use Rattle.segment.proofs.Steps.{bth-numbers, length-small, header-is}
 use Rattle.segment.proofs.Bounds.{place-bound}
 use Prim.Native.Nat.{_≤_}
 use mathlib.Core.Path.{sym, subst}
@@ -23,7 +24,7 @@ low-for-requires : tie.Need-low-for-requires
 low-for-requires c κs = subst (λ x. x ≤ 4) (sym (c .before .place .ensures)) (place-bound _ _)
 
 sub-bth-at : tie.Need-sub-bth-at
-sub-bth-at c = subst (λ x. x .start ≤ x .end) (sym (c .before .before .part .ensures)) (span-order _ _ _)
+sub-bth-at c = subst (λ x. x .start ≤ x .end) (sym (c .before .before .part .ensures)) (parts-within _ _ _ .0)
 
 bth-at-requires : tie.Need-bth-at-requires
 bth-at-requires c κs = bth-numbers (c .before .before .before .before .before .before .args .connection) (c .before .before .before .before .before .before .args .request) (c .before .before .before .before .before .before .args .n) (c .before .before .before .before .before .before .args .first) (c .before .before .before .before .before .before .args .index) (c .before .before .before .before .before .before .pre) _ _ (subst (λ x. x ≤ 4) (sym (c .before .before .before .place .ensures)) (place-bound _ _)) (c .before .low-for .ensures)
