@@ -1,0 +1,46 @@
+-- The tables of a pair as rows of numbers.
+use Prim.Native.Nat.{ℕ, zero, suc, _+_, _%_, _^_}
+use mathlib.Core.Bool.{Bool, true, false, cond, _||_}
+use mathlib.Core.List.{List, [], _∷_}
+use lib.Dec.{eqb, ltb, leb}
+use lib.ListN.{getD, replicate}
+use Rattle.table.specs.declared.Region.{Region}
+use Rattle.table.specs.declared.Entry.{Entry}
+
+-- length bytes from offset on do not all lie in memory
+unfoldable pub outside : ℕ → ℕ → ℕ → Bool
+outside offset length memory = ltb memory (offset + length)
+
+-- address plus length is not below 2^64
+unfoldable pub pastTop : ℕ → ℕ → Bool
+pastTop address length = leb (2 ^ 64) (address + length)
+
+-- a region has length at least 1, lies in memory, and ends below 2^64
+unfoldable pub regionOutside : ℕ → ℕ → ℕ → ℕ → Bool
+regionOutside address length offset memory = eqb length 0 || (outside offset length memory || pastTop address length)
+
+-- a region's row: key, address, length, offset; the rights to write, to read and to atomics, 1 or 0
+unfoldable pub regionRow : Region → List ℕ
+regionRow r = r .key ∷ r .address ∷ r .length ∷ r .offset ∷ cond (r .write) 1 0 ∷ cond (r .read) 1 0 ∷ cond (r .atomic) 1 0 ∷ []
+
+-- a row of length 0 is empty; so is a row of zeros
+abbrev pub noRegion : List ℕ
+noRegion = replicate 7 0
+
+-- an entry's row: number, offset, length
+unfoldable pub entryRow : Entry → List ℕ
+entryRow e = e .number ∷ e .offset ∷ e .length ∷ []
+
+-- a row is free if its length is 0; it is the row of a key if it is not free and has that key
+unfoldable pub sought : Bool → ℕ → ℕ → ℕ → Bool
+sought free key of length = cond free (eqb length 0) (cond (eqb length 0) false (eqb of key))
+
+-- the first row sought of the n from row i on, or i + n
+unfoldable pub firstFrom : Bool → ℕ → List (List ℕ) → ℕ → ℕ → ℕ
+firstFrom free key rows i zero = i
+firstFrom free key rows i (suc n) =
+    cond (sought free key (getD (getD rows i []) 0 0) (getD (getD rows i []) 2 0)) i (firstFrom free key rows (suc i) n)
+
+-- place i of a ring is the row i past its head, and after row 15 comes row 0
+unfoldable pub slotAt : ℕ → ℕ → ℕ
+slotAt head i = (head + i) % 16
