@@ -65,10 +65,10 @@ WordOver =
     → (wordAt m at ≡ 0) × (wordPut m at x ≡ m) × (fetchAdded m at x ≡ m) × (swapped m at x y ≡ m)
 
 -- Of two states of memory, only the word at index at may differ.
-pub record OnlyWord (m n : List ℕ) (at : ℕ) : Type 0 where
-  pub kept : length n ≡ length m
-  pub before : take at n ≡ take at m
-  pub after : drop (at + 8) n ≡ drop (at + 8) m
+pub record OnlyWord (m new : List ℕ) (at : ℕ) : Type 0 where
+  pub kept : length new ≡ length m
+  pub before : take at new ≡ take at m
+  pub after : drop (at + 8) new ≡ drop (at + 8) m
 
 -- Wherever the word lies, nothing else changes.
 abbrev pub PutWithin : Type 0

@@ -24,7 +24,7 @@ wordAt m at = cond (leb (at + 8) (length m)) (lowNumber (take 8 (drop at m))) 0
 unfoldable pub wordPut : List ℕ → ℕ → ℕ → List ℕ
 wordPut m at x = placed m at (lowBytes 8 x)
 
--- memory after FetchAdd of x: the sum starts again from 0 past 2^64
+-- memory after FetchAdd of x: the sum starts again from 0 at 2^64
 unfoldable pub fetchAdded : List ℕ → ℕ → ℕ → List ℕ
 fetchAdded m at x = wordPut m at ((wordAt m at + x) % 2 ^ 64)
 

@@ -26,7 +26,7 @@ fn wide(x: u8) -> u64
     x as u64
 }
 
-// Four bytes as a number, low byte first: half a word, so that each sum's bound is small.
+// Four bytes as one number, low byte first: a word is read by halves, whose sums are short enough to bound.
 fn half(mem: &[u8], at: usize) -> u64
     requires { ⌜ at + 4 ≤ length (now mem) ⌝ }
     ensures { λ r. ⌜ r ≡ lowNumber (take 4 (drop at (now (mem .entry)))) ⌝ }
@@ -39,7 +39,7 @@ fn half(mem: &[u8], at: usize) -> u64
     a + b * 256 + c * 65536 + d * 16777216
 }
 
-// The bytes of a number, low byte first, each division by 256 on the one before.
+// The bytes of x, low byte first, each by one division of what the one before left.
 fn low_bytes(x: u64) -> [u8; 8]
     ensures { λ r. ⌜ r ≡ lowBytes 8 x ⌝ }
 {
@@ -77,7 +77,7 @@ pub fn read_word(mem: &[u8], at: usize) -> u64
     low + high * 4294967296
 }
 
-// Stores x in the 8 bytes from index at on, low byte first; nothing changes where they do not lie in mem.
+// Stores x in the 8 bytes from index at on, low byte first, where they lie in mem; else nothing changes.
 pub fn write_word(mem: &mut [u8], at: usize, x: u64)
     ensures { λ _. ⌜ now (mem .exit) ≡ wordPut (now (mem .entry)) at x ⌝ }
 {
@@ -85,7 +85,7 @@ pub fn write_word(mem: &mut [u8], at: usize, x: u64)
     place(mem, at, &word);
 }
 
-// Adds x to the word at index at, past 2^64 from 0 on, and answers the word before.
+// Adds x to the word at index at, starting again from 0 at 2^64, and answers the word before.
 pub fn fetch_add(mem: &mut [u8], at: usize, x: u64) -> u64
     ensures { λ r. ⌜ r ≡ wordAt (now (mem .entry)) at ⌝ }
     ensures { λ r. ⌜ now (mem .exit) ≡ fetchAdded (now (mem .entry)) at x ⌝ }
@@ -96,7 +96,7 @@ pub fn fetch_add(mem: &mut [u8], at: usize, x: u64) -> u64
     old
 }
 
-// Stores swap in place of a word that equals compare, and answers the word before.
+// Stores swap where the word at index at equals compare, and answers the word before.
 pub fn cmp_swap(mem: &mut [u8], at: usize, compare: u64, swap: u64) -> u64
     ensures { λ r. ⌜ r ≡ wordAt (now (mem .entry)) at ⌝ }
     ensures { λ r. ⌜ now (mem .exit) ≡ swapped (now (mem .entry)) at compare swap ⌝ }

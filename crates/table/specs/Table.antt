@@ -41,6 +41,13 @@ firstFrom free key rows i zero = i
 firstFrom free key rows i (suc n) =
     cond (sought free key (getD (getD rows i []) 0 0) (getD (getD rows i []) 2 0)) i (firstFrom free key rows (suc i) n)
 
+-- the first row of a key and the first free row of a table, or 16
+abbrev pub keyRow : ℕ → List (List ℕ) → ℕ
+keyRow key rows = firstFrom false key rows 0 16
+
+abbrev pub freeRow : List (List ℕ) → ℕ
+freeRow rows = firstFrom true 0 rows 0 16
+
 -- place i of a ring is the row i past its head, and after row 15 comes row 0
 unfoldable pub slotAt : ℕ → ℕ → ℕ
 slotAt head i = (head + i) % 16

@@ -1,34 +1,32 @@
+use borrow.Author.Tests.{eq-eqb, ne-eqb}
+use Rattle.memory.specs.Word.{swapped}
 use borrow.Author.Needs.{needs}
 use Rattle.memory.proofs.cmp_swap.Statement.{statement}
 use Rattle.memory.proofs.cmp_swap.Tie as tie
-use Rattle.memory.proofs.cmp_swap.Reads as reads
-use Rattle.memory.proofs.cmp_swap.Lts as lts
-use Rattle.memory.proofs.read_word.Reads as read-word-reads
-use Rattle.memory.proofs.write_word.Reads as write-word-reads
 
--- src/lib.rt:104:9
 read-word-requires : tie.Need-read-word-requires
 read-word-requires c κs = search needs
 
--- src/lib.rt:106:9
 same-length : tie.Need-same-length
 same-length c = search needs
 
--- src/lib.rt:106:9
 returns : tie.Need-returns
-returns c = ?
+unfolding swapped
+returns c =
+    let read = c .before .read-word .ensures in
+    (read, simp (← read, ne-eqb _ _ (c .if1 .taken)))
 
--- src/lib.rt:108:5
 write-word-requires : tie.Need-write-word-requires
 write-word-requires c κs = search needs
 
--- src/lib.rt:100:1
 same-length-2 : tie.Need-same-length-2
 same-length-2 c = search needs
 
--- src/lib.rt:100:1
 returns-2 : tie.Need-returns-2
-returns-2 c = ?
+unfolding swapped
+returns-2 c =
+    let read = c .before .before .before .before .before .read-word .ensures in
+    (read, simp (← read, eq-eqb _ _ (c .before .before .before .before .if1 .left), ← c .before .before .write-word .ensures))
 
 pub cmp-swap-spec : {M : Type 1} → statement M
 cmp-swap-spec =

@@ -1,0 +1,91 @@
+use borrow.Author.Needs.{needs}
+use Rattle.pair.proofs.host.add_region.Statement.{statement}
+use Rattle.pair.proofs.host.add_region.Tie as tie
+use Rattle.pair.proofs.host.add_region.Reads as reads
+use Rattle.pair.proofs.host.add_region.Lts as lts
+use Rattle.pair.proofs.host.wide.Reads as wide-reads
+use Rattle.pair.proofs.host.wide32.Reads as wide32-reads
+use Rattle.pair.proofs.sound.unsound.Reads as unsound-reads
+use Rattle.table.proofs.find.Reads as find-reads
+use Rattle.table.proofs.region_outside.Reads as region-outside-reads
+use Rattle.table.proofs.region_row.Reads as region-row-reads
+
+-- src/host.rt:107:9
+returns : tie.Need-returns
+returns c = ?
+
+-- src/host.rt:109:9
+unsound-requires : tie.Need-unsound-requires
+unsound-requires c κs = search needs
+
+-- src/host.rt:111:9
+returns-2 : tie.Need-returns-2
+returns-2 c = ?
+
+-- src/host.rt:117:9
+wide-requires : tie.Need-wide-requires
+wide-requires c κs = search needs
+
+-- src/host.rt:113:9
+region-outside-requires : tie.Need-region-outside-requires
+region-outside-requires c κs = search needs
+
+-- src/host.rt:120:9
+returns-3 : tie.Need-returns-3
+returns-3 c = ?
+
+-- src/host.rt:122:44
+wide32-requires : tie.Need-wide32-requires
+wide32-requires c κs = search needs
+
+-- src/host.rt:122:9
+find-requires : tie.Need-find-requires
+find-requires c κs = search needs
+
+-- src/host.rt:124:9
+returns-4 : tie.Need-returns-4
+returns-4 c = ?
+
+-- src/host.rt:126:9
+find-requires-2 : tie.Need-find-requires-2
+find-requires-2 c κs = search needs
+
+-- src/host.rt:128:9
+returns-5 : tie.Need-returns-5
+returns-5 c = ?
+
+-- src/host.rt:130:9
+region-row-requires : tie.Need-region-row-requires
+region-row-requires c κs = search needs
+
+-- src/host.rt:131:5
+mul-row : tie.Need-mul-row
+mul-row c = search needs
+
+-- src/host.rt:131:5
+element-set-from-row : tie.Need-element-set-from-row
+element-set-from-row c = search needs
+
+-- src/host.rt:102:1
+returns-6 : tie.Need-returns-6
+returns-6 c = ?
+
+pub add-region-spec : {M : Type 1} → statement M
+add-region-spec =
+    tie.close
+    (tie.spec
+    returns
+    unsound-requires
+    returns-2
+    wide-requires
+    region-outside-requires
+    returns-3
+    wide32-requires
+    find-requires
+    returns-4
+    find-requires-2
+    returns-5
+    region-row-requires
+    mul-row
+    element-set-from-row
+    returns-6)

@@ -1,0 +1,25 @@
+use borrow.Author.Needs.{needs}
+use Rattle.pair.proofs.host.make_ready.Statement.{statement}
+use Rattle.pair.proofs.host.make_ready.Tie as tie
+use Rattle.pair.proofs.host.make_ready.Reads as reads
+use Rattle.pair.proofs.host.make_ready.Lts as lts
+use Rattle.pair.proofs.sound.unsound.Reads as unsound-reads
+
+-- src/host.rt:81:9
+returns : tie.Need-returns
+returns c = ?
+
+-- src/host.rt:86:9
+unsound-requires : tie.Need-unsound-requires
+unsound-requires c κs = search needs
+
+-- src/host.rt:88:9
+returns-2 : tie.Need-returns-2
+returns-2 c = ?
+
+-- src/host.rt:77:1
+returns-3 : tie.Need-returns-3
+returns-3 c = ?
+
+pub make-ready-spec : {M : Type 1} → statement M
+make-ready-spec = tie.close (tie.spec returns unsound-requires returns-2 returns-3)

@@ -1,0 +1,48 @@
+use borrow.Author.Needs.{needs}
+use Rattle.pair.proofs.host.set_up.Statement.{statement}
+use Rattle.pair.proofs.host.set_up.Tie as tie
+use Rattle.pair.proofs.host.set_up.Reads as reads
+use Rattle.pair.proofs.host.set_up.Lts as lts
+use Rattle.pair.proofs.blank.Reads as blank-reads
+use Rattle.pair.proofs.fresh.Reads as fresh-reads
+use Rattle.pair.proofs.sound.setup_unfit.Reads as setup-unfit-reads
+
+-- src/host.rt:32:9
+setup-unfit-requires : tie.Need-setup-unfit-requires
+setup-unfit-requires c κs = search needs
+
+-- src/host.rt:34:13
+blank-requires : tie.Need-blank-requires
+blank-requires c κs = search needs
+
+-- src/host.rt:35:9
+returns : tie.Need-returns
+returns c = ?
+
+-- src/host.rt:41:13
+blank-requires-2 : tie.Need-blank-requires-2
+blank-requires-2 c κs = search needs
+
+-- src/host.rt:42:9
+returns-2 : tie.Need-returns-2
+returns-2 c = ?
+
+-- src/host.rt:48:9
+fresh-requires : tie.Need-fresh-requires
+fresh-requires c κs = search needs
+
+-- src/host.rt:28:1
+returns-3 : tie.Need-returns-3
+returns-3 c = ?
+
+pub set-up-spec : {M : Type 1} → statement M
+set-up-spec =
+    tie.close
+    (tie.spec
+    setup-unfit-requires
+    blank-requires
+    returns
+    blank-requires-2
+    returns-2
+    fresh-requires
+    returns-3)

@@ -1,0 +1,4 @@
+pub mod Answer
+pub mod Pair
+pub mod Sound
+pub mod Host

@@ -1,0 +1,58 @@
+-- Which pairs no call could have made. Each test names the failing case, as the code does.
+use Prim.Native.Nat.{ℕ, _%_}
+use mathlib.Core.Bool.{Bool, true, false, cond, not, _||_}
+use lib.Dec.{eqb, ltb, leb}
+use Rattle.sequence.specs.Sequence.{space}
+use Rattle.header.specs.Read.{otherService}
+use Rattle.pieces.specs.Pieces.{pmtuFits, pieces}
+use Rattle.table.specs.Table.{outside, pastTop}
+use Rattle.pair.specs.declared.Setup.{Setup}
+use Rattle.pair.specs.declared.Pair.{Pair}
+
+-- lent memory and DMA lengths go up to 1,048,576 bytes
+abbrev pub memoryLimit : ℕ
+memoryLimit = 1048576
+
+-- a bad number: no such PMTU or service, a number over 24 bits, a P_Key whose low 15 bits are zero, a timer code over 31
+unfoldable pub setupUnfit : Setup → Bool
+setupUnfit s =
+    not (pmtuFits (s .pmtu))
+    || (otherService (s .service)
+    || (leb space (s .ours) || (leb space (s .theirs) || (leb space (s .start .0) || (eqb (s .pkey % 32768) 0 || ltb 31 (s .timer))))))
+
+-- numbers that no set-up accepts
+unfoldable pub setupUnsound : Setup → Bool
+setupUnsound s = setupUnfit s || ltb memoryLimit (s .memory)
+
+-- the state is one of the three, PSN and MSN have 24 bits
+unfoldable pub numbersUnsound : ℕ → ℕ → ℕ → Bool
+numbersUnsound state expected msn = ltb 2 state || (leb space expected || leb space msn)
+
+-- a table has 16 rows
+unfoldable pub ringUnsound : ℕ → ℕ → Bool
+ringUnsound head count = leb 16 head || ltb 16 count
+
+-- an open SEND holds an entry; an open WRITE has bytes to come, within the limit, and the next of them has an address
+unfoldable pub writeUnsound : ℕ → ℕ → ℕ → Bool
+writeUnsound placed address length = leb length placed || (ltb memoryLimit length || pastTop address placed)
+
+unfoldable pub messageUnsound : ℕ → ℕ → ℕ → ℕ → ℕ → Bool
+messageUnsound kind placed address length entries =
+    cond (eqb kind 255) false
+    (cond (eqb kind 0) (eqb entries 0)
+    (cond (eqb kind 6) (writeUnsound placed address length) true))
+
+-- a READ being answered has no more responses remaining than it has at all, its bytes lie in memory, its numbers have 24 bits
+unfoldable pub readUnsound : ℕ → ℕ → ℕ → ℕ → ℕ → ℕ → ℕ → Bool
+readUnsound remaining offset length psn msn pmtu memory =
+    cond (eqb remaining 0) false
+    (ltb (pieces length pmtu) remaining || (outside offset length memory || (leb space psn || leb space msn)))
+
+unfoldable pub pairUnsound : Pair → Bool
+pairUnsound q =
+    setupUnsound (q .setup)
+    || (numbersUnsound (q .state) (q .expected .0) (q .msn .0)
+    || (ringUnsound (q .entries .head) (q .entries .count)
+    || (ringUnsound (q .saved .head) (q .saved .count)
+    || (messageUnsound (q .message .kind) (q .message .placed) (q .message .address) (q .message .length) (q .entries .count)
+    || readUnsound (q .read .remaining) (q .read .offset) (q .read .length) (q .read .psn .0) (q .read .msn .0) (q .setup .pmtu) (q .setup .memory)))))

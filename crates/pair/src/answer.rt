@@ -1,0 +1,33 @@
+// The numbers of the answers.
+use crate::Status;
+ghost use mathlib.Core.Path.{_≡_};
+ghost use Rattle.pair.specs.Answer.{statusNumber};
+
+impl Status {
+    // The number that the rules give the answer.
+    pub fn number(self) -> u8
+        ensures { λ r. ⌜ r ≡ statusNumber self ⌝ }
+    {
+        match self {
+            Status::Executed => 0,
+            Status::Acknowledged => 1,
+            Status::ReadAccepted => 2,
+            Status::AtomicExecuted => 3,
+            Status::DuplicateAnswered => 4,
+            Status::Dropped => 5,
+            Status::Abandoned => 6,
+            Status::SequenceNak => 16,
+            Status::InvalidRequestNak => 17,
+            Status::AccessNak => 18,
+            Status::NotReadyNak => 19,
+            Status::ReadUnfinished => 32,
+            Status::TableFull => 33,
+            Status::OutOfRange => 34,
+            Status::OutputShort => 35,
+            Status::WrongState => 36,
+            Status::NoSuchKey => 37,
+            Status::KeyInUse => 38,
+            Status::BadNumber => 39,
+        }
+    }
+}

@@ -1,0 +1,195 @@
+// The calls of the host.
+use crate::HostOutcome;
+use crate::Pair;
+use crate::Setup;
+use crate::Status;
+use crate::sound::setup_unfit;
+use crate::sound::setup_unsound;
+use crate::sound::unsound;
+use table::Entry;
+use table::Region;
+use table::Ring;
+ghost use mathlib.Core.Path.{_≡_};
+ghost use Rattle.pair.specs.Host.{setUp, setUpRegions, resetTo, resetRegions, madeReady, addStatus, addRegions, removeStatus, removeRegions, posted, postEntries};
+
+fn wide(x: usize) -> u64
+    ensures { λ r. ⌜ r ≡ x ⌝ }
+{
+    x as u64
+}
+
+fn wide32(x: u32) -> u64
+    ensures { λ r. ⌜ r ≡ x ⌝ }
+{
+    x as u64
+}
+
+// Takes the numbers of a new pair, and empties its tables.
+pub fn set_up(setup: Setup, regions: &mut [[u64; 7]; 16]) -> HostOutcome
+    ensures { λ r. ⌜ r ≡ setUp setup ⌝ }
+    ensures { λ r. ⌜ now (regions .exit) ≡ setUpRegions setup (now (regions .entry)) ⌝ }
+{
+    let unfit = setup_unfit(setup);
+    if unfit {
+        let pair = crate::blank();
+        return HostOutcome {
+            status: Status::BadNumber,
+            pair,
+        };
+    }
+    if crate::LIMIT < setup.memory {
+        let pair = crate::blank();
+        return HostOutcome {
+            status: Status::OutOfRange,
+            pair,
+        };
+    }
+    *regions = [[0; 7]; 16];
+    let pair = crate::fresh(setup);
+    HostOutcome {
+        status: Status::Executed,
+        pair,
+    }
+}
+
+// Starts afresh with the numbers of the set-up and empty tables.
+pub fn reset(pair: Pair, regions: &mut [[u64; 7]; 16]) -> HostOutcome
+    ensures { λ r. ⌜ r ≡ resetTo pair ⌝ }
+    ensures { λ r. ⌜ now (regions .exit) ≡ resetRegions pair (now (regions .entry)) ⌝ }
+{
+    let setup = pair.setup;
+    let bad = setup_unsound(setup);
+    if bad {
+        return HostOutcome {
+            status: Status::OutOfRange,
+            pair,
+        };
+    }
+    *regions = [[0; 7]; 16];
+    let next = crate::fresh(setup);
+    HostOutcome {
+        status: Status::Executed,
+        pair: next,
+    }
+}
+
+// Lets packets in.
+pub fn make_ready(pair: Pair) -> HostOutcome
+    ensures { λ r. ⌜ r ≡ madeReady pair ⌝ }
+{
+    if pair.state != crate::INIT {
+        return HostOutcome {
+            status: Status::WrongState,
+            pair,
+        };
+    }
+    let bad = unsound(pair);
+    if bad {
+        return HostOutcome {
+            status: Status::OutOfRange,
+            pair,
+        };
+    }
+    let mut next = pair;
+    next.state = crate::READY;
+    HostOutcome {
+        status: Status::Executed,
+        pair: next,
+    }
+}
+
+// Lets peers name a part of memory by a key.
+pub fn add_region(pair: Pair, regions: &mut [[u64; 7]; 16], region: Region) -> Status
+    ensures { λ r. ⌜ r ≡ addStatus pair (now (regions .entry)) region ⌝ }
+    ensures { λ r. ⌜ now (regions .exit) ≡ addRegions pair (now (regions .entry)) region ⌝ }
+{
+    if pair.state == crate::ERROR {
+        return Status::WrongState;
+    }
+    let bad = unsound(pair);
+    if bad {
+        return Status::OutOfRange;
+    }
+    let off = table::region_outside(
+        region.address,
+        region.length,
+        region.offset,
+        wide(pair.setup.memory),
+    );
+    if off {
+        return Status::OutOfRange;
+    }
+    let used = table::find(regions, false, wide32(region.key));
+    if used < 16 {
+        return Status::KeyInUse;
+    }
+    let free = table::find(regions, true, 0);
+    if 16 <= free {
+        return Status::TableFull;
+    }
+    let row = table::region_row(region);
+    regions[free] = row;
+    Status::Executed
+}
+
+// Takes a key back.
+pub fn remove_region(regions: &mut [[u64; 7]; 16], key: u32) -> Status
+    ensures { λ r. ⌜ r ≡ removeStatus (now (regions .entry)) key ⌝ }
+    ensures { λ r. ⌜ now (regions .exit) ≡ removeRegions (now (regions .entry)) key ⌝ }
+{
+    let at = table::find(regions, false, wide32(key));
+    if 16 <= at {
+        return Status::NoSuchKey;
+    }
+    let row = [0; 7];
+    regions[at] = row;
+    Status::Executed
+}
+
+// Gives memory for a message that a peer will send.
+pub fn post_entry(pair: Pair, entries: &mut [[u64; 3]; 16], entry: Entry) -> HostOutcome
+    ensures { λ r. ⌜ r ≡ posted pair entry ⌝ }
+    ensures { λ r. ⌜ now (entries .exit) ≡ postEntries pair (now (entries .entry)) entry ⌝ }
+{
+    if pair.state == crate::ERROR {
+        return HostOutcome {
+            status: Status::WrongState,
+            pair,
+        };
+    }
+    let bad = unsound(pair);
+    if bad {
+        return HostOutcome {
+            status: Status::OutOfRange,
+            pair,
+        };
+    }
+    let off = table::outside(entry.offset, entry.length, wide(pair.setup.memory));
+    if off {
+        return HostOutcome {
+            status: Status::OutOfRange,
+            pair,
+        };
+    }
+    let head = pair.entries.head;
+    let count = pair.entries.count;
+    if 16 <= count {
+        return HostOutcome {
+            status: Status::TableFull,
+            pair,
+        };
+    }
+    let at = table::slot(head, count);
+    let row = table::entry_row(entry);
+    entries[at] = row;
+    let ring = Ring {
+        head,
+        count: count + 1,
+    };
+    let mut next = pair;
+    next.entries = ring;
+    HostOutcome {
+        status: Status::Executed,
+        pair: next,
+    }
+}

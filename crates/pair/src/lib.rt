@@ -1,0 +1,163 @@
+// The queue pair: its numbers, its answers, and the calls of its host.
+mod answer;
+pub mod host;
+pub mod sound;
+
+use sequence::Msn;
+use sequence::Psn;
+use table::Ring;
+ghost use mathlib.Core.Path.{_≡_};
+ghost use Rattle.pair.specs.Pair.{freshPair, blankPair};
+
+// States of a pair.
+pub const INIT: u8 = 0;
+
+pub const READY: u8 = 1;
+
+pub const ERROR: u8 = 2;
+
+// The kind of an open message where none is open; else it is opcode::SEND or opcode::WRITE.
+pub const NONE: u8 = 255;
+
+// Bytes of lent memory, and of a DMA length, at most.
+pub const LIMIT: usize = 1048576;
+
+// What set-up is given, and reset brings back: numbers of the connection, the functions that are enabled, and the
+// length of the memory that will be lent. The timer code goes into not-ready NAKs.
+pub struct Setup {
+    pub service: u8,
+    pub pmtu: usize,
+    pub ours: u32,
+    pub theirs: u32,
+    pub pkey: u16,
+    pub start: Psn,
+    pub timer: u8,
+    pub send: bool,
+    pub write: bool,
+    pub read: bool,
+    pub atomic: bool,
+    pub memory: usize,
+}
+
+// A message of several packets that is under way: its kind, the bytes placed so far, and a WRITE's address, key and
+// DMA length as its First gave them.
+pub struct OpenMessage {
+    pub kind: u8,
+    pub placed: usize,
+    pub address: u64,
+    pub key: u32,
+    pub length: usize,
+}
+
+// A READ that is being answered: the responses still to send, the bytes they are cut from, the first one's PSN, and
+// the MSN that all carry.
+pub struct ReadAnswer {
+    pub remaining: usize,
+    pub offset: usize,
+    pub length: usize,
+    pub psn: Psn,
+    pub msn: Msn,
+}
+
+// The pair's numbers. Its tables (regions, entries, saved atomics) are lent beside it; the rings say which rows of the
+// last two are in use. An open SEND holds the entry at the head of its ring.
+pub struct Pair {
+    pub setup: Setup,
+    pub state: u8,
+    pub expected: Psn,
+    pub msn: Msn,
+    pub mark: bool,
+    pub message: OpenMessage,
+    pub entries: Ring,
+    pub read: ReadAnswer,
+    pub saved: Ring,
+}
+
+// What a call answers; the rules' number of each is Status::number.
+pub enum Status {
+    Executed,
+    Acknowledged,
+    ReadAccepted,
+    AtomicExecuted,
+    DuplicateAnswered,
+    Dropped,
+    Abandoned,
+    SequenceNak,
+    InvalidRequestNak,
+    AccessNak,
+    NotReadyNak,
+    ReadUnfinished,
+    TableFull,
+    OutOfRange,
+    OutputShort,
+    WrongState,
+    NoSuchKey,
+    KeyInUse,
+    BadNumber,
+}
+
+// What a host call leaves: its answer, and the pair to go on with.
+pub struct HostOutcome {
+    pub status: Status,
+    pub pair: Pair,
+}
+
+// A pair as set-up and reset leave it.
+fn fresh(setup: Setup) -> Pair
+    ensures { λ r. ⌜ r ≡ freshPair setup ⌝ }
+{
+    let expected = setup.start;
+    let msn = Msn(0);
+    let message = OpenMessage {
+        kind: NONE,
+        placed: 0,
+        address: 0,
+        key: 0,
+        length: 0,
+    };
+    let entries = Ring { head: 0, count: 0 };
+    let first = Psn(0);
+    let read = ReadAnswer {
+        remaining: 0,
+        offset: 0,
+        length: 0,
+        psn: first,
+        msn,
+    };
+    let saved = Ring { head: 0, count: 0 };
+    Pair {
+        setup,
+        state: INIT,
+        expected,
+        msn,
+        mark: false,
+        message,
+        entries,
+        read,
+        saved,
+    }
+}
+
+// What a refused set-up gives in place of a pair: every later call refuses it.
+fn blank() -> Pair
+    ensures { λ r. ⌜ r ≡ blankPair ⌝ }
+{
+    let start = Psn(0);
+    let setup = Setup {
+        service: 0,
+        pmtu: 0,
+        ours: 0,
+        theirs: 0,
+        pkey: 0,
+        start,
+        timer: 0,
+        send: false,
+        write: false,
+        read: false,
+        atomic: false,
+        memory: 0,
+    };
+    let mut pair = fresh(setup);
+    pair.state = ERROR;
+    pair
+}

@@ -1,0 +1,163 @@
+// Which pairs a call could have made.
+use crate::Pair;
+use crate::Setup;
+use sequence::Psn;
+ghost use mathlib.Core.Path.{_≡_};
+ghost use Rattle.pair.specs.Sound.{setupUnfit, setupUnsound, ringUnsound, messageUnsound, readUnsound, numbersUnsound, pairUnsound};
+
+fn wide(x: usize) -> u64
+    ensures { λ r. ⌜ r ≡ x ⌝ }
+{
+    x as u64
+}
+
+// Whether a number of the set-up is bad.
+pub fn setup_unfit(setup: Setup) -> bool
+    ensures { λ r. ⌜ r ≡ setupUnfit setup ⌝ }
+{
+    let pmtu = pieces::pmtu_unfit(setup.pmtu);
+    if pmtu {
+        return true;
+    }
+    let service = header::other_service(setup.service);
+    if service {
+        return true;
+    }
+    if Psn::SPACE <= setup.ours {
+        return true;
+    }
+    if Psn::SPACE <= setup.theirs {
+        return true;
+    }
+    if Psn::SPACE <= setup.start.0 {
+        return true;
+    }
+    if setup.pkey % 32768 == 0 {
+        return true;
+    }
+    31 < setup.timer
+}
+
+// Whether no set-up accepts these numbers.
+pub fn setup_unsound(setup: Setup) -> bool
+    ensures { λ r. ⌜ r ≡ setupUnsound setup ⌝ }
+{
+    let unfit = setup_unfit(setup);
+    if unfit {
+        return true;
+    }
+    crate::LIMIT < setup.memory
+}
+
+fn ring_unsound(head: usize, count: usize) -> bool
+    ensures { λ r. ⌜ r ≡ ringUnsound head count ⌝ }
+{
+    if 16 <= head {
+        return true;
+    }
+    16 < count
+}
+
+// An open SEND holds an entry; an open WRITE has bytes to come, within the limit, and its next address is one.
+fn message_unsound(kind: u8, placed: usize, address: u64, length: usize, entries: usize) -> bool
+    ensures { λ r. ⌜ r ≡ messageUnsound kind placed address length entries ⌝ }
+{
+    if kind == crate::NONE {
+        return false;
+    }
+    if kind == opcode::SEND {
+        return entries == 0;
+    }
+    if kind != opcode::WRITE {
+        return true;
+    }
+    if length <= placed {
+        return true;
+    }
+    if crate::LIMIT < length {
+        return true;
+    }
+    table::past_top(address, wide(placed))
+}
+
+// A read answer has no more responses to send than there are, lies in memory, and has numbers of 24 bits.
+fn read_unsound(
+    remaining: usize,
+    offset: usize,
+    length: usize,
+    psn: u32,
+    msn: u32,
+    pmtu: usize,
+    memory: usize,
+) -> bool
+    ensures { λ r. ⌜ r ≡ readUnsound remaining offset length psn msn pmtu memory ⌝ }
+{
+    if remaining == 0 {
+        return false;
+    }
+    if pieces::count(length, pmtu) < remaining {
+        return true;
+    }
+    let off = table::outside(wide(offset), wide(length), wide(memory));
+    if off {
+        return true;
+    }
+    if Psn::SPACE <= psn {
+        return true;
+    }
+    Psn::SPACE <= msn
+}
+
+fn numbers_unsound(state: u8, expected: u32, msn: u32) -> bool
+    ensures { λ r. ⌜ r ≡ numbersUnsound state expected msn ⌝ }
+{
+    if 2 < state {
+        return true;
+    }
+    if Psn::SPACE <= expected {
+        return true;
+    }
+    Psn::SPACE <= msn
+}
+
+// Whether no call could have made the pair.
+pub fn unsound(pair: Pair) -> bool
+    ensures { λ r. ⌜ r ≡ pairUnsound pair ⌝ }
+{
+    let setup = pair.setup;
+    let a = setup_unsound(setup);
+    if a {
+        return true;
+    }
+    let b = numbers_unsound(pair.state, pair.expected.0, pair.msn.0);
+    if b {
+        return true;
+    }
+    let c = ring_unsound(pair.entries.head, pair.entries.count);
+    if c {
+        return true;
+    }
+    let d = ring_unsound(pair.saved.head, pair.saved.count);
+    if d {
+        return true;
+    }
+    let e = message_unsound(
+        pair.message.kind,
+        pair.message.placed,
+        pair.message.address,
+        pair.message.length,
+        pair.entries.count,
+    );
+    if e {
+        return true;
+    }
+    read_unsound(
+        pair.read.remaining,
+        pair.read.offset,
+        pair.read.length,
+        pair.read.psn.0,
+        pair.read.msn.0,
+        pair.setup.pmtu,
+        pair.setup.memory,
+    )
+}
