@@ -3,12 +3,19 @@ use crate::Pair;
 use crate::Setup;
 use sequence::Psn;
 ghost use mathlib.Core.Path.{_≡_};
+ghost use Rattle.table.specs.Table.{outside};
 ghost use Rattle.pair.specs.Sound.{setupUnfit, setupUnsound, ringUnsound, messageUnsound, readUnsound, numbersUnsound, pairUnsound};
 
 fn wide(x: usize) -> u64
     ensures { λ r. ⌜ r ≡ x ⌝ }
 {
     x as u64
+}
+
+fn outside(offset: usize, length: usize, memory: usize) -> bool
+    ensures { λ r. ⌜ r ≡ outside offset length memory ⌝ }
+{
+    table::outside(wide(offset), wide(length), wide(memory))
 }
 
 // Whether a number of the set-up is bad.
@@ -98,7 +105,7 @@ fn read_unsound(
     if pieces::count(length, pmtu) < remaining {
         return true;
     }
-    let off = table::outside(wide(offset), wide(length), wide(memory));
+    let off = outside(offset, length, memory);
     if off {
         return true;
     }

@@ -1,8 +1,7 @@
 // The tables of a pair, lent as 16 rows of numbers each: regions, receive entries, saved atomics.
 ghost use mathlib.Core.Path.{_≡_};
 ghost use mathlib.Core.Bool.{cond};
-ghost use Prim.Native.Nat.{_+_, _%_, _≤_};
-ghost use lib.ListN.{getD};
+ghost use Prim.Native.Nat.{_≤_, _<_};
 ghost use Rattle.table.specs.Table.{sought, firstFrom, regionRow, entryRow, slotAt, outside, pastTop, regionOutside};
 
 // The rows of each table.
@@ -128,6 +127,7 @@ pub fn find(regions: &[[u64; 7]; 16], free: bool, key: u64) -> usize
 // The row of place i in a ring.
 pub fn slot(head: usize, i: usize) -> usize
     ensures { λ r. ⌜ r ≡ slotAt head i ⌝ }
+    ensures { λ r. ⌜ r < 16 ⌝ }
 {
     (head % 16 + i % 16) % 16
 }

@@ -1,3 +1,4 @@
+use native.Mathlib.Omega.{arith}
 use Rattle.table.proofs.Leaves.{slot-rest}
 use borrow.Author.Needs.{needs}
 use Rattle.table.proofs.slot.Statement.{statement}
@@ -11,7 +12,7 @@ add-result c = search needs
 
 -- src/lib.rt:129:1
 returns : tie.Need-returns
-returns c = let A = c .args in slot-rest (A .head) (A .i)
+returns c = let A = c .args in (slot-rest (A .head) (A .i), omega arith)
 
 pub slot-spec : {M : Type 1} → statement M
 slot-spec = tie.close (tie.spec add-result returns)

@@ -1,3 +1,6 @@
+use borrow.Author.Tests.{eq-eqb, le-leb, le-ltb, lt-leb, lt-ltb, ne-eqb}
+use Rattle.pair.specs.Host.{addStatus, addRegions}
+use Rattle.pair.specs.Answer.{executed, statusNumber}
 use borrow.Author.Needs.{needs}
 use Rattle.pair.proofs.host.add_region.Statement.{statement}
 use Rattle.pair.proofs.host.add_region.Tie as tie
@@ -12,7 +15,8 @@ use Rattle.table.proofs.region_row.Reads as region-row-reads
 
 -- src/host.rt:107:9
 returns : tie.Need-returns
-returns c = ?
+unfolding addStatus addRegions executed statusNumber
+returns c = (simp (eq-eqb _ _ (c .if1 .taken)), simp (eq-eqb _ _ (c .if1 .taken)))
 
 -- src/host.rt:109:9
 unsound-requires : tie.Need-unsound-requires
@@ -20,7 +24,8 @@ unsound-requires c κs = search needs
 
 -- src/host.rt:111:9
 returns-2 : tie.Need-returns-2
-returns-2 c = ?
+unfolding addStatus addRegions executed statusNumber
+returns-2 c = (simp (ne-eqb _ _ (c .before .before .if1 .left), ← c .before .unsound .ensures, c .if2 .taken), simp (ne-eqb _ _ (c .before .before .if1 .left), ← c .before .unsound .ensures, c .if2 .taken))
 
 -- src/host.rt:117:9
 wide-requires : tie.Need-wide-requires
@@ -32,7 +37,8 @@ region-outside-requires c κs = search needs
 
 -- src/host.rt:120:9
 returns-3 : tie.Need-returns-3
-returns-3 c = ?
+unfolding addStatus addRegions executed statusNumber
+returns-3 c = (simp (ne-eqb _ _ (c .before .before .before .before .before .if1 .left), ← c .before .before .before .before .unsound .ensures, c .before .before .before .if2 .left, ← c .before .before .wide .ensures, ← c .before .region-outside .ensures, c .if3 .taken), simp (ne-eqb _ _ (c .before .before .before .before .before .if1 .left), ← c .before .before .before .before .unsound .ensures, c .before .before .before .if2 .left, ← c .before .before .wide .ensures, ← c .before .region-outside .ensures, c .if3 .taken))
 
 -- src/host.rt:122:44
 wide32-requires : tie.Need-wide32-requires
@@ -44,7 +50,8 @@ find-requires c κs = search needs
 
 -- src/host.rt:124:9
 returns-4 : tie.Need-returns-4
-returns-4 c = ?
+unfolding addStatus addRegions executed statusNumber
+returns-4 c = (simp (ne-eqb _ _ (c .before .before .before .before .before .before .before .before .before .if1 .left), ← c .before .before .before .before .before .before .before .before .unsound .ensures, c .before .before .before .before .before .before .before .if2 .left, ← c .before .before .before .before .before .before .wide .ensures, ← c .before .before .before .before .before .region-outside .ensures, c .before .before .before .before .if3 .left, ← c .before .before .wide32 .ensures, ← c .before .find .ensures .0, lt-leb _ _ (c .if4 .taken), lt-ltb _ _ (c .if4 .taken)), simp (ne-eqb _ _ (c .before .before .before .before .before .before .before .before .before .if1 .left), ← c .before .before .before .before .before .before .before .before .unsound .ensures, c .before .before .before .before .before .before .before .if2 .left, ← c .before .before .before .before .before .before .wide .ensures, ← c .before .before .before .before .before .region-outside .ensures, c .before .before .before .before .if3 .left, ← c .before .before .wide32 .ensures, ← c .before .find .ensures .0, lt-leb _ _ (c .if4 .taken), lt-ltb _ _ (c .if4 .taken)))
 
 -- src/host.rt:126:9
 find-requires-2 : tie.Need-find-requires-2
@@ -52,7 +59,8 @@ find-requires-2 c κs = search needs
 
 -- src/host.rt:128:9
 returns-5 : tie.Need-returns-5
-returns-5 c = ?
+unfolding addStatus addRegions executed statusNumber
+returns-5 c = (simp (ne-eqb _ _ (c .before .before .before .before .before .before .before .before .before .before .before .before .if1 .left), ← c .before .before .before .before .before .before .before .before .before .before .before .unsound .ensures, c .before .before .before .before .before .before .before .before .before .before .if2 .left, ← c .before .before .before .before .before .before .before .before .before .wide .ensures, ← c .before .before .before .before .before .before .before .before .region-outside .ensures, c .before .before .before .before .before .before .before .if3 .left, ← c .before .before .before .before .before .wide32 .ensures, ← c .before .before .before .before .find .ensures .0, le-ltb _ _ (c .before .before .before .if4 .left), le-leb _ _ (c .before .before .before .if4 .left), ← c .before .find2 .ensures .0, le-ltb _ _ (c .if5 .taken), le-leb _ _ (c .if5 .taken)), simp (ne-eqb _ _ (c .before .before .before .before .before .before .before .before .before .before .before .before .if1 .left), ← c .before .before .before .before .before .before .before .before .before .before .before .unsound .ensures, c .before .before .before .before .before .before .before .before .before .before .if2 .left, ← c .before .before .before .before .before .before .before .before .before .wide .ensures, ← c .before .before .before .before .before .before .before .before .region-outside .ensures, c .before .before .before .before .before .before .before .if3 .left, ← c .before .before .before .before .before .wide32 .ensures, ← c .before .before .before .before .find .ensures .0, le-ltb _ _ (c .before .before .before .if4 .left), le-leb _ _ (c .before .before .before .if4 .left), ← c .before .find2 .ensures .0, le-ltb _ _ (c .if5 .taken), le-leb _ _ (c .if5 .taken)))
 
 -- src/host.rt:130:9
 region-row-requires : tie.Need-region-row-requires
@@ -68,7 +76,8 @@ element-set-from-row c = search needs
 
 -- src/host.rt:102:1
 returns-6 : tie.Need-returns-6
-returns-6 c = ?
+unfolding addStatus addRegions executed statusNumber
+returns-6 c = (simp (ne-eqb _ _ (c .before .before .before .before .before .before .before .before .before .before .before .before .before .if1 .left), ← c .before .before .before .before .before .before .before .before .before .before .before .before .unsound .ensures, c .before .before .before .before .before .before .before .before .before .before .before .if2 .left, ← c .before .before .before .before .before .before .before .before .before .before .wide .ensures, ← c .before .before .before .before .before .before .before .before .before .region-outside .ensures, c .before .before .before .before .before .before .before .before .if3 .left, ← c .before .before .before .before .before .before .wide32 .ensures, ← c .before .before .before .before .before .find .ensures .0, le-ltb _ _ (c .before .before .before .before .if4 .left), le-leb _ _ (c .before .before .before .before .if4 .left), ← c .before .before .find2 .ensures .0, lt-leb _ _ (c .before .if5 .left), lt-ltb _ _ (c .before .if5 .left), ← c .region-row .ensures), simp (ne-eqb _ _ (c .before .before .before .before .before .before .before .before .before .before .before .before .before .if1 .left), ← c .before .before .before .before .before .before .before .before .before .before .before .before .unsound .ensures, c .before .before .before .before .before .before .before .before .before .before .before .if2 .left, ← c .before .before .before .before .before .before .before .before .before .before .wide .ensures, ← c .before .before .before .before .before .before .before .before .before .region-outside .ensures, c .before .before .before .before .before .before .before .before .if3 .left, ← c .before .before .before .before .before .before .wide32 .ensures, ← c .before .before .before .before .before .find .ensures .0, le-ltb _ _ (c .before .before .before .before .if4 .left), le-leb _ _ (c .before .before .before .before .if4 .left), ← c .before .before .find2 .ensures .0, lt-leb _ _ (c .before .if5 .left), lt-ltb _ _ (c .before .if5 .left), ← c .region-row .ensures))
 
 pub add-region-spec : {M : Type 1} → statement M
 add-region-spec =

@@ -1,3 +1,6 @@
+use borrow.Author.Tests.{eq-eqb, ne-eqb}
+use Rattle.pair.specs.Host.{madeReady, readyStatus}
+use Rattle.pair.specs.Answer.{executed, statusNumber}
 use borrow.Author.Needs.{needs}
 use Rattle.pair.proofs.host.make_ready.Statement.{statement}
 use Rattle.pair.proofs.host.make_ready.Tie as tie
@@ -7,7 +10,8 @@ use Rattle.pair.proofs.sound.unsound.Reads as unsound-reads
 
 -- src/host.rt:81:9
 returns : tie.Need-returns
-returns c = ?
+unfolding madeReady readyStatus executed statusNumber
+returns c = simp (ne-eqb _ _ (c .if1 .taken))
 
 -- src/host.rt:86:9
 unsound-requires : tie.Need-unsound-requires
@@ -15,11 +19,13 @@ unsound-requires c κs = search needs
 
 -- src/host.rt:88:9
 returns-2 : tie.Need-returns-2
-returns-2 c = ?
+unfolding madeReady readyStatus executed statusNumber
+returns-2 c = simp (eq-eqb _ _ (c .before .before .if1 .left), ← c .before .unsound .ensures, c .if2 .taken)
 
 -- src/host.rt:77:1
 returns-3 : tie.Need-returns-3
-returns-3 c = ?
+unfolding madeReady readyStatus executed statusNumber
+returns-3 c = simp (eq-eqb _ _ (c .before .before .if1 .left), ← c .before .unsound .ensures, c .if2 .left)
 
 pub make-ready-spec : {M : Type 1} → statement M
 make-ready-spec = tie.close (tie.spec returns unsound-requires returns-2 returns-3)

@@ -1,3 +1,6 @@
+use borrow.Author.Tests.{le-leb, le-ltb, lt-leb, lt-ltb}
+use Rattle.pair.specs.Host.{removeStatus, removeRegions}
+use Rattle.pair.specs.Answer.{executed, statusNumber}
 use borrow.Author.Needs.{needs}
 use Rattle.pair.proofs.host.remove_region.Statement.{statement}
 use Rattle.pair.proofs.host.remove_region.Tie as tie
@@ -16,7 +19,8 @@ find-requires c κs = search needs
 
 -- src/host.rt:142:9
 returns : tie.Need-returns
-returns c = ?
+unfolding removeStatus removeRegions executed statusNumber
+returns c = (simp (← c .before .before .wide32 .ensures, ← c .before .find .ensures .0, le-ltb _ _ (c .if1 .taken), le-leb _ _ (c .if1 .taken)), simp (← c .before .before .wide32 .ensures, ← c .before .find .ensures .0, le-ltb _ _ (c .if1 .taken), le-leb _ _ (c .if1 .taken)))
 
 -- src/host.rt:145:5
 mul-row : tie.Need-mul-row
@@ -28,7 +32,8 @@ element-set-from-row c = search needs
 
 -- src/host.rt:136:1
 returns-2 : tie.Need-returns-2
-returns-2 c = ?
+unfolding removeStatus removeRegions executed statusNumber
+returns-2 c = (simp (← c .before .before .wide32 .ensures, ← c .before .find .ensures .0, lt-leb _ _ (c .if1 .left), lt-ltb _ _ (c .if1 .left)), simp (← c .before .before .wide32 .ensures, ← c .before .find .ensures .0, lt-leb _ _ (c .if1 .left), lt-ltb _ _ (c .if1 .left)))
 
 pub remove-region-spec : {M : Type 1} → statement M
 remove-region-spec =

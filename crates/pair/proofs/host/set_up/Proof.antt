@@ -1,3 +1,6 @@
+use borrow.Author.Tests.{le-leb, le-ltb, lt-leb, lt-ltb}
+use Rattle.pair.specs.Host.{setUp, setUpRegions, setUpStatus}
+use Rattle.pair.specs.Answer.{executed, statusNumber}
 use borrow.Author.Needs.{needs}
 use Rattle.pair.proofs.host.set_up.Statement.{statement}
 use Rattle.pair.proofs.host.set_up.Tie as tie
@@ -17,7 +20,8 @@ blank-requires c κs = search needs
 
 -- src/host.rt:35:9
 returns : tie.Need-returns
-returns c = ?
+unfolding setUp setUpRegions setUpStatus executed statusNumber
+returns c = (simp (← c .before .before .setup-unfit .ensures, c .before .if1 .taken, ← c .blank .ensures), simp (← c .before .before .setup-unfit .ensures, c .before .if1 .taken, ← c .blank .ensures))
 
 -- src/host.rt:41:13
 blank-requires-2 : tie.Need-blank-requires-2
@@ -25,7 +29,8 @@ blank-requires-2 c κs = search needs
 
 -- src/host.rt:42:9
 returns-2 : tie.Need-returns-2
-returns-2 c = ?
+unfolding setUp setUpRegions setUpStatus executed statusNumber
+returns-2 c = (simp (← c .before .before .before .before .setup-unfit .ensures, c .before .before .before .if1 .left, lt-leb _ _ (c .before .if2 .taken), lt-ltb _ _ (c .before .if2 .taken), ← c .blank2 .ensures), simp (← c .before .before .before .before .setup-unfit .ensures, c .before .before .before .if1 .left, lt-leb _ _ (c .before .if2 .taken), lt-ltb _ _ (c .before .if2 .taken), ← c .blank2 .ensures))
 
 -- src/host.rt:48:9
 fresh-requires : tie.Need-fresh-requires
@@ -33,7 +38,8 @@ fresh-requires c κs = search needs
 
 -- src/host.rt:28:1
 returns-3 : tie.Need-returns-3
-returns-3 c = ?
+unfolding setUp setUpRegions setUpStatus executed statusNumber
+returns-3 c = (simp (← c .before .before .before .before .before .setup-unfit .ensures, c .before .before .before .before .if1 .left, le-ltb _ _ (c .before .before .if2 .left), le-leb _ _ (c .before .before .if2 .left), ← c .fresh .ensures), simp (← c .before .before .before .before .before .setup-unfit .ensures, c .before .before .before .before .if1 .left, le-ltb _ _ (c .before .before .if2 .left), le-leb _ _ (c .before .before .if2 .left), ← c .fresh .ensures))
 
 pub set-up-spec : {M : Type 1} → statement M
 set-up-spec =

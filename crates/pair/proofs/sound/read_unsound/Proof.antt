@@ -5,66 +5,43 @@ use Rattle.pair.proofs.sound.read_unsound.Statement.{statement}
 use Rattle.pair.proofs.sound.read_unsound.Tie as tie
 use Rattle.pair.proofs.sound.read_unsound.Reads as reads
 use Rattle.pair.proofs.sound.read_unsound.Lts as lts
-use Rattle.pair.proofs.sound.wide.Reads as wide-reads
+use Rattle.pair.proofs.sound.outside.Reads as outside-reads
 use Rattle.pieces.proofs.count.Reads as count-reads
-use Rattle.table.proofs.outside.Reads as outside-reads
 
--- src/sound.rt:96:9
+-- src/sound.rt:103:9
 returns : tie.Need-returns
 unfolding readUnsound
 returns c = simp (eq-eqb _ _ (c .if1 .taken))
 
--- src/sound.rt:98:8
+-- src/sound.rt:105:8
 count-requires : tie.Need-count-requires
 count-requires c κs = search needs
 
--- src/sound.rt:99:9
+-- src/sound.rt:106:9
 returns-2 : tie.Need-returns-2
 unfolding readUnsound
 returns-2 c = simp (ne-eqb _ _ (c .before .before .if1 .left), ← c .before .count .ensures, lt-leb _ _ (c .if2 .taken), lt-ltb _ _ (c .if2 .taken))
 
--- src/sound.rt:101:30
-wide-requires : tie.Need-wide-requires
-wide-requires c κs = search needs
-
--- src/sound.rt:101:44
-wide-requires-2 : tie.Need-wide-requires-2
-wide-requires-2 c κs = search needs
-
--- src/sound.rt:101:58
-wide-requires-3 : tie.Need-wide-requires-3
-wide-requires-3 c κs = search needs
-
--- src/sound.rt:101:9
+-- src/sound.rt:108:9
 outside-requires : tie.Need-outside-requires
 outside-requires c κs = search needs
 
--- src/sound.rt:103:9
+-- src/sound.rt:110:9
 returns-3 : tie.Need-returns-3
 unfolding readUnsound
-returns-3 c = simp (ne-eqb _ _ (c .before .before .before .before .before .before .before .if1 .left), ← c .before .before .before .before .before .before .count .ensures, le-ltb _ _ (c .before .before .before .before .before .if2 .left), le-leb _ _ (c .before .before .before .before .before .if2 .left), ← c .before .before .before .before .wide .ensures, ← c .before .before .before .wide2 .ensures, ← c .before .before .wide3 .ensures, ← c .before .outside .ensures, c .if3 .taken)
+returns-3 c = simp (ne-eqb _ _ (c .before .before .before .before .if1 .left), ← c .before .before .before .count .ensures, le-ltb _ _ (c .before .before .if2 .left), le-leb _ _ (c .before .before .if2 .left), ← c .before .outside .ensures, c .if3 .taken)
 
--- src/sound.rt:106:9
+-- src/sound.rt:113:9
 returns-4 : tie.Need-returns-4
 unfolding readUnsound
-returns-4 c = simp (ne-eqb _ _ (c .before .before .before .before .before .before .before .before .if1 .left), ← c .before .before .before .before .before .before .before .count .ensures, le-ltb _ _ (c .before .before .before .before .before .before .if2 .left), le-leb _ _ (c .before .before .before .before .before .before .if2 .left), ← c .before .before .before .before .before .wide .ensures, ← c .before .before .before .before .wide2 .ensures, ← c .before .before .before .wide3 .ensures, ← c .before .before .outside .ensures, c .before .if3 .left, le-ltb _ _ (c .if4 .taken), le-leb _ _ (c .if4 .taken))
+returns-4 c = simp (ne-eqb _ _ (c .before .before .before .before .before .if1 .left), ← c .before .before .before .before .count .ensures, le-ltb _ _ (c .before .before .before .if2 .left), le-leb _ _ (c .before .before .before .if2 .left), ← c .before .before .outside .ensures, c .before .if3 .left, le-ltb _ _ (c .if4 .taken), le-leb _ _ (c .if4 .taken))
 
--- src/sound.rt:84:1
+-- src/sound.rt:91:1
 returns-5 : tie.Need-returns-5
 unfolding readUnsound
-returns-5 c = simp (ne-eqb _ _ (c .before .before .before .before .before .before .before .before .if1 .left), ← c .before .before .before .before .before .before .before .count .ensures, le-ltb _ _ (c .before .before .before .before .before .before .if2 .left), le-leb _ _ (c .before .before .before .before .before .before .if2 .left), ← c .before .before .before .before .before .wide .ensures, ← c .before .before .before .before .wide2 .ensures, ← c .before .before .before .wide3 .ensures, ← c .before .before .outside .ensures, c .before .if3 .left, lt-leb _ _ (c .if4 .left), lt-ltb _ _ (c .if4 .left))
+returns-5 c = simp (ne-eqb _ _ (c .before .before .before .before .before .if1 .left), ← c .before .before .before .before .count .ensures, le-ltb _ _ (c .before .before .before .if2 .left), le-leb _ _ (c .before .before .before .if2 .left), ← c .before .before .outside .ensures, c .before .if3 .left, lt-leb _ _ (c .if4 .left), lt-ltb _ _ (c .if4 .left))
 
 pub read-unsound-spec : {M : Type 1} → statement M
 read-unsound-spec =
     tie.close
-    (tie.spec
-    returns
-    count-requires
-    returns-2
-    wide-requires
-    wide-requires-2
-    wide-requires-3
-    outside-requires
-    returns-3
-    returns-4
-    returns-5)
+    (tie.spec returns count-requires returns-2 outside-requires returns-3 returns-4 returns-5)
