@@ -32,6 +32,12 @@ pub struct Ring {
     pub count: usize,
 }
 
+// The value that a saved atomic answered, if there is one.
+pub enum Saved {
+    Value(u64),
+    Nothing,
+}
+
 // Whether length bytes from offset on do not all lie in memory.
 pub fn outside(offset: u64, length: u64, memory: u64) -> bool
     ensures { λ r. ⌜ r ≡ outside offset length memory ⌝ }

@@ -1,0 +1,100 @@
+-- Rings: a row more at the end, a row less at the head.
+use Prim.Native.Nat.{ℕ, zero, suc, _+_, _%_, _≤_, _<_}
+use mathlib.Core.Path.{_≡_, refl, sym, ap, _∙_}
+use mathlib.Core.Bool.{Bool, true, false, cond}
+use mathlib.Core.List.{List, [], _∷_, _++_}
+use native.Mathlib.Omega.{arith}
+use native.Mathlib.Numerals.{add-one}
+use lib.Dec.{eqb, ltb}
+use lib.ListN.{length, getD, set, drop}
+use lib.Seq.{getD-set-same, getD-set-other}
+use borrow.Author.Tests.{lt-ltb, le-ltb}
+use Rattle.table.specs.declared.Ring.{Ring}
+use Rattle.table.specs.declared.Saved.{Saved}
+use Rattle.table.specs.declared.Saved.the-variants.{Value, Nothing}
+use Rattle.table.specs.Table.{slotAt}
+use Rattle.table.specs.View.{ringFrom, later, newest, savedRing, savedRows}
+use Rattle.table.specs.Claims.{Appends, Takes, Saves, SavesFull, Newest}
+
+-- two places less than 16 apart are different rows
+apart : (head i n : ℕ) → i < n → n < i + 16 → slotAt head i ≡ slotAt head n → ⊥
+unfolding slotAt
+apart head i n h k e = omega arith
+
+slot-next : (head i : ℕ) → slotAt (slotAt head 1) i ≡ slotAt head (suc i)
+unfolding slotAt
+slot-next head i = omega arith
+
+slot-below : (head i : ℕ) → slotAt head i < 16
+unfolding slotAt
+slot-below head i = omega arith
+
+slot-around : (head : ℕ) → slotAt head 16 ≡ slotAt head 0
+unfolding slotAt
+slot-around head = omega arith
+
+module _ (rows : List (List ℕ)) (head : ℕ) where
+  -- the last row apart
+  last-row : (i k : ℕ) → ringFrom rows head i (suc k) ≡ ringFrom rows head i k ++ (getD rows (slotAt head (i + k)) [] ∷ [])
+  unfolding ringFrom
+  last-row i zero =
+      let e : i ≡ i + 0 = omega arith in
+      ap (λ n. getD rows (slotAt head n) [] ∷ []) e
+  last-row i (suc k) =
+      let e : suc i + k ≡ i + suc k = omega arith in
+      ap (λ l. getD rows (slotAt head i) [] ∷ l) (last-row (suc i) k ∙ ap (λ n. ringFrom rows head (suc i) k ++ (getD rows (slotAt head n) [] ∷ [])) e)
+
+  -- a store in another row
+  elsewhere : (row : List ℕ) (n i k : ℕ) → i + k ≤ n → n < i + 16
+      → ringFrom (set rows (slotAt head n) row) head i k ≡ ringFrom rows head i k
+  unfolding ringFrom
+  elsewhere row n i zero h b = refl
+  elsewhere row n i (suc k) h b =
+      rw (getD-set-other rows (slotAt head n) (slotAt head i) row [] (apart head i n (omega arith) (omega arith)))
+      (ap (λ l. getD rows (slotAt head i) [] ∷ l) (elsewhere row n (suc i) k (omega arith) (omega arith)))
+
+  pub from-next : (i n : ℕ) → ringFrom rows (slotAt head 1) i n ≡ ringFrom rows head (suc i) n
+  unfolding ringFrom
+  from-next i zero = refl
+  from-next i (suc n) = rw (slot-next head i) (ap (λ l. getD rows (slotAt head (suc i)) [] ∷ l) (from-next (suc i) n))
+
+-- a row stored behind k rows
+behind : (rows : List (List ℕ)) (head : ℕ) (row : List ℕ) (i k : ℕ) → length rows ≡ 16 → k < 16
+    → ringFrom (set rows (slotAt head (i + k)) row) head i (suc k) ≡ ringFrom rows head i k ++ (row ∷ [])
+behind rows head row i k l h =
+    let new = set rows (slotAt head (i + k)) row in
+    let there : slotAt head (i + k) < length rows = omega (arith, l, slot-below head (i + k)) in
+    last-row new head i k
+    ∙ (ap (λ x. x ++ (getD new (slotAt head (i + k)) [] ∷ [])) (elsewhere rows head row (i + k) i k (omega arith) (omega arith))
+    ∙ ap (λ x. ringFrom rows head i k ++ (x ∷ [])) (getD-set-same rows (slotAt head (i + k)) row [] there))
+
+pub appends : Appends
+appends rows r row l h =
+    let e : 0 + r .count ≡ r .count = omega arith in
+    ap (ringFrom (set rows (slotAt (r .head) (r .count)) row) (r .head) 0) (add-one (r .count))
+    ∙ (ap (λ n. ringFrom (set rows (slotAt (r .head) n) row) (r .head) 0 (suc (r .count))) (sym e) ∙ behind rows (r .head) row 0 (r .count) l h)
+
+pub takes : Takes
+unfolding ringFrom
+takes rows head n = from-next rows head 0 n
+
+pub saves : Saves
+unfolding savedRing savedRows
+saves rows r psn value l h = simp (lt-ltb (r .count) 16 h) (appends rows r (psn ∷ value ∷ []) l h)
+
+pub saves-full : SavesFull
+unfolding savedRing savedRows ringFrom
+saves-full rows r psn value l h =
+    let row = psn ∷ value ∷ [] in
+    rw (le-ltb (r .count) 16 (omega arith), h)
+    (from-next (set rows (slotAt (r .head) 16) row) (r .head) 0 16 ∙ behind rows (r .head) row 1 15 l (omega arith))
+
+pub later-if : (b : Bool) (v : ℕ) (s t : Saved) → later (cond b (Value v) s) t ≡ cond b (Value v) (later s t)
+later-if true v s t = refl
+later-if false v s t = refl
+
+pub newest-last : Newest
+unfolding newest
+newest-last psn [] row = refl
+newest-last psn (x ∷ rows) row =
+    rw (newest-last psn rows row) (later-if (eqb (getD row 0 0) psn) (getD row 1 0) (newest psn rows) (cond (eqb (getD x 0 0) psn) (Value (getD x 1 0)) Nothing))

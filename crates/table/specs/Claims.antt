@@ -1,0 +1,119 @@
+-- What is proved of the tables, each statement by a name; the proofs stand in proofs/.
+use Prim.Native.Nat.{ℕ, suc, _+_, _^_, _≤_, _<_}
+use mathlib.Core.Path.{_≡_}
+use mathlib.Core.Bool.{cond, true, false}
+use mathlib.Core.List.{List, [], _∷_, _++_}
+use mathlib.Core.Logic.{_⊎_}
+use lib.Dec.{eqb}
+use lib.ListN.{length, getD, set, drop}
+use Rattle.table.specs.declared.Region.{Region}
+use Rattle.table.specs.declared.Entry.{Entry}
+use Rattle.table.specs.declared.Ring.{Ring}
+use Rattle.table.specs.declared.Saved.the-variants.{Value}
+use Rattle.table.specs.Table.{outside, regionOutside, regionRow, entryRow, noRegion, keyRow, freeRow, slotAt}
+use Rattle.table.specs.View.{regionOf, inRing, oneMore, newest, savedRing, savedRows}
+
+-- A region that the rules allow in memory of that length, and an entry.
+pub record RegionFits (memory : ℕ) (r : Region) : Type 0 where
+  pub some : 1 ≤ r .length
+  pub within : r .offset + r .length ≤ memory
+  pub below : r .address + r .length < 2 ^ 64
+
+abbrev pub EntryFits : ℕ → Entry → Type 0
+EntryFits memory e = e .offset + e .length ≤ memory
+
+-- The tests say so.
+abbrev pub RegionTested : Type 0
+RegionTested =
+    (memory : ℕ) (r : Region)
+    → (regionOutside (r .address) (r .length) (r .offset) memory ≡ false → RegionFits memory r)
+    × (RegionFits memory r → regionOutside (r .address) (r .length) (r .offset) memory ≡ false)
+
+abbrev pub EntryTested : Type 0
+EntryTested =
+    (memory : ℕ) (e : Entry)
+    → (outside (e .offset) (e .length) memory ≡ false → EntryFits memory e)
+    × (EntryFits memory e → outside (e .offset) (e .length) memory ≡ false)
+
+-- A row is free, or it is the row of some region.
+abbrev pub Free : List ℕ → Type 0
+Free row = getD row 2 0 ≡ 0
+
+abbrev pub HasKey : ℕ → List ℕ → Type 0
+HasKey key row = (0 < getD row 2 0) × (getD row 0 0 ≡ key)
+
+-- The row found is the first of the key; where 16 is answered, no row has it. The free row likewise.
+pub record First (good : List ℕ → Type 0) (rows : List (List ℕ)) (i : ℕ) : Type 0 where
+  pub bound : i ≤ 16
+  pub found : i < 16 → good (getD rows i [])
+  pub before : (j : ℕ) → j < i → good (getD rows j []) → ⊥
+
+abbrev pub KeyFound : Type 0
+KeyFound = (key : ℕ) (rows : List (List ℕ)) → First (HasKey key) rows (keyRow key rows)
+
+abbrev pub FreeFound : Type 0
+FreeFound = (rows : List (List ℕ)) → First Free rows (freeRow rows)
+
+-- A region table that calls made: 16 rows, each one free or the row of a region that fits, no key twice.
+abbrev pub RowSound : ℕ → List ℕ → Type 0
+RowSound memory row = Free row ⊎ ((r : Region) × (row ≡ regionRow r) × RegionFits memory r)
+
+pub record RegionsSound (memory : ℕ) (rows : List (List ℕ)) : Type 0 where
+  pub rows16 : length rows ≡ 16
+  pub each : (i : ℕ) → i < 16 → RowSound memory (getD rows i [])
+  pub once : (i j key : ℕ) → i < 16 → j < 16 → HasKey key (getD rows i []) → HasKey key (getD rows j []) → i ≡ j
+
+-- A region put into the free row is the region of its key, and every other key has the region that it had.
+abbrev pub Added : Type 0
+Added =
+    (rows : List (List ℕ)) (r : Region) → length rows ≡ 16 → 1 ≤ r .length → keyRow (r .key) rows ≡ 16 → freeRow rows < 16
+    → (regionOf (r .key) (set rows (freeRow rows) (regionRow r)) ≡ regionRow r)
+    × ((key : ℕ) → (key ≡ r .key → ⊥) → regionOf key (set rows (freeRow rows) (regionRow r)) ≡ regionOf key rows)
+
+-- A row emptied is the region of no key, and every other key has the region that it had.
+abbrev pub Removed : Type 0
+Removed =
+    (memory : ℕ) (rows : List (List ℕ)) (key : ℕ) → RegionsSound memory rows → keyRow key rows < 16
+    → (regionOf key (set rows (keyRow key rows) noRegion) ≡ noRegion)
+    × ((other : ℕ) → (other ≡ key → ⊥) → regionOf other (set rows (keyRow key rows) noRegion) ≡ regionOf other rows)
+
+abbrev pub AddedSound : Type 0
+AddedSound =
+    (memory : ℕ) (rows : List (List ℕ)) (r : Region) → RegionsSound memory rows → RegionFits memory r
+    → keyRow (r .key) rows ≡ 16
+    → freeRow rows < 16
+    → RegionsSound memory (set rows (freeRow rows) (regionRow r))
+
+abbrev pub RemovedSound : Type 0
+RemovedSound =
+    (memory : ℕ) (rows : List (List ℕ)) (key : ℕ) → RegionsSound memory rows
+    → RegionsSound memory (set rows (keyRow key rows) noRegion)
+
+-- A row put behind the last is the last of the list, and the list before it is as it was.
+abbrev pub Appends : Type 0
+Appends =
+    (rows : List (List ℕ)) (r : Ring) (row : List ℕ) → length rows ≡ 16 → r .count < 16
+    → inRing (set rows (slotAt (r .head) (r .count)) row) (oneMore r) ≡ inRing rows r ++ (row ∷ [])
+
+-- The ring from the next row on, one shorter, is the list without its first.
+abbrev pub Takes : Type 0
+Takes =
+    (rows : List (List ℕ)) (head n : ℕ)
+    → inRing rows (record { head = slotAt head 1; count = n }) ≡ drop 1 (inRing rows (record { head = head; count = suc n }))
+
+-- A saved atomic is the last of those saved; with 16 saved before, the oldest is gone, and none else.
+abbrev pub Saves : Type 0
+Saves =
+    (rows : List (List ℕ)) (r : Ring) (psn value : ℕ) → length rows ≡ 16 → r .count < 16
+    → inRing (savedRows rows r psn value) (savedRing r) ≡ inRing rows r ++ ((psn ∷ value ∷ []) ∷ [])
+
+abbrev pub SavesFull : Type 0
+SavesFull =
+    (rows : List (List ℕ)) (r : Ring) (psn value : ℕ) → length rows ≡ 16 → r .count ≡ 16
+    → inRing (savedRows rows r psn value) (savedRing r) ≡ drop 1 (inRing rows r) ++ ((psn ∷ value ∷ []) ∷ [])
+
+-- The newest of a list that ends in a row is that row's value if it has the PSN, else the newest of the rest.
+abbrev pub Newest : Type 0
+Newest =
+    (psn : ℕ) (rows : List (List ℕ)) (row : List ℕ)
+    → newest psn (rows ++ (row ∷ [])) ≡ cond (eqb (getD row 0 0) psn) (Value (getD row 1 0)) (newest psn rows)

@@ -1,0 +1,43 @@
+-- What a table holds, whichever rows it stands in.
+use Prim.Native.Nat.{ℕ, zero, suc, _+_}
+use mathlib.Core.Bool.{cond}
+use mathlib.Core.List.{List, [], _∷_}
+use lib.Dec.{eqb, ltb}
+use lib.ListN.{getD, set}
+use Rattle.table.specs.declared.Ring.{Ring}
+use Rattle.table.specs.declared.Saved.{Saved}
+use Rattle.table.specs.declared.Saved.the-variants.{Value, Nothing}
+use Rattle.table.specs.Table.{noRegion, keyRow, slotAt}
+
+-- the region of a key: its row, or an empty one
+unfoldable pub regionOf : ℕ → List (List ℕ) → List ℕ
+regionOf key rows = cond (ltb (keyRow key rows) 16) (getD rows (keyRow key rows) []) noRegion
+
+-- n rows of a ring from place i on
+unfoldable pub ringFrom : List (List ℕ) → ℕ → ℕ → ℕ → List (List ℕ)
+ringFrom rows head i zero = []
+ringFrom rows head i (suc n) = getD rows (slotAt head i) [] ∷ ringFrom rows head (suc i) n
+
+-- the rows in use, oldest first
+abbrev pub inRing : List (List ℕ) → Ring → List (List ℕ)
+inRing rows r = ringFrom rows (r .head) 0 (r .count)
+
+-- the ring with a row more, and the ring without its first row
+abbrev pub oneMore : Ring → Ring
+oneMore r = record { head = r .head; count = r .count + 1 }
+
+abbrev pub later : Saved → Saved → Saved
+later (Value v) s = Value v
+later Nothing s = s
+
+-- a saved atomic's row: PSN, value. Of those saved, oldest first, the value of the newest with this PSN
+unfoldable pub newest : ℕ → List (List ℕ) → Saved
+newest psn [] = Nothing
+newest psn (row ∷ rows) = later (newest psn rows) (cond (eqb (getD row 0 0) psn) (Value (getD row 1 0)) Nothing)
+
+-- one atomic more: the seventeenth takes the place of the oldest
+unfoldable pub savedRing : Ring → Ring
+savedRing r = cond (ltb (r .count) 16) (oneMore r) (record { head = slotAt (r .head) 1; count = r .count })
+
+unfoldable pub savedRows : List (List ℕ) → Ring → ℕ → ℕ → List (List ℕ)
+savedRows rows r psn value = set rows (slotAt (r .head) (r .count)) (psn ∷ value ∷ [])
