@@ -7,7 +7,7 @@ use lib.ListN.{replicate, set}
 use Rattle.table.specs.Table.{outside, regionOutside, regionRow, entryRow, noRegion, keyRow, freeRow, slotAt}
 use Rattle.table.specs.declared.Region.{Region}
 use Rattle.table.specs.declared.Entry.{Entry}
-use Rattle.table.specs.declared.Ring.{Ring}
+use Rattle.table.specs.View.{oneMore}
 use Rattle.pair.specs.declared.Setup.{Setup}
 use Rattle.pair.specs.declared.Pair.{Pair}
 use Rattle.pair.specs.declared.HostOutcome.{HostOutcome}
@@ -76,9 +76,6 @@ postStatus q e =
     (cond (pairUnsound q) OutOfRange
     (cond (outside (e .offset) (e .length) (q .setup .memory)) OutOfRange
     (cond (leb 16 (q .entries .count)) TableFull Executed)))
-
-abbrev pub oneMore : Ring → Ring
-oneMore r = record { head = r .head; count = r .count + 1 }
 
 unfoldable pub posted : Pair → Entry → HostOutcome
 posted q e = outcome (postStatus q e) (cond (executed (postStatus q e)) (moved q (q .state) (oneMore (q .entries))) q)

@@ -1,20 +1,20 @@
 -- Rings: a row more at the end, a row less at the head.
 use Prim.Native.Nat.{ℕ, zero, suc, _+_, _%_, _≤_, _<_}
-use mathlib.Core.Path.{_≡_, refl, sym, ap, _∙_}
+use mathlib.Core.Path.{_≡_, refl, sym, ap, subst, _∙_}
 use mathlib.Core.Bool.{Bool, true, false, cond}
 use mathlib.Core.List.{List, [], _∷_, _++_}
 use native.Mathlib.Omega.{arith}
 use native.Mathlib.Numerals.{add-one}
 use lib.Dec.{eqb, ltb}
-use lib.ListN.{length, getD, set, drop}
+use lib.ListN.{length, getD, set, drop, length-set}
 use lib.Seq.{getD-set-same, getD-set-other}
-use borrow.Author.Tests.{lt-ltb, le-ltb}
+use borrow.Author.Tests.{lt-ltb, le-ltb, eqb-true, eqb-false}
 use Rattle.table.specs.declared.Ring.{Ring}
 use Rattle.table.specs.declared.Saved.{Saved}
 use Rattle.table.specs.declared.Saved.the-variants.{Value, Nothing}
-use Rattle.table.specs.Table.{slotAt}
+use Rattle.table.specs.Table.{slotAt, entryRow}
 use Rattle.table.specs.View.{ringFrom, later, newest, savedRing, savedRows}
-use Rattle.table.specs.Claims.{Appends, Takes, Saves, SavesFull, Newest}
+use Rattle.table.specs.Claims.{EntryFits, EntrySound, EntriesSound, InUseKept, PostedSound, Appends, Takes, Saves, SavesFull, Newest}
 
 -- two places less than 16 apart are different rows
 apart : (head i n : ℕ) → i < n → n < i + 16 → slotAt head i ≡ slotAt head n → ⊥
@@ -43,6 +43,11 @@ module _ (rows : List (List ℕ)) (head : ℕ) where
   last-row i (suc k) =
       let e : suc i + k ≡ i + suc k = omega arith in
       ap (λ l. getD rows (slotAt head i) [] ∷ l) (last-row (suc i) k ∙ ap (λ n. ringFrom rows head (suc i) k ++ (getD rows (slotAt head n) [] ∷ [])) e)
+
+  pub ring-length : (i k : ℕ) → length (ringFrom rows head i k) ≡ k
+  unfolding ringFrom
+  ring-length i zero = refl
+  ring-length i (suc k) = ap suc (ring-length (suc i) k)
 
   -- a store in another row
   elsewhere : (row : List ℕ) (n i k : ℕ) → i + k ≤ n → n < i + 16
@@ -73,6 +78,29 @@ appends rows r row l h =
     let e : 0 + r .count ≡ r .count = omega arith in
     ap (ringFrom (set rows (slotAt (r .head) (r .count)) row) (r .head) 0) (add-one (r .count))
     ∙ (ap (λ n. ringFrom (set rows (slotAt (r .head) n) row) (r .head) 0 (suc (r .count))) (sym e) ∙ behind rows (r .head) row 0 (r .count) l h)
+
+pub in-use-kept : InUseKept
+in-use-kept rows r row i h b =
+    getD-set-other rows (slotAt (r .head) (r .count)) (slotAt (r .head) i) row [] (apart (r .head) i (r .count) b (omega arith))
+
+pub posted-sound : PostedSound
+posted-sound memory rows r e S h fits =
+    let l : length rows ≡ 16 = S .rows16 in
+    let at = slotAt (r .head) (r .count) in
+    let new : getD (set rows at (entryRow e)) at [] ≡ entryRow e = getD-set-same rows at (entryRow e) [] (omega (arith, slot-below (r .head) (r .count))) in
+    record {
+      rows16 = length-set rows at (entryRow e) ∙ l;
+      each = λ i b. go new i (eqb i (r .count)) refl b;
+    }
+  where
+    go : getD (set rows (slotAt (r .head) (r .count)) (entryRow e)) (slotAt (r .head) (r .count)) [] ≡ entryRow e
+        → (i : ℕ) (t : Bool) → eqb i (r .count) ≡ t → i < r .count + 1
+        → EntrySound memory (getD (set rows (slotAt (r .head) (r .count)) (entryRow e)) (slotAt (r .head) i) [])
+    go new i true d b = (e, ap (λ k. getD (set rows (slotAt (r .head) (r .count)) (entryRow e)) (slotAt (r .head) k) []) (eqb-true i (r .count) d) ∙ new, fits)
+    go new i false d b =
+        let ne : i ≡ r .count → ⊥ = eqb-false i (r .count) d in
+        let c : i < r .count = omega arith in
+        subst (EntrySound memory) (sym (in-use-kept rows r (entryRow e) i h c)) (S .each i c)
 
 pub takes : Takes
 unfolding ringFrom

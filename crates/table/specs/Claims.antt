@@ -95,6 +95,29 @@ Appends =
     (rows : List (List ℕ)) (r : Ring) (row : List ℕ) → length rows ≡ 16 → r .count < 16
     → inRing (set rows (slotAt (r .head) (r .count)) row) (oneMore r) ≡ inRing rows r ++ (row ∷ [])
 
+-- Entries that calls posted: 16 rows, those in use the rows of entries that fit. Saved atomics: numbers of 24 and 64 bits.
+abbrev pub EntrySound : ℕ → List ℕ → Type 0
+EntrySound memory row = (e : Entry) × (row ≡ entryRow e) × EntryFits memory e
+
+pub record EntriesSound (memory : ℕ) (rows : List (List ℕ)) (r : Ring) : Type 0 where
+  pub rows16 : length rows ≡ 16
+  pub each : (i : ℕ) → i < r .count → EntrySound memory (getD rows (slotAt (r .head) i) [])
+
+pub record SavedSound (rows : List (List ℕ)) (r : Ring) : Type 0 where
+  pub rows16 : length rows ≡ 16
+  pub each : (i : ℕ) → i < r .count → (getD (getD rows (slotAt (r .head) i) []) 0 0 < 2 ^ 24) × (getD (getD rows (slotAt (r .head) i) []) 1 0 < 2 ^ 64)
+
+-- An entry put behind the last leaves each row in use as it was, and the entries sound.
+abbrev pub InUseKept : Type 0
+InUseKept =
+    (rows : List (List ℕ)) (r : Ring) (row : List ℕ) (i : ℕ) → r .count < 16 → i < r .count
+    → getD (set rows (slotAt (r .head) (r .count)) row) (slotAt (r .head) i) [] ≡ getD rows (slotAt (r .head) i) []
+
+abbrev pub PostedSound : Type 0
+PostedSound =
+    (memory : ℕ) (rows : List (List ℕ)) (r : Ring) (e : Entry) → EntriesSound memory rows r → r .count < 16 → EntryFits memory e
+    → EntriesSound memory (set rows (slotAt (r .head) (r .count)) (entryRow e)) (oneMore r)
+
 -- The ring from the next row on, one shorter, is the list without its first.
 abbrev pub Takes : Type 0
 Takes =

@@ -1,0 +1,211 @@
+-- What the tests of a pair mean.
+use Prim.Native.Nat.{ℕ, _+_, _%_, _^_, _≤_, _<_}
+use mathlib.Core.Path.{_≡_, refl, sym, ap, subst, _∙_}
+use mathlib.Core.Bool.{Bool, true, false, cond, not, _||_, true≢false}
+use mathlib.Core.Logic.{_⊎_, inl, inr}
+use native.Mathlib.Omega.{arith}
+use lib.Dec.{eqb, ltb, leb}
+use borrow.Author.Tests.{lt-ltb, le-ltb, le-leb, lt-leb, eq-eqb, ne-eqb, ltb-true, ltb-false, leb-true, leb-false, eqb-true, eqb-false}
+use Rattle.laws.proofs.Tests.{or-left, or-right, neither, unnot}
+use Rattle.sequence.specs.Sequence.{space}
+use Rattle.header.specs.Read.{otherService}
+use Rattle.pieces.specs.Pieces.{pmtuFits, pieces}
+use Rattle.pieces.specs.Claims.{IsPmtu}
+use Rattle.pieces.proofs.Counting.{pmtus}
+use Rattle.table.specs.Table.{outside, pastTop}
+use Rattle.pair.specs.declared.Setup.{Setup}
+use Rattle.pair.specs.declared.Pair.{Pair}
+use Rattle.pair.specs.Sound.{memoryLimit, setupUnfit, setupUnsound, numbersUnsound, ringUnsound, writeUnsound, messageUnsound, readUnsound, pairUnsound}
+use Rattle.pair.specs.Claims.{SetupFit, SetupSound, MessageSound, ReadSound, Sound, SetupTested, Tested}
+
+-- a flag that names a failing test, and the test
+not-of : (b : Bool) → b ≡ true → not b ≡ false
+not-of b h = ap not h
+
+of-not : (b : Bool) → not b ≡ false → b ≡ true
+of-not true h = refl
+of-not false h = sym h
+
+service-fits : (n : ℕ) → (n ≡ 0) ⊎ (n ≡ 1) → otherService n ≡ false
+unfolding otherService
+service-fits n (inl e) = le-ltb 1 n (omega arith)
+service-fits n (inr e) = le-ltb 1 n (omega arith)
+
+fits-service : (n : ℕ) → otherService n ≡ false → (n ≡ 0) ⊎ (n ≡ 1)
+unfolding otherService
+fits-service n h = go (eqb n 0) refl
+  where
+    go : (t : Bool) → eqb n 0 ≡ t → (n ≡ 0) ⊎ (n ≡ 1)
+    go true e = inl (eqb-true n 0 e)
+    go false e =
+        let ne : n ≡ 0 → ⊥ = eqb-false n 0 e in
+        inr (omega (arith, ltb-false 1 n h))
+
+pub setup-tested : SetupTested
+unfolding setupUnfit
+setup-tested s = (fits, passes)
+  where
+    fits : setupUnfit s ≡ false → SetupFit s
+    fits h =
+        let h2 = or-right (not (pmtuFits (s .pmtu))) _ h in
+        let h3 = or-right (otherService (s .service)) _ h2 in
+        let h4 = or-right (leb space (s .ours)) _ h3 in
+        let h5 = or-right (leb space (s .theirs)) _ h4 in
+        let h6 = or-right (leb space (s .start .0)) _ h5 in
+        let h7 = or-right (eqb (s .pkey % 32768) 0) _ h6 in
+        record {
+          pmtu = pmtus (s .pmtu) .0 (of-not (pmtuFits (s .pmtu)) (or-left (not (pmtuFits (s .pmtu))) _ h));
+          service = fits-service (s .service) (or-left (otherService (s .service)) _ h2);
+          ours = leb-false space (s .ours) (or-left (leb space (s .ours)) _ h3);
+          theirs = leb-false space (s .theirs) (or-left (leb space (s .theirs)) _ h4);
+          start = leb-false space (s .start .0) (or-left (leb space (s .start .0)) _ h5);
+          pkey = eqb-false (s .pkey % 32768) 0 (or-left (eqb (s .pkey % 32768) 0) _ h6);
+          timer = ltb-false 31 (s .timer) h7;
+        }
+
+    passes : SetupFit s → setupUnfit s ≡ false
+    passes f =
+        neither (not-of (pmtuFits (s .pmtu)) (pmtus (s .pmtu) .1 (f .pmtu)))
+        (neither (service-fits (s .service) (f .service))
+        (neither (lt-leb space (s .ours) (f .ours))
+        (neither (lt-leb space (s .theirs) (f .theirs))
+        (neither (lt-leb space (s .start .0) (f .start))
+        (neither (ne-eqb (s .pkey % 32768) 0 (f .pkey)) (le-ltb 31 (s .timer) (f .timer)))))))
+
+pub setup-sound : (s : Setup) → setupUnsound s ≡ false → SetupSound s
+unfolding setupUnsound
+setup-sound s h =
+    (setup-tested s .0 (or-left (setupUnfit s) _ h), ltb-false memoryLimit (s .memory) (or-right (setupUnfit s) _ h))
+
+pub sound-setup : (s : Setup) → SetupSound s → setupUnsound s ≡ false
+unfolding setupUnsound
+sound-setup s (fit, limit) = neither (setup-tested s .1 fit) (le-ltb memoryLimit (s .memory) limit)
+
+ring-fits : (head count : ℕ) → ringUnsound head count ≡ false → (head < 16) × (count ≤ 16)
+unfolding ringUnsound
+ring-fits head count h = (leb-false 16 head (or-left (leb 16 head) _ h), ltb-false 16 count (or-right (leb 16 head) _ h))
+
+fits-ring : (head count : ℕ) → (head < 16) × (count ≤ 16) → ringUnsound head count ≡ false
+unfolding ringUnsound
+fits-ring head count (a, b) = neither (lt-leb 16 head a) (le-ltb 16 count b)
+
+write-fits : (placed address n : ℕ) → writeUnsound placed address n ≡ false
+    → (placed < n) × (n ≤ 1048576) × (address + placed < 2 ^ 64)
+unfolding writeUnsound pastTop
+write-fits placed address n h =
+    let k = or-right (leb n placed) _ h in
+    ( leb-false n placed (or-left (leb n placed) _ h)
+    , ltb-false memoryLimit n (or-left (ltb memoryLimit n) _ k)
+    , leb-false (2 ^ 64) (address + placed) (or-right (ltb memoryLimit n) _ k))
+
+fits-write : (placed address n : ℕ) → (placed < n) × (n ≤ 1048576) × (address + placed < 2 ^ 64)
+    → writeUnsound placed address n ≡ false
+unfolding writeUnsound pastTop
+fits-write placed address n (a, b, c) =
+    neither (lt-leb n placed a) (neither (le-ltb memoryLimit n b) (lt-leb (2 ^ 64) (address + placed) c))
+
+message-fits : (q : Pair) → messageUnsound (q .message .kind) (q .message .placed) (q .message .address) (q .message .length) (q .entries .count) ≡ false
+    → MessageSound q
+unfolding messageUnsound
+message-fits q = go (eqb (q .message .kind) 255) refl (eqb (q .message .kind) 0) refl (eqb (q .message .kind) 6) refl
+  where
+    go : (a : Bool) → eqb (q .message .kind) 255 ≡ a → (b : Bool) → eqb (q .message .kind) 0 ≡ b → (c : Bool) → eqb (q .message .kind) 6 ≡ c
+        → cond a false (cond b (eqb (q .entries .count) 0) (cond c (writeUnsound (q .message .placed) (q .message .address) (q .message .length)) true)) ≡ false
+        → MessageSound q
+    go true x b y c z h = inl (eqb-true (q .message .kind) 255 x)
+    go false x true y c z h =
+        let ne : q .entries .count ≡ 0 → ⊥ = eqb-false (q .entries .count) 0 h in
+        inr (inl (eqb-true (q .message .kind) 0 y, omega arith))
+    go false x false y true z h =
+        let w = write-fits (q .message .placed) (q .message .address) (q .message .length) h in
+        inr (inr (eqb-true (q .message .kind) 6 z, w .0, w .1, w .2))
+    go false x false y false z h = absurd (true≢false h)
+
+fits-message : (q : Pair) → MessageSound q
+    → messageUnsound (q .message .kind) (q .message .placed) (q .message .address) (q .message .length) (q .entries .count) ≡ false
+unfolding messageUnsound
+fits-message q (inl e) = rw (eq-eqb (q .message .kind) 255 e)
+fits-message q (inr (inl (e, some))) = rw e (ne-eqb (q .entries .count) 0 (λ z. omega arith))
+fits-message q (inr (inr (e, a, b, c))) = rw e (fits-write (q .message .placed) (q .message .address) (q .message .length) (a, b, c))
+
+-- a READ being answered, on its numbers
+module _ (remaining offset n psn msn pmtu memory : ℕ) where
+  abbrev Left : Type 0
+  Left = (remaining ≡ 0) ⊎ ((remaining ≤ pieces n pmtu) × (offset + n ≤ memory) × (psn < 2 ^ 24) × (msn < 2 ^ 24))
+
+  read-fits : readUnsound remaining offset n psn msn pmtu memory ≡ false → Left
+  unfolding readUnsound outside
+  read-fits = go (eqb remaining 0) refl
+    where
+      go : (t : Bool) → eqb remaining 0 ≡ t
+          → cond t false (ltb (pieces n pmtu) remaining || (ltb memory (offset + n) || (leb space psn || leb space msn))) ≡ false
+          → Left
+      go true e h = inl (eqb-true remaining 0 e)
+      go false e h =
+          let h2 = or-right (ltb (pieces n pmtu) remaining) _ h in
+          let h3 = or-right (ltb memory (offset + n)) _ h2 in
+          inr
+          ( ltb-false (pieces n pmtu) remaining (or-left (ltb (pieces n pmtu) remaining) _ h)
+          , ltb-false memory (offset + n) (or-left (ltb memory (offset + n)) _ h2)
+          , leb-false space psn (or-left (leb space psn) _ h3)
+          , leb-false space msn (or-right (leb space psn) _ h3))
+
+  fits-read : Left → readUnsound remaining offset n psn msn pmtu memory ≡ false
+  unfolding readUnsound outside
+  fits-read (inl e) = rw (eq-eqb remaining 0 e)
+  fits-read (inr (a, b, c, d)) = go (eqb remaining 0)
+    where
+      rest : (ltb (pieces n pmtu) remaining || (ltb memory (offset + n) || (leb space psn || leb space msn))) ≡ false
+      rest =
+          neither (le-ltb (pieces n pmtu) remaining a)
+          (neither (le-ltb memory (offset + n) b) (neither (lt-leb space psn c) (lt-leb space msn d)))
+
+      go : (t : Bool) → cond t false (ltb (pieces n pmtu) remaining || (ltb memory (offset + n) || (leb space psn || leb space msn))) ≡ false
+      go true = refl
+      go false = rest
+
+numbers-fit : (state expected msn : ℕ) → numbersUnsound state expected msn ≡ false → (state ≤ 2) × (expected < 2 ^ 24) × (msn < 2 ^ 24)
+unfolding numbersUnsound
+numbers-fit state expected msn h =
+    let k = or-right (ltb 2 state) _ h in
+    ( ltb-false 2 state (or-left (ltb 2 state) _ h)
+    , leb-false space expected (or-left (leb space expected) _ k)
+    , leb-false space msn (or-right (leb space expected) _ k))
+
+fit-numbers : (state expected msn : ℕ) → (state ≤ 2) × (expected < 2 ^ 24) × (msn < 2 ^ 24) → numbersUnsound state expected msn ≡ false
+unfolding numbersUnsound
+fit-numbers state expected msn (a, b, c) = neither (le-ltb 2 state a) (neither (lt-leb space expected b) (lt-leb space msn c))
+
+pub tested : Tested
+unfolding pairUnsound
+tested q = (fits, passes)
+  where
+    fits : pairUnsound q ≡ false → Sound q
+    fits h =
+        let h2 = or-right (setupUnsound (q .setup)) _ h in
+        let h3 = or-right (numbersUnsound (q .state) (q .expected .0) (q .msn .0)) _ h2 in
+        let h4 = or-right (ringUnsound (q .entries .head) (q .entries .count)) _ h3 in
+        let h5 = or-right (ringUnsound (q .saved .head) (q .saved .count)) _ h4 in
+        let m = messageUnsound (q .message .kind) (q .message .placed) (q .message .address) (q .message .length) (q .entries .count) in
+        let n = numbers-fit (q .state) (q .expected .0) (q .msn .0) (or-left (numbersUnsound (q .state) (q .expected .0) (q .msn .0)) _ h2) in
+        record {
+          setup = setup-sound (q .setup) (or-left (setupUnsound (q .setup)) _ h);
+          state = n .0;
+          expected = n .1;
+          msn = n .2;
+          entries = ring-fits (q .entries .head) (q .entries .count) (or-left (ringUnsound (q .entries .head) (q .entries .count)) _ h3);
+          saved = ring-fits (q .saved .head) (q .saved .count) (or-left (ringUnsound (q .saved .head) (q .saved .count)) _ h4);
+          message = message-fits q (or-left m _ h5);
+          read =
+            read-fits (q .read .remaining) (q .read .offset) (q .read .length) (q .read .psn .0) (q .read .msn .0) (q .setup .pmtu) (q .setup .memory)
+            (or-right m _ h5);
+        }
+
+    passes : Sound q → pairUnsound q ≡ false
+    passes S =
+        neither (sound-setup (q .setup) (S .setup))
+        (neither (fit-numbers (q .state) (q .expected .0) (q .msn .0) (S .state, S .expected, S .msn))
+        (neither (fits-ring (q .entries .head) (q .entries .count) (S .entries))
+        (neither (fits-ring (q .saved .head) (q .saved .count) (S .saved))
+        (neither (fits-message q (S .message))
+        (fits-read (q .read .remaining) (q .read .offset) (q .read .length) (q .read .psn .0) (q .read .msn .0) (q .setup .pmtu) (q .setup .memory) (S .read))))))

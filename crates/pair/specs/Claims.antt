@@ -1,0 +1,246 @@
+-- What is proved of the pair and the host's calls, each statement by a name; the proofs stand in proofs/.
+use Prim.Native.Nat.{ℕ, _+_, _%_, _^_, _≤_, _<_}
+use mathlib.Core.Path.{_≡_}
+use mathlib.Core.Bool.{true, false}
+use mathlib.Core.List.{List, [], _∷_, _++_}
+use mathlib.Core.Logic.{_⊎_}
+use lib.ListN.{length, getD}
+use Rattle.pieces.specs.Pieces.{pieces}
+use Rattle.pieces.specs.Claims.{IsPmtu}
+use Rattle.table.specs.Table.{regionRow, entryRow, noRegion, slotAt}
+use Rattle.table.specs.View.{regionOf, inRing}
+use Rattle.table.specs.Claims.{RegionFits, EntryFits, Free, HasKey, RegionsSound, EntriesSound, SavedSound}
+use Rattle.table.specs.declared.Region.{Region}
+use Rattle.table.specs.declared.Entry.{Entry}
+use Rattle.pair.specs.declared.Setup.{Setup}
+use Rattle.pair.specs.declared.Pair.{Pair}
+use Rattle.pair.specs.declared.HostOutcome.{HostOutcome}
+use Rattle.pair.specs.declared.Status.{Status}
+use Rattle.pair.specs.Answer.{statusNumber}
+use Rattle.pair.specs.Pair.{freshPair, blankPair, moved}
+use Rattle.pair.specs.Sound.{setupUnfit, pairUnsound}
+use Rattle.pair.specs.Host.{noRegions, setUp, setUpRegions, resetTo, resetRegions, madeReady, addStatus, addRegions, removeStatus, removeRegions, posted, postEntries}
+use Rattle.pair.specs.View.{heldOf, waitingOf, entriesOf}
+use Rattle.pair.specs.Calls.{Whole, HostCall, begun, called, calledAll}
+
+-- Each number is the number of one answer.
+abbrev pub OneNumber : Type 0
+OneNumber = (a b : Status) → statusNumber a ≡ statusNumber b → a ≡ b
+
+-- Numbers that a set-up accepts, listed here once more and not by the definition under test; so are the conditions below.
+pub record SetupFit (s : Setup) : Type 0 where
+  pub pmtu : IsPmtu (s .pmtu)
+  pub service : (s .service ≡ 0) ⊎ (s .service ≡ 1)
+  pub ours : s .ours < 2 ^ 24
+  pub theirs : s .theirs < 2 ^ 24
+  pub start : s .start .0 < 2 ^ 24
+  pub pkey : s .pkey % 2 ^ 15 ≡ 0 → ⊥
+  pub timer : s .timer ≤ 31
+
+abbrev pub SetupSound : Setup → Type 0
+SetupSound s = SetupFit s × (s .memory ≤ 1048576)
+
+-- An open message: none; a SEND, which holds an entry; a WRITE with bytes to come.
+abbrev pub MessageSound : Pair → Type 0
+MessageSound q =
+    (q .message .kind ≡ 255)
+    ⊎ (((q .message .kind ≡ 0) × (1 ≤ q .entries .count))
+    ⊎ ((q .message .kind ≡ 6)
+    × (q .message .placed < q .message .length)
+    × (q .message .length ≤ 1048576)
+    × (q .message .address + q .message .placed < 2 ^ 64)))
+
+-- A READ being answered: none, or bytes of memory and some of their responses still to send.
+abbrev pub ReadSound : Pair → Type 0
+ReadSound q =
+    (q .read .remaining ≡ 0)
+    ⊎ ((q .read .remaining ≤ pieces (q .read .length) (q .setup .pmtu))
+    × (q .read .offset + q .read .length ≤ q .setup .memory)
+    × (q .read .psn .0 < 2 ^ 24)
+    × (q .read .msn .0 < 2 ^ 24))
+
+pub record Sound (q : Pair) : Type 0 where
+  pub setup : SetupSound (q .setup)
+  pub state : q .state ≤ 2
+  pub expected : q .expected .0 < 2 ^ 24
+  pub msn : q .msn .0 < 2 ^ 24
+  pub entries : (q .entries .head < 16) × (q .entries .count ≤ 16)
+  pub saved : (q .saved .head < 16) × (q .saved .count ≤ 16)
+  pub message : MessageSound q
+  pub read : ReadSound q
+
+-- The tests that the code makes say so.
+abbrev pub SetupTested : Type 0
+SetupTested = (s : Setup) → (setupUnfit s ≡ false → SetupFit s) × (SetupFit s → setupUnfit s ≡ false)
+
+abbrev pub Tested : Type 0
+Tested = (q : Pair) → (pairUnsound q ≡ false → Sound q) × (Sound q → pairUnsound q ≡ false)
+
+-- A fresh pair, field by field: Init, the numbers of the set-up, the start expected, MSN 0, no mark, no message open,
+-- no entry, no READ being answered, no atomic saved.
+pub record Fresh (s : Setup) (q : Pair) : Type 0 where
+  pub setup : q .setup ≡ s
+  pub state : q .state ≡ 0
+  pub expected : q .expected ≡ s .start
+  pub msn : q .msn .0 ≡ 0
+  pub mark : q .mark ≡ false
+  pub message : q .message .kind ≡ 255
+  pub entries : q .entries .count ≡ 0
+  pub read : q .read .remaining ≡ 0
+  pub saved : q .saved .count ≡ 0
+
+-- An outcome: the number of its answer, and the pair.
+abbrev pub Answers : HostOutcome → ℕ → Pair → Type 0
+Answers o number q = (statusNumber (o .status) ≡ number) × (o .pair ≡ q)
+
+-- Set-up. 39 comes first, whatever the memory; a refused one gives the blank pair and leaves the table.
+abbrev pub SetUpBad : Type 0
+SetUpBad =
+    (s : Setup) (rows : List (List ℕ)) → (SetupFit s → ⊥) → Answers (setUp s) 39 blankPair × (setUpRegions s rows ≡ rows)
+
+abbrev pub SetUpOver : Type 0
+SetUpOver =
+    (s : Setup) (rows : List (List ℕ)) → SetupFit s → 1048576 < s .memory
+    → Answers (setUp s) 34 blankPair × (setUpRegions s rows ≡ rows)
+
+abbrev pub SetUpDone : Type 0
+SetUpDone =
+    (s : Setup) (rows : List (List ℕ)) → SetupSound s
+    → (statusNumber (setUp s .status) ≡ 0) × Fresh s (setUp s .pair) × (setUpRegions s rows ≡ noRegions)
+
+-- Reset, in whatever state; a pair that no set-up made is refused.
+abbrev pub ResetDone : Type 0
+ResetDone =
+    (q : Pair) (rows : List (List ℕ)) → SetupSound (q .setup)
+    → (statusNumber (resetTo q .status) ≡ 0) × Fresh (q .setup) (resetTo q .pair) × (resetRegions q rows ≡ noRegions)
+
+abbrev pub ResetNever : Type 0
+ResetNever =
+    (q : Pair) (rows : List (List ℕ)) → (SetupSound (q .setup) → ⊥) → Answers (resetTo q) 34 q × (resetRegions q rows ≡ rows)
+
+-- Make ready: the state moves, and nothing else.
+abbrev pub ReadyWrong : Type 0
+ReadyWrong = (q : Pair) → (q .state ≡ 0 → ⊥) → Answers (madeReady q) 36 q
+
+abbrev pub ReadyUnsound : Type 0
+ReadyUnsound = (q : Pair) → q .state ≡ 0 → (Sound q → ⊥) → Answers (madeReady q) 34 q
+
+abbrev pub ReadyDone : Type 0
+ReadyDone = (q : Pair) → q .state ≡ 0 → Sound q → Answers (madeReady q) 0 (moved q 1 (q .entries))
+
+-- Add region: 36, 34, 38, 33, in this order, and a refusal leaves the table.
+abbrev pub Adds : Pair → List (List ℕ) → Region → ℕ → Type 0
+Adds q rows r number = (statusNumber (addStatus q rows r) ≡ number) × (addRegions q rows r ≡ rows)
+
+abbrev pub InUse : ℕ → List (List ℕ) → Type 0
+InUse key rows = (i : ℕ) × (i < 16) × HasKey key (getD rows i [])
+
+abbrev pub Full : List (List ℕ) → Type 0
+Full rows = (i : ℕ) → i < 16 → Free (getD rows i []) → ⊥
+
+abbrev pub AddError : Type 0
+AddError = (q : Pair) (rows : List (List ℕ)) (r : Region) → q .state ≡ 2 → Adds q rows r 36
+
+abbrev pub AddRange : Type 0
+AddRange =
+    (q : Pair) (rows : List (List ℕ)) (r : Region) → (q .state ≡ 2 → ⊥) → (Sound q → ⊥) ⊎ (RegionFits (q .setup .memory) r → ⊥)
+    → Adds q rows r 34
+
+abbrev pub AddUsed : Type 0
+AddUsed =
+    (q : Pair) (rows : List (List ℕ)) (r : Region) → (q .state ≡ 2 → ⊥) → Sound q → RegionFits (q .setup .memory) r
+    → InUse (r .key) rows
+    → Adds q rows r 38
+
+abbrev pub AddFull : Type 0
+AddFull =
+    (q : Pair) (rows : List (List ℕ)) (r : Region) → (q .state ≡ 2 → ⊥) → Sound q → RegionFits (q .setup .memory) r
+    → (InUse (r .key) rows → ⊥)
+    → Full rows
+    → Adds q rows r 33
+
+-- A region added is the region of its key; every other key has the region that it had.
+abbrev pub AddDone : Type 0
+AddDone =
+    (q : Pair) (rows : List (List ℕ)) (r : Region) → (q .state ≡ 2 → ⊥) → Sound q → RegionFits (q .setup .memory) r
+    → (InUse (r .key) rows → ⊥)
+    → (Full rows → ⊥)
+    → length rows ≡ 16
+    → (statusNumber (addStatus q rows r) ≡ 0)
+    × (regionOf (r .key) (addRegions q rows r) ≡ regionRow r)
+    × ((key : ℕ) → (key ≡ r .key → ⊥) → regionOf key (addRegions q rows r) ≡ regionOf key rows)
+
+-- Remove region.
+abbrev pub RemoveUnknown : Type 0
+RemoveUnknown =
+    (rows : List (List ℕ)) (key : ℕ) → (InUse key rows → ⊥)
+    → (statusNumber (removeStatus rows key) ≡ 37) × (removeRegions rows key ≡ rows)
+
+abbrev pub RemoveDone : Type 0
+RemoveDone =
+    (memory : ℕ) (rows : List (List ℕ)) (key : ℕ) → RegionsSound memory rows → InUse key rows
+    → (statusNumber (removeStatus rows key) ≡ 0)
+    × (regionOf key (removeRegions rows key) ≡ noRegion)
+    × ((other : ℕ) → (other ≡ key → ⊥) → regionOf other (removeRegions rows key) ≡ regionOf other rows)
+
+-- Post entry: 36, 34, 33, in this order. The 16 count the entry held with those waiting.
+abbrev pub Posts : Pair → List (List ℕ) → Entry → ℕ → Type 0
+Posts q rows e number = Answers (posted q e) number q × (postEntries q rows e ≡ rows)
+
+abbrev pub PostError : Type 0
+PostError = (q : Pair) (rows : List (List ℕ)) (e : Entry) → q .state ≡ 2 → Posts q rows e 36
+
+abbrev pub PostRange : Type 0
+PostRange =
+    (q : Pair) (rows : List (List ℕ)) (e : Entry) → (q .state ≡ 2 → ⊥) → (Sound q → ⊥) ⊎ (EntryFits (q .setup .memory) e → ⊥)
+    → Posts q rows e 34
+
+abbrev pub PostFull : Type 0
+PostFull =
+    (q : Pair) (rows : List (List ℕ)) (e : Entry) → (q .state ≡ 2 → ⊥) → Sound q → EntryFits (q .setup .memory) e
+    → length (heldOf q rows) + length (waitingOf q rows) ≡ 16
+    → Posts q rows e 33
+
+-- An entry posted waits behind the others; the one held is as it was, and of the pair nothing else moves.
+pub record PostsLast (q : Pair) (rows : List (List ℕ)) (e : Entry) : Type 0 where
+  pub number : statusNumber (posted q e .status) ≡ 0
+  pub pair : posted q e .pair ≡ moved q (q .state) (posted q e .pair .entries)
+  pub waiting : waitingOf (posted q e .pair) (postEntries q rows e) ≡ waitingOf q rows ++ (entryRow e ∷ [])
+  pub held : heldOf (posted q e .pair) (postEntries q rows e) ≡ heldOf q rows
+
+abbrev pub PostDone : Type 0
+PostDone =
+    (q : Pair) (rows : List (List ℕ)) (e : Entry) → (q .state ≡ 2 → ⊥) → Sound q → EntryFits (q .setup .memory) e
+    → length (heldOf q rows) + length (waitingOf q rows) < 16
+    → length rows ≡ 16
+    → PostsLast q rows e
+
+-- The entries are the one held, then those waiting.
+abbrev pub HeldWaiting : Type 0
+HeldWaiting = (q : Pair) (rows : List (List ℕ)) → heldOf q rows ++ waitingOf q rows ≡ entriesOf q rows
+
+-- The blank pair is of no use: every call that takes it is refused.
+abbrev pub BlankRefused : Type 0
+BlankRefused =
+    (rows : List (List ℕ)) (r : Region) (e : Entry)
+    → Answers (resetTo blankPair) 34 blankPair
+    × Answers (madeReady blankPair) 36 blankPair
+    × Adds blankPair rows r 36
+    × Posts blankPair rows e 36
+
+-- The pair and its tables, as calls make them.
+pub record WholeSound (w : Whole) : Type 0 where
+  pub pair : Sound (w .pair)
+  pub regions : RegionsSound (w .pair .setup .memory) (w .regions)
+  pub entries : EntriesSound (w .pair .setup .memory) (w .entries) (w .pair .entries)
+  pub saved : SavedSound (w .saved) (w .pair .saved)
+  pub held : w .pair .message .kind ≡ 0 → w .pair .message .placed ≤ getD (getD (w .entries) (slotAt (w .pair .entries .head) 0) []) 2 0
+
+-- Set-up makes them sound, whatever the tables held before; and so they are after every list of the host's calls.
+abbrev pub BegunSound : Type 0
+BegunSound =
+    (s : Setup) (regions entries saved : List (List ℕ)) → SetupSound s → length entries ≡ 16 → length saved ≡ 16
+    → WholeSound (begun s regions entries saved)
+
+abbrev pub CallsSound : Type 0
+CallsSound = (w : Whole) (calls : List HostCall) → WholeSound w → WholeSound (calledAll w calls)
