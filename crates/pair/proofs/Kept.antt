@@ -1,0 +1,187 @@
+-- A pair and its tables stay sound.
+use Prim.Native.Nat.{ℕ, zero, suc, _+_, _^_, _≤_, _<_}
+use mathlib.Core.Path.{_≡_, refl, sym, ap, subst, _∙_}
+use mathlib.Core.Bool.{Bool, true, false, cond}
+use mathlib.Core.List.{List, [], _∷_}
+use mathlib.Core.Logic.{_⊎_, inl, inr}
+use native.Mathlib.Omega.{arith}
+use lib.Dec.{eqb}
+use lib.ListN.{length, getD, set, getD-replicate}
+use borrow.Author.Tests.{eqb-true, eqb-false}
+use Rattle.table.specs.Table.{regionRow, entryRow, noRegion, keyRow, freeRow, slotAt}
+use Rattle.table.specs.View.{oneMore}
+use Rattle.table.specs.Claims.{RegionFits, EntryFits, HasKey, RegionsSound, EntriesSound, SavedSound}
+use Rattle.table.proofs.Rings.{in-use-kept, posted-sound}
+use Rattle.table.proofs.Regions.{added-sound, removed-sound, no-key}
+use Rattle.table.specs.declared.Region.{Region}
+use Rattle.table.specs.declared.Entry.{Entry}
+use Rattle.table.specs.declared.Ring.{Ring}
+use Rattle.pair.specs.declared.Setup.{Setup}
+use Rattle.pair.specs.declared.Pair.{Pair}
+use Rattle.pair.specs.Answer.{executed}
+use Rattle.pair.specs.Pair.{freshPair, moved}
+use Rattle.pair.specs.Host.{noRegions, setUp, setUpRegions, resetTo, resetRegions, madeReady, addRegions, removeStatus, removeRegions, posted, postEntries}
+use Rattle.pair.specs.Calls.{Whole, HostCall, begun, called, calledAll}
+use Rattle.pair.specs.Calls.HostCall.{Reset, MakeReady, AddRegion, RemoveRegion, PostEntry}
+use Rattle.pair.specs.Claims.{SetupFit, SetupSound, MessageSound, ReadSound, Sound, WholeSound, BegunSound, CallsSound}
+use Rattle.pair.proofs.Answers.{set-up-pair, set-up-regions, reset-pair, reset-regions, ready-wrong, ready-done, add-either, post-either, held-some}
+
+-- a fresh pair beside empty regions
+empty-sound : (memory : ℕ) → RegionsSound memory noRegions
+empty-sound memory =
+    record {
+      rows16 = refl;
+      each = λ i h. inl (ap (λ x. getD x 2 0) (getD-replicate 16 i noRegion [] h));
+      once = λ i j key h k x y. absurd (no-key key (subst (HasKey key) (getD-replicate 16 i noRegion [] h) x));
+    }
+
+fresh-sound : (s : Setup) → SetupSound s → Sound (freshPair s)
+unfolding freshPair
+fresh-sound s (f, limit) =
+    record {
+      setup = (f, limit);
+      state = omega arith;
+      expected = f .start;
+      msn = omega arith;
+      entries = (omega arith, omega arith);
+      saved = (omega arith, omega arith);
+      message = inl refl;
+      read = inl refl;
+    }
+
+fresh-whole : (s : Setup) (entries saved : List (List ℕ)) → SetupSound s → length entries ≡ 16 → length saved ≡ 16
+    → WholeSound (record { pair = freshPair s; regions = noRegions; entries = entries; saved = saved })
+unfolding freshPair
+fresh-whole s entries saved h e l =
+    record {
+      pair = fresh-sound s h;
+      regions = empty-sound (s .memory);
+      entries = record { rows16 = e; each = λ i b. absurd (omega arith) };
+      saved = record { rows16 = l; each = λ i b. absurd (omega arith) };
+      held = λ z. absurd (omega arith);
+    }
+
+pub begun-sound : BegunSound
+unfolding begun
+begun-sound s regions entries saved h e l =
+    subst (λ q. WholeSound (record { pair = q; regions = setUpRegions s regions; entries = entries; saved = saved })) (sym (set-up-pair s h))
+    (subst (λ x. WholeSound (record { pair = freshPair s; regions = x; entries = entries; saved = saved })) (sym (set-up-regions s regions h))
+    (fresh-whole s entries saved h e l))
+
+reset-kept : (w : Whole) → WholeSound w → WholeSound (called w Reset)
+unfolding called
+reset-kept w W =
+    let h = W .pair .setup in
+    subst (λ q. WholeSound (record { pair = q; regions = resetRegions (w .pair) (w .regions); entries = w .entries; saved = w .saved })) (sym (reset-pair (w .pair) h))
+    (subst (λ x. WholeSound (record { pair = freshPair (w .pair .setup); regions = x; entries = w .entries; saved = w .saved })) (sym (reset-regions (w .pair) (w .regions) h))
+    (fresh-whole (w .pair .setup) (w .entries) (w .saved) h (W .entries .rows16) (W .saved .rows16)))
+
+-- a sound pair that becomes Ready
+ready-sound : (q : Pair) → Sound q → Sound (moved q 1 (q .entries))
+ready-sound q S =
+    record {
+      setup = S .setup;
+      state = omega arith;
+      expected = S .expected;
+      msn = S .msn;
+      entries = S .entries;
+      saved = S .saved;
+      message = S .message;
+      read = S .read;
+    }
+
+ready-kept : (w : Whole) → WholeSound w → WholeSound (called w MakeReady)
+unfolding called
+ready-kept w W = go (eqb (w .pair .state) 0) refl
+  where
+    go : (t : Bool) → eqb (w .pair .state) 0 ≡ t
+        → WholeSound (record { pair = madeReady (w .pair) .pair; regions = w .regions; entries = w .entries; saved = w .saved })
+    go true e =
+        subst (λ q. WholeSound (record { pair = q; regions = w .regions; entries = w .entries; saved = w .saved })) (sym (ready-done (w .pair) (eqb-true (w .pair .state) 0 e) (W .pair) .1))
+        (record { pair = ready-sound (w .pair) (W .pair); regions = W .regions; entries = W .entries; saved = W .saved; held = W .held })
+    go false e =
+        subst (λ q. WholeSound (record { pair = q; regions = w .regions; entries = w .entries; saved = w .saved })) (sym (ready-wrong (w .pair) (eqb-false (w .pair .state) 0 e) .1)) W
+
+with-regions : (w : Whole) (rows : List (List ℕ)) → WholeSound w → RegionsSound (w .pair .setup .memory) rows
+    → WholeSound (record { pair = w .pair; regions = rows; entries = w .entries; saved = w .saved })
+with-regions w rows W R = record { pair = W .pair; regions = R; entries = W .entries; saved = W .saved; held = W .held }
+
+add-kept : (w : Whole) (r : Region) → WholeSound w → WholeSound (called w (AddRegion r))
+unfolding called
+add-kept w r W = with-regions w (addRegions (w .pair) (w .regions) r) W (go (add-either (w .pair) (w .regions) r (W .pair)))
+  where
+    go : (addRegions (w .pair) (w .regions) r ≡ w .regions)
+        ⊎ (RegionFits (w .pair .setup .memory) r × (keyRow (r .key) (w .regions) ≡ 16) × (freeRow (w .regions) < 16)
+        × (addRegions (w .pair) (w .regions) r ≡ set (w .regions) (freeRow (w .regions)) (regionRow r)))
+        → RegionsSound (w .pair .setup .memory) (addRegions (w .pair) (w .regions) r)
+    go (inl e) = subst (RegionsSound (w .pair .setup .memory)) (sym e) (W .regions)
+    go (inr (f, k, m, e)) =
+        subst (RegionsSound (w .pair .setup .memory)) (sym e) (added-sound (w .pair .setup .memory) (w .regions) r (W .regions) f k m)
+
+remove-kept : (w : Whole) (key : ℕ) → WholeSound w → WholeSound (called w (RemoveRegion key))
+unfolding called removeRegions
+remove-kept w key W = with-regions w (removeRegions (w .regions) key) W (go (executed (removeStatus (w .regions) key)))
+  where
+    go : (t : Bool) → RegionsSound (w .pair .setup .memory) (cond t (set (w .regions) (keyRow key (w .regions)) noRegion) (w .regions))
+    go true = removed-sound (w .pair .setup .memory) (w .regions) key (W .regions)
+    go false = W .regions
+
+-- a sound pair with an entry more
+one-more-sound : (q : Pair) → Sound q → q .entries .count < 16 → Sound (moved q (q .state) (oneMore (q .entries)))
+one-more-sound q S n =
+    record {
+      setup = S .setup;
+      state = S .state;
+      expected = S .expected;
+      msn = S .msn;
+      entries = (S .entries .0, omega arith);
+      saved = S .saved;
+      message = go (S .message);
+      read = S .read;
+    }
+  where
+    go : MessageSound q → MessageSound (moved q (q .state) (oneMore (q .entries)))
+    go (inl e) = inl e
+    go (inr (inl (e, some))) = inr (inl (e, omega arith))
+    go (inr (inr e)) = inr (inr e)
+
+-- the pair and the entries replaced
+with-entries : (w : Whole) → Pair → List (List ℕ) → Whole
+with-entries w q rows = record { pair = q; regions = w .regions; entries = rows; saved = w .saved }
+
+post-kept : (w : Whole) (e : Entry) → WholeSound w → WholeSound (called w (PostEntry e))
+unfolding called with-entries
+post-kept w e W = go (post-either (w .pair) (w .entries) e (W .pair))
+  where
+    go : ((posted (w .pair) e .pair ≡ w .pair) × (postEntries (w .pair) (w .entries) e ≡ w .entries))
+        ⊎ (EntryFits (w .pair .setup .memory) e × (w .pair .entries .count < 16)
+        × (posted (w .pair) e .pair ≡ moved (w .pair) (w .pair .state) (oneMore (w .pair .entries)))
+        × (postEntries (w .pair) (w .entries) e ≡ set (w .entries) (slotAt (w .pair .entries .head) (w .pair .entries .count)) (entryRow e)))
+        → WholeSound (with-entries w (posted (w .pair) e .pair) (postEntries (w .pair) (w .entries) e))
+    go (inl (a, b)) =
+        subst (λ q. WholeSound (with-entries w q (postEntries (w .pair) (w .entries) e))) (sym a) (subst (λ x. WholeSound (with-entries w (w .pair) x)) (sym b) W)
+    go (inr (f, n, a, b)) =
+        subst (λ q. WholeSound (with-entries w q (postEntries (w .pair) (w .entries) e))) (sym a)
+        (subst (λ x. WholeSound (with-entries w (moved (w .pair) (w .pair .state) (oneMore (w .pair .entries))) x)) (sym b)
+        (record {
+          pair = one-more-sound (w .pair) (W .pair) n;
+          regions = W .regions;
+          entries = posted-sound (w .pair .setup .memory) (w .entries) (w .pair .entries) e (W .entries) n f;
+          saved = W .saved;
+          held =
+            λ k.
+            subst (λ x. w .pair .message .placed ≤ getD x 2 0)
+            (sym (in-use-kept (w .entries) (w .pair .entries) (entryRow e) 0 n (held-some (w .pair) (W .pair) k))) (W .held k);
+        }))
+
+called-sound : (w : Whole) (c : HostCall) → WholeSound w → WholeSound (called w c)
+called-sound w Reset W = reset-kept w W
+called-sound w MakeReady W = ready-kept w W
+called-sound w (AddRegion r) W = add-kept w r W
+called-sound w (RemoveRegion key) W = remove-kept w key W
+called-sound w (PostEntry e) W = post-kept w e W
+
+pub calls-sound : CallsSound
+unfolding calledAll
+calls-sound w [] W = W
+calls-sound w (c ∷ cs) W = calls-sound (called w c) cs (called-sound w c W)

@@ -220,7 +220,7 @@ unfolding regionRow
 only-key r key (some, same) = same
 
 -- an empty row has none
-no-key : (key : ℕ) → HasKey key noRegion → ⊥
+pub no-key : (key : ℕ) → HasKey key noRegion → ⊥
 no-key key (some, same) = omega arith
 
 free-key : (row : List ℕ) (key : ℕ) → Free row → HasKey key row → ⊥
