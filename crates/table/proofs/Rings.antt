@@ -1,5 +1,5 @@
 -- Rings: a row more at the end, a row less at the head.
-use Prim.Native.Nat.{ℕ, zero, suc, _+_, _%_, _≤_, _<_}
+use Prim.Native.Nat.{ℕ, zero, suc, _+_, _-_, _%_, _≤_, _<_}
 use mathlib.Core.Path.{_≡_, refl, sym, ap, subst, _∙_}
 use mathlib.Core.Bool.{Bool, true, false, cond}
 use mathlib.Core.List.{List, [], _∷_, _++_}
@@ -8,7 +8,7 @@ use native.Mathlib.Numerals.{add-one}
 use lib.Dec.{eqb, ltb}
 use lib.ListN.{length, getD, set, drop, length-set}
 use lib.Seq.{getD-set-same, getD-set-other}
-use borrow.Author.Tests.{lt-ltb, le-ltb, eqb-true, eqb-false}
+use borrow.Author.Tests.{lt-ltb, le-ltb, eq-eqb, ne-eqb, eqb-true, eqb-false}
 use Rattle.table.specs.declared.Ring.{Ring}
 use Rattle.table.specs.declared.Saved.{Saved}
 use Rattle.table.specs.declared.Saved.the-variants.{Value, Nothing}
@@ -126,3 +126,26 @@ unfolding newest
 newest-last psn [] row = refl
 newest-last psn (x ∷ rows) row =
     rw (newest-last psn rows row) (later-if (eqb (getD row 0 0) psn) (getD row 1 0) (newest psn rows) (cond (eqb (getD x 0 0) psn) (Value (getD x 1 0)) Nothing))
+
+-- the search from the newest row back
+module _ (psn : ℕ) (rows : List (List ℕ)) (head n : ℕ) (h : 0 < n) where
+  from-last : newest psn (ringFrom rows head 0 n)
+      ≡ cond (eqb (getD (getD rows (slotAt head (n - 1)) []) 0 0) psn) (Value (getD (getD rows (slotAt head (n - 1)) []) 1 0)) (newest psn (ringFrom rows head 0 (n - 1)))
+  from-last =
+      let e : n ≡ suc (n - 1) = omega arith in
+      let z : 0 + (n - 1) ≡ n - 1 = omega arith in
+      ap (λ k. newest psn (ringFrom rows head 0 k)) e
+      ∙ (ap (newest psn) (last-row rows head 0 (n - 1))
+      ∙ (newest-last psn (ringFrom rows head 0 (n - 1)) (getD rows (slotAt head (0 + (n - 1))) [])
+      ∙ ap (λ k. cond (eqb (getD (getD rows (slotAt head k) []) 0 0) psn) (Value (getD (getD rows (slotAt head k) []) 1 0)) (newest psn (ringFrom rows head 0 (n - 1)))) z))
+
+  module _ (at : ℕ) (a : at ≡ slotAt head (n - 1)) where
+    pub newest-here : getD (getD rows at []) 0 0 ≡ psn → newest psn (ringFrom rows head 0 n) ≡ Value (getD (getD rows at []) 1 0)
+    newest-here e = from-last ∙ rw (sym a, eq-eqb (getD (getD rows at []) 0 0) psn e)
+
+    pub newest-next : (getD (getD rows at []) 0 0 ≡ psn → ⊥) → newest psn (ringFrom rows head 0 n) ≡ newest psn (ringFrom rows head 0 (n - 1))
+    newest-next e = from-last ∙ rw (sym a, ne-eqb (getD (getD rows at []) 0 0) psn e)
+
+pub newest-none : (psn : ℕ) (rows : List (List ℕ)) (head n : ℕ) → n ≤ 0 → newest psn (ringFrom rows head 0 n) ≡ Nothing
+unfolding newest ringFrom
+newest-none psn rows head n h = let e : n ≡ 0 = omega arith in rw e

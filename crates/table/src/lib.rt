@@ -1,7 +1,9 @@
 // The tables of a pair, lent as 16 rows of numbers each: regions, receive entries, saved atomics.
+use sequence::Psn;
 ghost use mathlib.Core.Path.{_≡_};
 ghost use mathlib.Core.Bool.{cond};
 ghost use Prim.Native.Nat.{_≤_, _<_};
+ghost use Rattle.table.specs.View.{ringFrom, newest, newestSaved, savedRing, savedRows};
 ghost use Rattle.table.specs.Table.{sought, firstFrom, regionRow, entryRow, slotAt, outside, pastTop, regionOutside};
 
 // The rows of each table.
@@ -136,4 +138,51 @@ pub fn slot(head: usize, i: usize) -> usize
     ensures { λ r. ⌜ r < 16 ⌝ }
 {
     (head % 16 + i % 16) % 16
+}
+
+// The ring with one atomic more: the seventeenth takes the place of the oldest.
+pub fn saved_ring(ring: Ring) -> Ring
+    ensures { λ r. ⌜ r ≡ savedRing ring ⌝ }
+{
+    let count = ring.count;
+    if count < 16 {
+        return Ring { head: ring.head, count: count + 1 };
+    }
+    let head = slot(ring.head, 1);
+    Ring { head, count }
+}
+
+// Saves the value that an atomic answered, behind those saved before.
+pub fn save(saved: &mut [[u64; 2]; 16], ring: Ring, psn: Psn, value: u64)
+    ensures { λ _. ⌜ now (saved .exit) ≡ savedRows (now (saved .entry)) ring (psn .0) value ⌝ }
+{
+    let at = slot(ring.head, ring.count);
+    let row = [wide(psn.0), value];
+    saved[at] = row;
+}
+
+// The value of the newest saved atomic with this PSN.
+pub fn newest(saved: &[[u64; 2]; 16], ring: Ring, psn: Psn) -> Saved
+    ensures { λ r. ⌜ r ≡ newestSaved (psn .0) (now (saved .entry)) ring ⌝ }
+{
+    if 16 < ring.count {
+        return Saved::Nothing;
+    }
+    newest_of(saved, ring.head, ring.count, wide(psn.0))
+}
+
+// Of the first n rows of a ring, looking at the last first.
+fn newest_of(saved: &[[u64; 2]; 16], head: usize, n: usize, psn: u64) -> Saved
+    ensures { λ r. ⌜ r ≡ newest psn (ringFrom (now (saved .entry)) head 0 n) ⌝ }
+{
+    let mut rest = n;
+    while 0 < rest {
+        let at = slot(head, rest - 1);
+        let row = saved[at];
+        if row[0] == psn {
+            return Saved::Value(row[1]);
+        }
+        rest = rest - 1;
+    }
+    Saved::Nothing
 }
