@@ -295,10 +295,11 @@ add-done q rows r h S f u v l =
     let k : keyRow (r .key) rows ≡ 16 = key-unused (r .key) rows u in
     let m : freeRow rows < 16 = free-room rows v in
     let e = added-regions q rows r h S f k m in
-    let a = added rows r l (f .some) k m in
-    ( ap statusNumber (done-add q rows r h S f k m)
-    , ap (regionOf (r .key)) e ∙ a .0
-    , λ key ne. ap (regionOf key) e ∙ a .1 key ne)
+    let a = added rows r l (f .some) k m in (
+      ap statusNumber (done-add q rows r h S f k m),
+      ap (regionOf (r .key)) e ∙ a .0,
+      λ key ne. ap (regionOf key) e ∙ a .1 key ne,
+    )
 
 -- Remove region
 unknown-remove : (rows : List (List ℕ)) (key : ℕ) → keyRow key rows ≡ 16 → removeStatus rows key ≡ status.NoSuchKey
@@ -352,9 +353,10 @@ module _ (q : Pair) (rows : List (List ℕ)) (e : Entry) where
   post-refused : (s : Status) → postStatus q e ≡ s → executed s ≡ false
       → ((statusNumber (posted q e .status) ≡ statusNumber s) × (posted q e .pair ≡ q)) × (postEntries q rows e ≡ rows)
   unfolding posted postEntries
-  post-refused s d h =
-      ( (ap statusNumber d, kept (postStatus q e) s (moved q (q .state) (oneMore (q .entries))) q d h)
-      , kept (postStatus q e) s (set rows (slotAt (q .entries .head) (q .entries .count)) (entryRow e)) rows d h)
+  post-refused s d h = (
+    (ap statusNumber d, kept (postStatus q e) s (moved q (q .state) (oneMore (q .entries))) q d h),
+    kept (postStatus q e) s (set rows (slotAt (q .entries .head) (q .entries .count)) (entryRow e)) rows d h,
+  )
 
   error-post : q .state ≡ 2 → postStatus q e ≡ status.WrongState
   unfolding postStatus
@@ -459,11 +461,12 @@ unset (f, h) = go (f .pmtu)
 
 pub blank-refused : BlankRefused
 unfolding blankPair
-blank-refused rows r e =
-    ( reset-never blankPair rows unset .0
-    , ready-wrong blankPair (λ z. omega arith)
-    , add-error blankPair rows r refl
-    , post-error blankPair rows e refl)
+blank-refused rows r e = (
+  reset-never blankPair rows unset .0,
+  ready-wrong blankPair (λ z. omega arith),
+  add-error blankPair rows r refl,
+  post-error blankPair rows e refl,
+)
 
 -- What a sound pair's table is after a call: the same, or with one row more.
 pub add-either : (q : Pair) (rows : List (List ℕ)) (r : Region) → Sound q

@@ -169,9 +169,9 @@ post-kept w e W = go (post-either (w .pair) (w .entries) e (W .pair))
           entries = posted-sound (w .pair .setup .memory) (w .entries) (w .pair .entries) e (W .entries) n f;
           saved = W .saved;
           held =
-            λ k.
-            subst (λ x. w .pair .message .placed ≤ getD x 2 0)
-            (sym (in-use-kept (w .entries) (w .pair .entries) (entryRow e) 0 n (held-some (w .pair) (W .pair) k))) (W .held k);
+              λ k.
+              subst (λ x. w .pair .message .placed ≤ getD x 2 0)
+              (sym (in-use-kept (w .entries) (w .pair .entries) (entryRow e) 0 n (held-some (w .pair) (W .pair) k))) (W .held k);
         }))
 
 called-sound : (w : Whole) (c : HostCall) → WholeSound w → WholeSound (called w c)

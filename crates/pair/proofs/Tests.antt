@@ -93,10 +93,11 @@ write-fits : (placed address n : ℕ) → writeUnsound placed address n ≡ fals
     → (placed < n) × (n ≤ 1048576) × (address + placed < 2 ^ 64)
 unfolding writeUnsound pastTop
 write-fits placed address n h =
-    let k = or-right (leb n placed) _ h in
-    ( leb-false n placed (or-left (leb n placed) _ h)
-    , ltb-false memoryLimit n (or-left (ltb memoryLimit n) _ k)
-    , leb-false (2 ^ 64) (address + placed) (or-right (ltb memoryLimit n) _ k))
+    let k = or-right (leb n placed) _ h in (
+      leb-false n placed (or-left (leb n placed) _ h),
+      ltb-false memoryLimit n (or-left (ltb memoryLimit n) _ k),
+      leb-false (2 ^ 64) (address + placed) (or-right (ltb memoryLimit n) _ k),
+    )
 
 fits-write : (placed address n : ℕ) → (placed < n) × (n ≤ 1048576) × (address + placed < 2 ^ 64)
     → writeUnsound placed address n ≡ false
@@ -144,11 +145,12 @@ module _ (remaining offset n psn msn pmtu memory : ℕ) where
       go false e h =
           let h2 = or-right (ltb (pieces n pmtu) remaining) _ h in
           let h3 = or-right (ltb memory (offset + n)) _ h2 in
-          inr
-          ( ltb-false (pieces n pmtu) remaining (or-left (ltb (pieces n pmtu) remaining) _ h)
-          , ltb-false memory (offset + n) (or-left (ltb memory (offset + n)) _ h2)
-          , leb-false space psn (or-left (leb space psn) _ h3)
-          , leb-false space msn (or-right (leb space psn) _ h3))
+          inr (
+            ltb-false (pieces n pmtu) remaining (or-left (ltb (pieces n pmtu) remaining) _ h),
+            ltb-false memory (offset + n) (or-left (ltb memory (offset + n)) _ h2),
+            leb-false space psn (or-left (leb space psn) _ h3),
+            leb-false space msn (or-right (leb space psn) _ h3),
+          )
 
   fits-read : Left → readUnsound remaining offset n psn msn pmtu memory ≡ false
   unfolding readUnsound outside
@@ -167,10 +169,11 @@ module _ (remaining offset n psn msn pmtu memory : ℕ) where
 numbers-fit : (state expected msn : ℕ) → numbersUnsound state expected msn ≡ false → (state ≤ 2) × (expected < 2 ^ 24) × (msn < 2 ^ 24)
 unfolding numbersUnsound
 numbers-fit state expected msn h =
-    let k = or-right (ltb 2 state) _ h in
-    ( ltb-false 2 state (or-left (ltb 2 state) _ h)
-    , leb-false space expected (or-left (leb space expected) _ k)
-    , leb-false space msn (or-right (leb space expected) _ k))
+    let k = or-right (ltb 2 state) _ h in (
+      ltb-false 2 state (or-left (ltb 2 state) _ h),
+      leb-false space expected (or-left (leb space expected) _ k),
+      leb-false space msn (or-right (leb space expected) _ k),
+    )
 
 fit-numbers : (state expected msn : ℕ) → (state ≤ 2) × (expected < 2 ^ 24) × (msn < 2 ^ 24) → numbersUnsound state expected msn ≡ false
 unfolding numbersUnsound
@@ -197,8 +200,8 @@ tested q = (fits, passes)
           saved = ring-fits (q .saved .head) (q .saved .count) (or-left (ringUnsound (q .saved .head) (q .saved .count)) _ h4);
           message = message-fits q (or-left m _ h5);
           read =
-            read-fits (q .read .remaining) (q .read .offset) (q .read .length) (q .read .psn .0) (q .read .msn .0) (q .setup .pmtu) (q .setup .memory)
-            (or-right m _ h5);
+              read-fits (q .read .remaining) (q .read .offset) (q .read .length) (q .read .psn .0) (q .read .msn .0) (q .setup .pmtu) (q .setup .memory)
+              (or-right m _ h5);
         }
 
     passes : Sound q → pairUnsound q ≡ false

@@ -34,6 +34,7 @@ region-tested memory r = (fits, passes)
           within = ltb-false memory (r .offset + r .length) (or-left (ltb memory (r .offset + r .length)) _ b);
           below = leb-false (2 ^ 64) (r .address + r .length) (or-right (ltb memory (r .offset + r .length)) _ b);
         }
+
     passes : RegionFits memory r → (eqb (r .length) 0 || (ltb memory (r .offset + r .length) || leb (2 ^ 64) (r .address + r .length))) ≡ false
     passes f =
         let ne : r .length ≡ 0 → ⊥ = λ e. omega (arith, f .some) in
@@ -232,26 +233,28 @@ unused rows key e j h = key-found key rows .before j (omega arith)
 pub added : Added
 added rows r l some new free =
     let i = freeRow rows in
-    let f : Free (getD rows i []) = free-found rows .found free in
-    ( is-found rows i (regionRow r) l free (r .key)
-      (record {
-        bound = omega arith;
-        found = λ b. subst (HasKey (r .key)) (sym (here rows i (regionRow r) l free)) (own-key r some);
-        before = each-row rows i (regionRow r) l free (λ j x. j < i → HasKey (r .key) x → ⊥) (λ b. absurd (omega arith)) (λ j n b. unused rows (r .key) new j (omega arith));
-      })
-    , λ key ne. other-kept rows i (regionRow r) l free key (free-key (getD rows i []) key f) (λ k. ne (sym (only-key r key k))))
+    let f : Free (getD rows i []) = free-found rows .found free in (
+      is-found rows i (regionRow r) l free (r .key)
+          (record {
+            bound = omega arith;
+            found = λ b. subst (HasKey (r .key)) (sym (here rows i (regionRow r) l free)) (own-key r some);
+            before = each-row rows i (regionRow r) l free (λ j x. j < i → HasKey (r .key) x → ⊥) (λ b. absurd (omega arith)) (λ j n b. unused rows (r .key) new j (omega arith));
+          }),
+      λ key ne. other-kept rows i (regionRow r) l free key (free-key (getD rows i []) key f) (λ k. ne (sym (only-key r key k))),
+    )
 
 pub removed : Removed
 removed memory rows key S used =
     let i = keyRow key rows in
-    let k : HasKey key (getD rows i []) = key-found key rows .found used in
-    ( is-gone rows i noRegion (S .rows16) used key
-      (record {
-        bound = omega arith;
-        found = λ b. absurd (omega arith);
-        before = each-row rows i noRegion (S .rows16) used (λ j x. j < 16 → HasKey key x → ⊥) (λ b. no-key key) (λ j n b x. n (S .once j i key b used x k));
-      })
-    , λ other ne. other-kept rows i noRegion (S .rows16) used other (λ x. ne (sym (x .1) ∙ k .1)) (no-key other))
+    let k : HasKey key (getD rows i []) = key-found key rows .found used in (
+      is-gone rows i noRegion (S .rows16) used key
+          (record {
+            bound = omega arith;
+            found = λ b. absurd (omega arith);
+            before = each-row rows i noRegion (S .rows16) used (λ j x. j < 16 → HasKey key x → ⊥) (λ b. no-key key) (λ j n b x. n (S .once j i key b used x k));
+          }),
+      λ other ne. other-kept rows i noRegion (S .rows16) used other (λ x. ne (sym (x .1) ∙ k .1)) (no-key other),
+    )
 
 pub added-sound : AddedSound
 added-sound memory rows r S fits new free =

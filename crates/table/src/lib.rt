@@ -146,7 +146,10 @@ pub fn saved_ring(ring: Ring) -> Ring
 {
     let count = ring.count;
     if count < 16 {
-        return Ring { head: ring.head, count: count + 1 };
+        return Ring {
+            head: ring.head,
+            count: count + 1,
+        };
     }
     let head = slot(ring.head, 1);
     Ring { head, count }

@@ -1,0 +1,206 @@
+// Lines of words from standard input: a command, then numbers.
+use libc::STDIN_FILENO;
+
+// The end of the input, in place of a byte.
+const END: u32 = 256;
+
+// Numbers behind a command at most.
+pub(crate) const ARGS: usize = 13;
+
+// A word: its first letters as one number, high byte first, and what number it is in decimal, if it is one that
+// fits 64 bits; and the byte that ended it.
+struct Word {
+    letters: u64,
+    number: u64,
+    decimal: bool,
+    length: u64,
+    stop: u32,
+}
+
+// A line: the command's letters, its arguments as numbers, and how many. The first may be a name instead, and then
+// has letters and no number. Good is a line of at most 13 arguments in which no other is a name.
+pub(crate) struct Line {
+    pub(crate) command: u64,
+    pub(crate) name: u64,
+    pub(crate) named: bool,
+    pub(crate) args: [u64; 13],
+    pub(crate) count: usize,
+    pub(crate) good: bool,
+    pub(crate) last: bool,
+}
+
+fn wide(x: u8) -> u32 {
+    x as u32
+}
+
+fn next_byte() -> u32 {
+    let mut one = [0u8; 1];
+    let got = io::read_full(STDIN_FILENO, &mut one);
+    if got == 0 {
+        return END;
+    }
+    wide(one[0])
+}
+
+fn ends(b: u32) -> bool {
+    if b == 32 {
+        return true;
+    }
+    if b == 10 {
+        return true;
+    }
+    b == END
+}
+
+// The number with one more digit; u64::MAX and false where it is none, or too large.
+struct Number {
+    value: u64,
+    good: bool,
+}
+
+fn with_digit(value: u64, b: u32) -> Number {
+    if b < 48 {
+        return Number {
+            value: 0,
+            good: false,
+        };
+    }
+    if 57 < b {
+        return Number {
+            value: 0,
+            good: false,
+        };
+    }
+    if 1844674407370955161 < value {
+        return Number {
+            value: 0,
+            good: false,
+        };
+    }
+    let tens = value * 10;
+    let digit = (b - 48) as u64;
+    if u64::MAX - tens < digit {
+        return Number {
+            value: 0,
+            good: false,
+        };
+    }
+    Number {
+        value: tens + digit,
+        good: true,
+    }
+}
+
+// The letters with one more; a word of more than 8 letters is no word that we know.
+fn with_letter(letters: u64, b: u32) -> u64 {
+    if 72057594037927935 < letters {
+        return 1;
+    }
+    letters * 256 + (b % 256) as u64
+}
+
+fn with_byte(w: Word, b: u32) -> Word {
+    let n = with_digit(w.number, b);
+    let letters = with_letter(w.letters, b);
+    if w.length == u64::MAX {
+        return w;
+    }
+    if w.decimal {
+        return Word {
+            letters,
+            number: n.value,
+            decimal: n.good,
+            length: w.length + 1,
+            stop: 0,
+        };
+    }
+    Word {
+        letters,
+        number: 0,
+        decimal: false,
+        length: w.length + 1,
+        stop: 0,
+    }
+}
+
+// The next word. The count's last number ends the loop, which nothing else does for certain.
+fn next_word() -> Word {
+    let mut w = Word {
+        letters: 0,
+        number: 0,
+        decimal: true,
+        length: 0,
+        stop: END,
+    };
+    let mut n: u64 = 0;
+    while n < u64::MAX {
+        let b = next_byte();
+        if ends(b) {
+            return Word {
+                letters: w.letters,
+                number: w.number,
+                decimal: w.decimal,
+                length: w.length,
+                stop: b,
+            };
+        }
+        w = with_byte(w, b);
+        n += 1;
+    }
+    w
+}
+
+// Whether a word is a number.
+fn is_number(w: Word) -> bool {
+    if w.length == 0 {
+        return false;
+    }
+    w.decimal
+}
+
+// The line with one more argument.
+fn with_word(l: Line, w: Word) -> Line {
+    let mut next = l;
+    let last = w.stop == END;
+    next.last = last;
+    let i = l.count;
+    if ARGS <= i {
+        next.good = false;
+        return next;
+    }
+    next.count = i + 1;
+    if is_number(w) {
+        next.args[i] = w.number;
+        return next;
+    }
+    if 0 < i {
+        next.good = false;
+        return next;
+    }
+    next.name = w.letters;
+    next.named = true;
+    next
+}
+
+// The next line.
+pub(crate) fn next_line() -> Line {
+    let c = next_word();
+    let mut l = Line {
+        command: c.letters,
+        name: 0,
+        named: false,
+        args: [0; 13],
+        count: 0,
+        good: true,
+        last: c.stop == END,
+    };
+    let mut stop = c.stop;
+    let mut n: u64 = 0;
+    while n < u64::MAX && stop == 32 {
+        let w = next_word();
+        l = with_word(l, w);
+        stop = w.stop;
+        n += 1;
+    }
+    l
+}
