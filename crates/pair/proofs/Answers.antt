@@ -1,18 +1,18 @@
 -- Which answer each call of the host gives, and what it leaves.
-use Prim.Native.Nat.{ℕ, zero, suc, _+_, _%_, _^_, _≤_, _<_}
+use Prim.Native.Nat.{ℕ, _+_, _≤_, _<_}
 use mathlib.Core.Path.{_≡_, refl, sym, ap, subst, _∙_}
-use mathlib.Core.Bool.{Bool, true, false, cond, not, _||_, true≢false}
+use mathlib.Core.Bool.{Bool, true, false, cond, true≢false}
 use mathlib.Core.List.{List, [], _∷_, _++_}
 use mathlib.Core.Logic.{_⊎_, inl, inr}
 use native.Mathlib.Omega.{arith}
 use lib.Dec.{eqb, ltb, leb}
-use lib.ListN.{length, getD, set, take, drop, length-append, take-append-drop}
+use lib.ListN.{length, set, take, drop, length-append, take-append-drop}
 use lib.Seq.{take-append-le, drop-append-le}
 use borrow.Author.Tests.{lt-ltb, le-ltb, le-leb, lt-leb, eq-eqb, ne-eqb, ltb-true, ltb-false, leb-true, leb-false, eqb-true, eqb-false}
 use Rattle.pieces.specs.Claims.{IsPmtu}
 use Rattle.table.specs.Table.{outside, regionOutside, regionRow, entryRow, noRegion, keyRow, freeRow, slotAt}
-use Rattle.table.specs.View.{regionOf, inRing, oneMore}
-use Rattle.table.specs.Claims.{RegionFits, EntryFits, Free, HasKey, RegionsSound}
+use Rattle.table.specs.View.{regionOf, oneMore}
+use Rattle.table.specs.Claims.{RegionFits, EntryFits}
 use Rattle.table.proofs.Rings.{appends, ring-length}
 use Rattle.table.proofs.Regions.{entry-tested, region-tested, key-found, free-found, added, removed}
 use Rattle.table.specs.declared.Region.{Region}

@@ -1,6 +1,6 @@
 -- A pair and its tables stay sound.
-use Prim.Native.Nat.{ℕ, zero, suc, _+_, _^_, _≤_, _<_}
-use mathlib.Core.Path.{_≡_, refl, sym, ap, subst, _∙_}
+use Prim.Native.Nat.{ℕ, _≤_, _<_}
+use mathlib.Core.Path.{_≡_, refl, sym, ap, subst}
 use mathlib.Core.Bool.{Bool, true, false, cond}
 use mathlib.Core.List.{List, [], _∷_}
 use mathlib.Core.Logic.{_⊎_, inl, inr}
@@ -10,20 +10,19 @@ use lib.ListN.{length, getD, set, getD-replicate}
 use borrow.Author.Tests.{eqb-true, eqb-false}
 use Rattle.table.specs.Table.{regionRow, entryRow, noRegion, keyRow, freeRow, slotAt}
 use Rattle.table.specs.View.{oneMore}
-use Rattle.table.specs.Claims.{RegionFits, EntryFits, HasKey, RegionsSound, EntriesSound, SavedSound}
+use Rattle.table.specs.Claims.{RegionFits, EntryFits, HasKey, RegionsSound}
 use Rattle.table.proofs.Rings.{in-use-kept, posted-sound}
 use Rattle.table.proofs.Regions.{added-sound, removed-sound, no-key}
 use Rattle.table.specs.declared.Region.{Region}
 use Rattle.table.specs.declared.Entry.{Entry}
-use Rattle.table.specs.declared.Ring.{Ring}
 use Rattle.pair.specs.declared.Setup.{Setup}
 use Rattle.pair.specs.declared.Pair.{Pair}
 use Rattle.pair.specs.Answer.{executed}
 use Rattle.pair.specs.Pair.{freshPair, moved}
-use Rattle.pair.specs.Host.{noRegions, setUp, setUpRegions, resetTo, resetRegions, madeReady, addRegions, removeStatus, removeRegions, posted, postEntries}
+use Rattle.pair.specs.Host.{noRegions, setUpRegions, resetRegions, madeReady, addRegions, removeStatus, removeRegions, posted, postEntries}
 use Rattle.pair.specs.Calls.{Whole, HostCall, begun, called, calledAll}
 use Rattle.pair.specs.Calls.HostCall.{Reset, MakeReady, AddRegion, RemoveRegion, PostEntry}
-use Rattle.pair.specs.Claims.{SetupFit, SetupSound, MessageSound, ReadSound, Sound, WholeSound, BegunSound, CallsSound}
+use Rattle.pair.specs.Claims.{SetupSound, MessageSound, Sound, WholeSound, BegunSound, CallsSound}
 use Rattle.pair.proofs.Answers.{set-up-pair, set-up-regions, reset-pair, reset-regions, ready-wrong, ready-done, add-either, post-either, held-some}
 
 -- a fresh pair beside empty regions

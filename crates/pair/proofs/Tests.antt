@@ -1,22 +1,21 @@
 -- What the tests of a pair mean.
 use Prim.Native.Nat.{ℕ, _+_, _%_, _^_, _≤_, _<_}
-use mathlib.Core.Path.{_≡_, refl, sym, ap, subst, _∙_}
+use mathlib.Core.Path.{_≡_, refl, sym, ap}
 use mathlib.Core.Bool.{Bool, true, false, cond, not, _||_, true≢false}
 use mathlib.Core.Logic.{_⊎_, inl, inr}
 use native.Mathlib.Omega.{arith}
 use lib.Dec.{eqb, ltb, leb}
-use borrow.Author.Tests.{lt-ltb, le-ltb, le-leb, lt-leb, eq-eqb, ne-eqb, ltb-true, ltb-false, leb-true, leb-false, eqb-true, eqb-false}
-use Rattle.laws.proofs.Tests.{or-left, or-right, neither, unnot}
+use borrow.Author.Tests.{le-ltb, lt-leb, eq-eqb, ne-eqb, ltb-false, leb-false, eqb-true, eqb-false}
+use Rattle.laws.proofs.Tests.{or-left, or-right, neither}
 use Rattle.sequence.specs.Sequence.{space}
 use Rattle.header.specs.Read.{otherService}
 use Rattle.pieces.specs.Pieces.{pmtuFits, pieces}
-use Rattle.pieces.specs.Claims.{IsPmtu}
 use Rattle.pieces.proofs.Counting.{pmtus}
 use Rattle.table.specs.Table.{outside, pastTop}
 use Rattle.pair.specs.declared.Setup.{Setup}
 use Rattle.pair.specs.declared.Pair.{Pair}
 use Rattle.pair.specs.Sound.{memoryLimit, setupUnfit, setupUnsound, numbersUnsound, ringUnsound, writeUnsound, messageUnsound, readUnsound, pairUnsound}
-use Rattle.pair.specs.Claims.{SetupFit, SetupSound, MessageSound, ReadSound, Sound, SetupTested, Tested}
+use Rattle.pair.specs.Claims.{SetupFit, SetupSound, MessageSound, Sound, SetupTested, Tested}
 
 -- a flag that names a failing test, and the test
 not-of : (b : Bool) → b ≡ true → not b ≡ false

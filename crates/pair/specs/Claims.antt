@@ -1,14 +1,14 @@
 -- What is proved of the pair and the host's calls, each statement by a name; the proofs stand in proofs/.
 use Prim.Native.Nat.{ℕ, _+_, _%_, _^_, _≤_, _<_}
 use mathlib.Core.Path.{_≡_}
-use mathlib.Core.Bool.{true, false}
+use mathlib.Core.Bool.{false}
 use mathlib.Core.List.{List, [], _∷_, _++_}
 use mathlib.Core.Logic.{_⊎_}
 use lib.ListN.{length, getD}
 use Rattle.pieces.specs.Pieces.{pieces}
 use Rattle.pieces.specs.Claims.{IsPmtu}
 use Rattle.table.specs.Table.{regionRow, entryRow, noRegion, slotAt}
-use Rattle.table.specs.View.{regionOf, inRing}
+use Rattle.table.specs.View.{regionOf}
 use Rattle.table.specs.Claims.{RegionFits, EntryFits, Free, HasKey, RegionsSound, EntriesSound, SavedSound}
 use Rattle.table.specs.declared.Region.{Region}
 use Rattle.table.specs.declared.Entry.{Entry}
@@ -17,11 +17,11 @@ use Rattle.pair.specs.declared.Pair.{Pair}
 use Rattle.pair.specs.declared.HostOutcome.{HostOutcome}
 use Rattle.pair.specs.declared.Status.{Status}
 use Rattle.pair.specs.Answer.{statusNumber}
-use Rattle.pair.specs.Pair.{freshPair, blankPair, moved}
+use Rattle.pair.specs.Pair.{blankPair, moved}
 use Rattle.pair.specs.Sound.{setupUnfit, pairUnsound}
 use Rattle.pair.specs.Host.{noRegions, setUp, setUpRegions, resetTo, resetRegions, madeReady, addStatus, addRegions, removeStatus, removeRegions, posted, postEntries}
 use Rattle.pair.specs.View.{heldOf, waitingOf, entriesOf}
-use Rattle.pair.specs.Calls.{Whole, HostCall, begun, called, calledAll}
+use Rattle.pair.specs.Calls.{Whole, HostCall, begun, calledAll}
 
 -- Each number is the number of one answer.
 abbrev pub OneNumber : Type 0

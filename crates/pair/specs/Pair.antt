@@ -1,8 +1,6 @@
 -- The pair as set-up and reset leave it.
 use Prim.Native.Nat.{ℕ}
-use mathlib.Core.Bool.{Bool, false}
-use Rattle.sequence.specs.declared.Psn.{Psn}
-use Rattle.sequence.specs.declared.Msn.{Msn}
+use mathlib.Core.Bool.{false}
 use Rattle.table.specs.declared.Ring.{Ring}
 use Rattle.pair.specs.declared.Setup.{Setup}
 use Rattle.pair.specs.declared.OpenMessage.{OpenMessage}

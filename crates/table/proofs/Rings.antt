@@ -1,20 +1,19 @@
 -- Rings: a row more at the end, a row less at the head.
-use Prim.Native.Nat.{ℕ, zero, suc, _+_, _-_, _%_, _≤_, _<_}
+use Prim.Native.Nat.{ℕ, zero, suc, _+_, _-_, _≤_, _<_}
 use mathlib.Core.Path.{_≡_, refl, sym, ap, subst, _∙_}
 use mathlib.Core.Bool.{Bool, true, false, cond}
 use mathlib.Core.List.{List, [], _∷_, _++_}
 use native.Mathlib.Omega.{arith}
 use native.Mathlib.Numerals.{add-one}
-use lib.Dec.{eqb, ltb}
-use lib.ListN.{length, getD, set, drop, length-set}
+use lib.Dec.{eqb}
+use lib.ListN.{length, getD, set, length-set}
 use lib.Seq.{getD-set-same, getD-set-other}
 use borrow.Author.Tests.{lt-ltb, le-ltb, eq-eqb, ne-eqb, eqb-true, eqb-false}
-use Rattle.table.specs.declared.Ring.{Ring}
 use Rattle.table.specs.declared.Saved.{Saved}
 use Rattle.table.specs.declared.Saved.the-variants.{Value, Nothing}
 use Rattle.table.specs.Table.{slotAt, entryRow}
 use Rattle.table.specs.View.{ringFrom, later, newest, savedRing, savedRows}
-use Rattle.table.specs.Claims.{EntryFits, EntrySound, EntriesSound, InUseKept, PostedSound, Appends, Takes, Saves, SavesFull, Newest}
+use Rattle.table.specs.Claims.{EntrySound, InUseKept, PostedSound, Appends, Takes, Saves, SavesFull, Newest}
 
 -- two places less than 16 apart are different rows
 apart : (head i n : ℕ) → i < n → n < i + 16 → slotAt head i ≡ slotAt head n → ⊥

@@ -2,10 +2,7 @@ use mathlib.Core.Path.{refl}
 use Rattle.table.specs.Table.{entryRow}
 use Rattle.table.proofs.entry_row.Statement.{statement}
 use Rattle.table.proofs.entry_row.Tie as tie
-use Rattle.table.proofs.entry_row.Reads as reads
-use Rattle.table.proofs.entry_row.Lts as lts
 
--- src/lib.rt:92:1
 returns : tie.Need-returns
 unfolding entryRow
 returns c = refl

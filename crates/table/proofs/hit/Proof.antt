@@ -2,20 +2,15 @@ use borrow.Author.Tests.{eq-eqb, ne-eqb}
 use Rattle.table.specs.Table.{sought}
 use Rattle.table.proofs.hit.Statement.{statement}
 use Rattle.table.proofs.hit.Tie as tie
-use Rattle.table.proofs.hit.Reads as reads
-use Rattle.table.proofs.hit.Lts as lts
 
--- src/lib.rt:103:9
 returns : tie.Need-returns
 unfolding sought
 returns c = simp (c .if1 .taken)
 
--- src/lib.rt:106:9
 returns-2 : tie.Need-returns-2
 unfolding sought
 returns-2 c = simp (c .before .if1 .left, eq-eqb _ _ (c .if2 .taken))
 
--- src/lib.rt:99:1
 returns-3 : tie.Need-returns-3
 unfolding sought
 returns-3 c = simp (c .before .if1 .left, ne-eqb _ _ (c .if2 .left))

@@ -3,25 +3,17 @@ use Rattle.table.specs.View.{newestSaved}
 use borrow.Author.Needs.{needs}
 use Rattle.table.proofs.newest.Statement.{statement}
 use Rattle.table.proofs.newest.Tie as tie
-use Rattle.table.proofs.newest.Reads as reads
-use Rattle.table.proofs.newest.Lts as lts
-use Rattle.table.proofs.newest_of.Reads as newest-of-reads
-use Rattle.table.proofs.wide.Reads as wide-reads
 
--- src/lib.rt:169:9
 returns : tie.Need-returns
 unfolding newestSaved
 returns c = simp (lt-leb _ _ (c .if1 .taken), lt-ltb _ _ (c .if1 .taken))
 
--- src/lib.rt:171:45
 wide-requires : tie.Need-wide-requires
 wide-requires c κs = search needs
 
--- src/lib.rt:171:5
 newest-of-requires : tie.Need-newest-of-requires
 newest-of-requires c κs = search needs
 
--- src/lib.rt:165:1
 returns-2 : tie.Need-returns-2
 unfolding newestSaved
 returns-2 c = simp (le-ltb _ _ (c .before .before .if1 .left), le-leb _ _ (c .before .before .if1 .left), ← c .before .wide .ensures, ← c .newest-of .ensures)

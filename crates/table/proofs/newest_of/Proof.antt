@@ -1,14 +1,10 @@
-use mathlib.Core.Path.{_≡_, refl, sym, ap, _∙_}
+use mathlib.Core.Path.{_≡_, refl, sym, _∙_}
 use native.Mathlib.Omega.{arith}
 use borrow.Author.Needs.{needs}
-use lib.ListN.{getD}
 use Rattle.table.specs.View.{ringFrom, newest}
 use Rattle.table.proofs.Rings.{newest-here, newest-next, newest-none}
 use Rattle.table.proofs.newest_of.Statement.{statement}
 use Rattle.table.proofs.newest_of.Tie as tie
-use Rattle.table.proofs.newest_of.Reads as reads
-use Rattle.table.proofs.newest_of.Lts as lts
-use Rattle.table.proofs.slot.Reads as slot-reads
 
 abbrev Inv-loop : tie.InvT-loop
 Inv-loop saved head n psn rest₀ rest = newest psn (ringFrom saved head 0 n) ≡ newest psn (ringFrom saved head 0 rest)
@@ -16,57 +12,45 @@ Inv-loop saved head n psn rest₀ rest = newest psn (ringFrom saved head 0 n) �
 abbrev μ-loop : tie.MeasureT-loop
 μ-loop saved head n psn rest₀ rest = rest
 
--- src/lib.rt:179:5
 loop-holds : tie.Need-loop-holds Inv-loop μ-loop
 loop-holds c = refl
 
--- src/lib.rt:180:29
 sub-slot : tie.Need-sub-slot Inv-loop μ-loop
 sub-slot c = search needs
 
--- src/lib.rt:180:13
 slot-requires : tie.Need-slot-requires Inv-loop μ-loop
 slot-requires c κs = search needs
 
--- src/lib.rt:181:19
 mul-row : tie.Need-mul-row Inv-loop μ-loop
 mul-row c = search needs
 
--- src/lib.rt:181:19
 element-copy-out-row : tie.Need-element-copy-out-row Inv-loop μ-loop
 element-copy-out-row c = search needs
 
--- src/lib.rt:182:12
 array-read-if1 : tie.Need-array-read-if1 Inv-loop μ-loop
 array-read-if1 c = search needs
 
--- src/lib.rt:183:33
 array-read-t18 : tie.Need-array-read-t18 Inv-loop μ-loop
 array-read-t18 c = search needs
 
--- src/lib.rt:183:13
 returns : tie.Need-returns Inv-loop μ-loop
 returns c =
     let C = c .before .before .before .before in
     let A = C .before .args in
     sym (C .loop .inv ∙ newest-here (A .psn) (A .saved .now) (A .head) (C .loop .rest) (omega arith) (c .before .before .slot .result) (c .before .before .slot .ensures .0) (c .if1 .taken))
 
--- src/lib.rt:185:16
 sub-rest : tie.Need-sub-rest Inv-loop μ-loop
 sub-rest c = search needs
 
--- src/lib.rt:179:5
 loop-less : tie.Need-loop-less Inv-loop μ-loop
 loop-less c = search needs
 
--- src/lib.rt:179:5
 loop-again : tie.Need-loop-again Inv-loop μ-loop
 loop-again c =
     let C = c .before .before .before .before in
     let A = C .before .args in
     C .loop .inv ∙ newest-next (A .psn) (A .saved .now) (A .head) (C .loop .rest) (omega arith) (c .before .before .slot .result) (c .before .before .slot .ensures .0) (c .if1 .left)
 
--- src/lib.rt:175:1
 returns-2 : tie.Need-returns-2 Inv-loop μ-loop
 returns-2 c =
     let C = c .before in

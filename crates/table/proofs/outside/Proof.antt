@@ -2,14 +2,10 @@ use mathlib.Core.Path.{sym}
 use Rattle.table.proofs.Leaves.{off-outside, rest-outside}
 use Rattle.table.proofs.outside.Statement.{statement}
 use Rattle.table.proofs.outside.Tie as tie
-use Rattle.table.proofs.outside.Reads as reads
-use Rattle.table.proofs.outside.Lts as lts
 
--- src/lib.rt:41:9
 returns : tie.Need-returns
 returns c = let A = c .before .args in sym (off-outside (A .offset) (A .length) (A .memory) (c .if1 .taken))
 
--- src/lib.rt:37:1
 returns-2 : tie.Need-returns-2
 returns-2 c = let A = c .before .args in rest-outside (A .offset) (A .length) (A .memory) (c .if1 .left)
 

@@ -3,30 +3,21 @@ use Rattle.table.specs.Table.{regionOutside}
 use borrow.Author.Needs.{needs}
 use Rattle.table.proofs.region_outside.Statement.{statement}
 use Rattle.table.proofs.region_outside.Tie as tie
-use Rattle.table.proofs.region_outside.Reads as reads
-use Rattle.table.proofs.region_outside.Lts as lts
-use Rattle.table.proofs.outside.Reads as outside-reads
-use Rattle.table.proofs.past_top.Reads as past-top-reads
 
--- src/lib.rt:58:9
 returns : tie.Need-returns
 unfolding regionOutside
 returns c = simp (eq-eqb _ _ (c .if1 .taken))
 
--- src/lib.rt:60:9
 outside-requires : tie.Need-outside-requires
 outside-requires c κs = search needs
 
--- src/lib.rt:62:9
 returns-2 : tie.Need-returns-2
 unfolding regionOutside
 returns-2 c = simp (ne-eqb _ _ (c .before .before .if1 .left), ← c .before .outside .ensures, c .if2 .taken)
 
--- src/lib.rt:64:5
 past-top-requires : tie.Need-past-top-requires
 past-top-requires c κs = search needs
 
--- src/lib.rt:54:1
 returns-3 : tie.Need-returns-3
 unfolding regionOutside
 returns-3 c = simp (ne-eqb _ _ (c .before .before .before .if1 .left), ← c .before .before .outside .ensures, c .before .if2 .left, ← c .past-top .ensures)

@@ -1,12 +1,8 @@
-use Prim.Native.Nat.{_-_, _^_}
+use Prim.Native.Nat.{_-_}
 use native.Mathlib.Omega.{arith}
 use borrow.Author.Needs.{needs}
 use Rattle.calls.proofs.act.list_regions.Statement.{statement}
 use Rattle.calls.proofs.act.list_regions.Tie as tie
-use Rattle.calls.proofs.act.list_regions.Reads as reads
-use Rattle.calls.proofs.act.list_regions.Lts as lts
-use Rattle.calls.proofs.act.region_line.Reads as region-line-reads
-use Rattle.calls.proofs.print.text.Reads as text-reads
 
 abbrev Inv-loop : tie.InvT-loop
 Inv-loop regions i₀ t4 i = Unit {0}
@@ -14,51 +10,39 @@ Inv-loop regions i₀ t4 i = Unit {0}
 abbrev μ-loop : tie.MeasureT-loop
 μ-loop regions i₀ t4 i = 16 - i
 
--- src/act.rt:260:10
 slice-aggregate-text : tie.Need-slice-aggregate-text Inv-loop μ-loop
 slice-aggregate-text c = search needs
 
--- src/act.rt:260:5
 text-requires : tie.Need-text-requires Inv-loop μ-loop
 text-requires c κs = search needs
 
--- src/act.rt:262:5
 loop-holds : tie.Need-loop-holds Inv-loop μ-loop
 loop-holds c = tt
 
--- src/act.rt:263:21
 mul-region-line : tie.Need-mul-region-line Inv-loop μ-loop
 mul-region-line c = search needs
 
--- src/act.rt:263:21
 element-copy-out-region-line : tie.Need-element-copy-out-region-line Inv-loop μ-loop
 element-copy-out-region-line c = search needs
 
--- src/act.rt:263:9
 region-line-requires : tie.Need-region-line-requires Inv-loop μ-loop
 region-line-requires c κs = search needs
 
--- src/act.rt:264:13
 add-i : tie.Need-add-i Inv-loop μ-loop
 add-i c = search needs
 
--- src/act.rt:262:5
 loop-less : tie.Need-loop-less Inv-loop μ-loop
 loop-less c = omega arith
 
--- src/act.rt:262:5
 loop-again : tie.Need-loop-again Inv-loop μ-loop
 loop-again c = tt
 
--- src/act.rt:266:10
 slice-aggregate-text-2 : tie.Need-slice-aggregate-text-2 Inv-loop μ-loop
 slice-aggregate-text-2 c = search needs
 
--- src/act.rt:266:5
 text-requires-2 : tie.Need-text-requires-2 Inv-loop μ-loop
 text-requires-2 c κs = search needs
 
--- src/act.rt:259:1
 returns : tie.Need-returns Inv-loop μ-loop
 returns c = tt
 

@@ -2,176 +2,136 @@ use Rattle.pair.specs.Answer.{statusNumber}
 use borrow.Author.Needs.{needs}
 use Rattle.pair.proofs.Status.number.Statement.{statement}
 use Rattle.pair.proofs.Status.number.Tie as tie
-use Rattle.pair.proofs.Status.number.Reads as reads
-use Rattle.pair.proofs.Status.number.Lts as lts
 
--- src/answer.rt:12:33
 enum-told : tie.Need-enum-told
 enum-told c = search needs
 
--- src/answer.rt:13:37
 enum-told-2 : tie.Need-enum-told-2
 enum-told-2 c = search needs
 
--- src/answer.rt:14:37
 enum-told-3 : tie.Need-enum-told-3
 enum-told-3 c = search needs
 
--- src/answer.rt:15:39
 enum-told-4 : tie.Need-enum-told-4
 enum-told-4 c = search needs
 
--- src/answer.rt:16:42
 enum-told-5 : tie.Need-enum-told-5
 enum-told-5 c = search needs
 
--- src/answer.rt:17:32
 enum-told-6 : tie.Need-enum-told-6
 enum-told-6 c = search needs
 
--- src/answer.rt:18:34
 enum-told-7 : tie.Need-enum-told-7
 enum-told-7 c = search needs
 
--- src/answer.rt:19:36
 enum-told-8 : tie.Need-enum-told-8
 enum-told-8 c = search needs
 
--- src/answer.rt:20:42
 enum-told-9 : tie.Need-enum-told-9
 enum-told-9 c = search needs
 
--- src/answer.rt:21:34
 enum-told-10 : tie.Need-enum-told-10
 enum-told-10 c = search needs
 
--- src/answer.rt:22:36
 enum-told-11 : tie.Need-enum-told-11
 enum-told-11 c = search needs
 
--- src/answer.rt:23:39
 enum-told-12 : tie.Need-enum-told-12
 enum-told-12 c = search needs
 
--- src/answer.rt:24:34
 enum-told-13 : tie.Need-enum-told-13
 enum-told-13 c = search needs
 
--- src/answer.rt:25:35
 enum-told-14 : tie.Need-enum-told-14
 enum-told-14 c = search needs
 
--- src/answer.rt:26:36
 enum-told-15 : tie.Need-enum-told-15
 enum-told-15 c = search needs
 
--- src/answer.rt:27:35
 enum-told-16 : tie.Need-enum-told-16
 enum-told-16 c = search needs
 
--- src/answer.rt:28:34
 enum-told-17 : tie.Need-enum-told-17
 enum-told-17 c = search needs
 
--- src/answer.rt:29:33
 enum-told-18 : tie.Need-enum-told-18
 enum-told-18 c = search needs
 
--- src/answer.rt:30:34
 enum-told-19 : tie.Need-enum-told-19
 enum-told-19 c = search needs
 
--- src/answer.rt:8:5
 returns : tie.Need-returns
 unfolding statusNumber
 returns c = simp (c .enum-told .given .1)
 
--- src/answer.rt:8:5
 returns-2 : tie.Need-returns-2
 unfolding statusNumber
 returns-2 c = simp (c .enum-told2 .given .1)
 
--- src/answer.rt:8:5
 returns-3 : tie.Need-returns-3
 unfolding statusNumber
 returns-3 c = simp (c .enum-told3 .given .1)
 
--- src/answer.rt:8:5
 returns-4 : tie.Need-returns-4
 unfolding statusNumber
 returns-4 c = simp (c .enum-told4 .given .1)
 
--- src/answer.rt:8:5
 returns-5 : tie.Need-returns-5
 unfolding statusNumber
 returns-5 c = simp (c .enum-told5 .given .1)
 
--- src/answer.rt:8:5
 returns-6 : tie.Need-returns-6
 unfolding statusNumber
 returns-6 c = simp (c .enum-told6 .given .1)
 
--- src/answer.rt:8:5
 returns-7 : tie.Need-returns-7
 unfolding statusNumber
 returns-7 c = simp (c .enum-told7 .given .1)
 
--- src/answer.rt:8:5
 returns-8 : tie.Need-returns-8
 unfolding statusNumber
 returns-8 c = simp (c .enum-told8 .given .1)
 
--- src/answer.rt:8:5
 returns-9 : tie.Need-returns-9
 unfolding statusNumber
 returns-9 c = simp (c .enum-told9 .given .1)
 
--- src/answer.rt:8:5
 returns-10 : tie.Need-returns-10
 unfolding statusNumber
 returns-10 c = simp (c .enum-told10 .given .1)
 
--- src/answer.rt:8:5
 returns-11 : tie.Need-returns-11
 unfolding statusNumber
 returns-11 c = simp (c .enum-told11 .given .1)
 
--- src/answer.rt:8:5
 returns-12 : tie.Need-returns-12
 unfolding statusNumber
 returns-12 c = simp (c .enum-told12 .given .1)
 
--- src/answer.rt:8:5
 returns-13 : tie.Need-returns-13
 unfolding statusNumber
 returns-13 c = simp (c .enum-told13 .given .1)
 
--- src/answer.rt:8:5
 returns-14 : tie.Need-returns-14
 unfolding statusNumber
 returns-14 c = simp (c .enum-told14 .given .1)
 
--- src/answer.rt:8:5
 returns-15 : tie.Need-returns-15
 unfolding statusNumber
 returns-15 c = simp (c .enum-told15 .given .1)
 
--- src/answer.rt:8:5
 returns-16 : tie.Need-returns-16
 unfolding statusNumber
 returns-16 c = simp (c .enum-told16 .given .1)
 
--- src/answer.rt:8:5
 returns-17 : tie.Need-returns-17
 unfolding statusNumber
 returns-17 c = simp (c .enum-told17 .given .1)
 
--- src/answer.rt:8:5
 returns-18 : tie.Need-returns-18
 unfolding statusNumber
 returns-18 c = simp (c .enum-told18 .given .1)
 
--- src/answer.rt:8:5
 returns-19 : tie.Need-returns-19
 unfolding statusNumber
 returns-19 c = simp (c .enum-told19 .given .1)

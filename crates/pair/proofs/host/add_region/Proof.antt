@@ -4,77 +4,54 @@ use Rattle.pair.specs.Answer.{executed, statusNumber}
 use borrow.Author.Needs.{needs}
 use Rattle.pair.proofs.host.add_region.Statement.{statement}
 use Rattle.pair.proofs.host.add_region.Tie as tie
-use Rattle.pair.proofs.host.add_region.Reads as reads
-use Rattle.pair.proofs.host.add_region.Lts as lts
-use Rattle.pair.proofs.host.wide.Reads as wide-reads
-use Rattle.pair.proofs.host.wide32.Reads as wide32-reads
-use Rattle.pair.proofs.sound.unsound.Reads as unsound-reads
-use Rattle.table.proofs.find.Reads as find-reads
-use Rattle.table.proofs.region_outside.Reads as region-outside-reads
-use Rattle.table.proofs.region_row.Reads as region-row-reads
 
--- src/host.rt:107:9
 returns : tie.Need-returns
 unfolding addStatus addRegions executed statusNumber
 returns c = (simp (eq-eqb _ _ (c .if1 .taken)), simp (eq-eqb _ _ (c .if1 .taken)))
 
--- src/host.rt:109:9
 unsound-requires : tie.Need-unsound-requires
 unsound-requires c κs = search needs
 
--- src/host.rt:111:9
 returns-2 : tie.Need-returns-2
 unfolding addStatus addRegions executed statusNumber
 returns-2 c = (simp (ne-eqb _ _ (c .before .before .if1 .left), ← c .before .unsound .ensures, c .if2 .taken), simp (ne-eqb _ _ (c .before .before .if1 .left), ← c .before .unsound .ensures, c .if2 .taken))
 
--- src/host.rt:117:9
 wide-requires : tie.Need-wide-requires
 wide-requires c κs = search needs
 
--- src/host.rt:113:9
 region-outside-requires : tie.Need-region-outside-requires
 region-outside-requires c κs = search needs
 
--- src/host.rt:120:9
 returns-3 : tie.Need-returns-3
 unfolding addStatus addRegions executed statusNumber
 returns-3 c = (simp (ne-eqb _ _ (c .before .before .before .before .before .if1 .left), ← c .before .before .before .before .unsound .ensures, c .before .before .before .if2 .left, ← c .before .before .wide .ensures, ← c .before .region-outside .ensures, c .if3 .taken), simp (ne-eqb _ _ (c .before .before .before .before .before .if1 .left), ← c .before .before .before .before .unsound .ensures, c .before .before .before .if2 .left, ← c .before .before .wide .ensures, ← c .before .region-outside .ensures, c .if3 .taken))
 
--- src/host.rt:122:44
 wide32-requires : tie.Need-wide32-requires
 wide32-requires c κs = search needs
 
--- src/host.rt:122:9
 find-requires : tie.Need-find-requires
 find-requires c κs = search needs
 
--- src/host.rt:124:9
 returns-4 : tie.Need-returns-4
 unfolding addStatus addRegions executed statusNumber
 returns-4 c = (simp (ne-eqb _ _ (c .before .before .before .before .before .before .before .before .before .if1 .left), ← c .before .before .before .before .before .before .before .before .unsound .ensures, c .before .before .before .before .before .before .before .if2 .left, ← c .before .before .before .before .before .before .wide .ensures, ← c .before .before .before .before .before .region-outside .ensures, c .before .before .before .before .if3 .left, ← c .before .before .wide32 .ensures, ← c .before .find .ensures .0, lt-leb _ _ (c .if4 .taken), lt-ltb _ _ (c .if4 .taken)), simp (ne-eqb _ _ (c .before .before .before .before .before .before .before .before .before .if1 .left), ← c .before .before .before .before .before .before .before .before .unsound .ensures, c .before .before .before .before .before .before .before .if2 .left, ← c .before .before .before .before .before .before .wide .ensures, ← c .before .before .before .before .before .region-outside .ensures, c .before .before .before .before .if3 .left, ← c .before .before .wide32 .ensures, ← c .before .find .ensures .0, lt-leb _ _ (c .if4 .taken), lt-ltb _ _ (c .if4 .taken)))
 
--- src/host.rt:126:9
 find-requires-2 : tie.Need-find-requires-2
 find-requires-2 c κs = search needs
 
--- src/host.rt:128:9
 returns-5 : tie.Need-returns-5
 unfolding addStatus addRegions executed statusNumber
 returns-5 c = (simp (ne-eqb _ _ (c .before .before .before .before .before .before .before .before .before .before .before .before .if1 .left), ← c .before .before .before .before .before .before .before .before .before .before .before .unsound .ensures, c .before .before .before .before .before .before .before .before .before .before .if2 .left, ← c .before .before .before .before .before .before .before .before .before .wide .ensures, ← c .before .before .before .before .before .before .before .before .region-outside .ensures, c .before .before .before .before .before .before .before .if3 .left, ← c .before .before .before .before .before .wide32 .ensures, ← c .before .before .before .before .find .ensures .0, le-ltb _ _ (c .before .before .before .if4 .left), le-leb _ _ (c .before .before .before .if4 .left), ← c .before .find2 .ensures .0, le-ltb _ _ (c .if5 .taken), le-leb _ _ (c .if5 .taken)), simp (ne-eqb _ _ (c .before .before .before .before .before .before .before .before .before .before .before .before .if1 .left), ← c .before .before .before .before .before .before .before .before .before .before .before .unsound .ensures, c .before .before .before .before .before .before .before .before .before .before .if2 .left, ← c .before .before .before .before .before .before .before .before .before .wide .ensures, ← c .before .before .before .before .before .before .before .before .region-outside .ensures, c .before .before .before .before .before .before .before .if3 .left, ← c .before .before .before .before .before .wide32 .ensures, ← c .before .before .before .before .find .ensures .0, le-ltb _ _ (c .before .before .before .if4 .left), le-leb _ _ (c .before .before .before .if4 .left), ← c .before .find2 .ensures .0, le-ltb _ _ (c .if5 .taken), le-leb _ _ (c .if5 .taken)))
 
--- src/host.rt:130:9
 region-row-requires : tie.Need-region-row-requires
 region-row-requires c κs = search needs
 
--- src/host.rt:131:5
 mul-row : tie.Need-mul-row
 mul-row c = search needs
 
--- src/host.rt:131:5
 element-set-from-row : tie.Need-element-set-from-row
 element-set-from-row c = search needs
 
--- src/host.rt:102:1
 returns-6 : tie.Need-returns-6
 unfolding addStatus addRegions executed statusNumber
 returns-6 c = (simp (ne-eqb _ _ (c .before .before .before .before .before .before .before .before .before .before .before .before .before .if1 .left), ← c .before .before .before .before .before .before .before .before .before .before .before .before .unsound .ensures, c .before .before .before .before .before .before .before .before .before .before .before .if2 .left, ← c .before .before .before .before .before .before .before .before .before .before .wide .ensures, ← c .before .before .before .before .before .before .before .before .before .region-outside .ensures, c .before .before .before .before .before .before .before .before .if3 .left, ← c .before .before .before .before .before .before .wide32 .ensures, ← c .before .before .before .before .before .find .ensures .0, le-ltb _ _ (c .before .before .before .before .if4 .left), le-leb _ _ (c .before .before .before .before .if4 .left), ← c .before .before .find2 .ensures .0, lt-leb _ _ (c .before .if5 .left), lt-ltb _ _ (c .before .if5 .left), ← c .region-row .ensures), simp (ne-eqb _ _ (c .before .before .before .before .before .before .before .before .before .before .before .before .before .if1 .left), ← c .before .before .before .before .before .before .before .before .before .before .before .before .unsound .ensures, c .before .before .before .before .before .before .before .before .before .before .before .if2 .left, ← c .before .before .before .before .before .before .before .before .before .before .wide .ensures, ← c .before .before .before .before .before .before .before .before .before .region-outside .ensures, c .before .before .before .before .before .before .before .before .if3 .left, ← c .before .before .before .before .before .before .wide32 .ensures, ← c .before .before .before .before .before .find .ensures .0, le-ltb _ _ (c .before .before .before .before .if4 .left), le-leb _ _ (c .before .before .before .before .if4 .left), ← c .before .before .find2 .ensures .0, lt-leb _ _ (c .before .if5 .left), lt-ltb _ _ (c .before .if5 .left), ← c .region-row .ensures))

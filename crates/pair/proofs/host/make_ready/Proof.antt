@@ -4,25 +4,18 @@ use Rattle.pair.specs.Answer.{executed, statusNumber}
 use borrow.Author.Needs.{needs}
 use Rattle.pair.proofs.host.make_ready.Statement.{statement}
 use Rattle.pair.proofs.host.make_ready.Tie as tie
-use Rattle.pair.proofs.host.make_ready.Reads as reads
-use Rattle.pair.proofs.host.make_ready.Lts as lts
-use Rattle.pair.proofs.sound.unsound.Reads as unsound-reads
 
--- src/host.rt:81:9
 returns : tie.Need-returns
 unfolding madeReady readyStatus executed statusNumber
 returns c = simp (ne-eqb _ _ (c .if1 .taken))
 
--- src/host.rt:86:9
 unsound-requires : tie.Need-unsound-requires
 unsound-requires c κs = search needs
 
--- src/host.rt:88:9
 returns-2 : tie.Need-returns-2
 unfolding madeReady readyStatus executed statusNumber
 returns-2 c = simp (eq-eqb _ _ (c .before .before .if1 .left), ← c .before .unsound .ensures, c .if2 .taken)
 
--- src/host.rt:77:1
 returns-3 : tie.Need-returns-3
 unfolding madeReady readyStatus executed statusNumber
 returns-3 c = simp (eq-eqb _ _ (c .before .before .if1 .left), ← c .before .unsound .ensures, c .if2 .left)

@@ -4,33 +4,23 @@ use Rattle.pair.specs.Answer.{executed, statusNumber}
 use borrow.Author.Needs.{needs}
 use Rattle.pair.proofs.host.remove_region.Statement.{statement}
 use Rattle.pair.proofs.host.remove_region.Tie as tie
-use Rattle.pair.proofs.host.remove_region.Reads as reads
-use Rattle.pair.proofs.host.remove_region.Lts as lts
-use Rattle.pair.proofs.host.wide32.Reads as wide32-reads
-use Rattle.table.proofs.find.Reads as find-reads
 
--- src/host.rt:140:42
 wide32-requires : tie.Need-wide32-requires
 wide32-requires c κs = search needs
 
--- src/host.rt:140:9
 find-requires : tie.Need-find-requires
 find-requires c κs = search needs
 
--- src/host.rt:142:9
 returns : tie.Need-returns
 unfolding removeStatus removeRegions executed statusNumber
 returns c = (simp (← c .before .before .wide32 .ensures, ← c .before .find .ensures .0, le-ltb _ _ (c .if1 .taken), le-leb _ _ (c .if1 .taken)), simp (← c .before .before .wide32 .ensures, ← c .before .find .ensures .0, le-ltb _ _ (c .if1 .taken), le-leb _ _ (c .if1 .taken)))
 
--- src/host.rt:145:5
 mul-row : tie.Need-mul-row
 mul-row c = search needs
 
--- src/host.rt:145:5
 element-set-from-row : tie.Need-element-set-from-row
 element-set-from-row c = search needs
 
--- src/host.rt:136:1
 returns-2 : tie.Need-returns-2
 unfolding removeStatus removeRegions executed statusNumber
 returns-2 c = (simp (← c .before .before .wide32 .ensures, ← c .before .find .ensures .0, lt-leb _ _ (c .if1 .left), lt-ltb _ _ (c .if1 .left)), simp (← c .before .before .wide32 .ensures, ← c .before .find .ensures .0, lt-leb _ _ (c .if1 .left), lt-ltb _ _ (c .if1 .left)))

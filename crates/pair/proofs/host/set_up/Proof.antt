@@ -4,39 +4,27 @@ use Rattle.pair.specs.Answer.{executed, statusNumber}
 use borrow.Author.Needs.{needs}
 use Rattle.pair.proofs.host.set_up.Statement.{statement}
 use Rattle.pair.proofs.host.set_up.Tie as tie
-use Rattle.pair.proofs.host.set_up.Reads as reads
-use Rattle.pair.proofs.host.set_up.Lts as lts
-use Rattle.pair.proofs.blank.Reads as blank-reads
-use Rattle.pair.proofs.fresh.Reads as fresh-reads
-use Rattle.pair.proofs.sound.setup_unfit.Reads as setup-unfit-reads
 
--- src/host.rt:32:9
 setup-unfit-requires : tie.Need-setup-unfit-requires
 setup-unfit-requires c κs = search needs
 
--- src/host.rt:34:13
 blank-requires : tie.Need-blank-requires
 blank-requires c κs = search needs
 
--- src/host.rt:35:9
 returns : tie.Need-returns
 unfolding setUp setUpRegions setUpStatus executed statusNumber
 returns c = (simp (← c .before .before .setup-unfit .ensures, c .before .if1 .taken, ← c .blank .ensures), simp (← c .before .before .setup-unfit .ensures, c .before .if1 .taken, ← c .blank .ensures))
 
--- src/host.rt:41:13
 blank-requires-2 : tie.Need-blank-requires-2
 blank-requires-2 c κs = search needs
 
--- src/host.rt:42:9
 returns-2 : tie.Need-returns-2
 unfolding setUp setUpRegions setUpStatus executed statusNumber
 returns-2 c = (simp (← c .before .before .before .before .setup-unfit .ensures, c .before .before .before .if1 .left, lt-leb _ _ (c .before .if2 .taken), lt-ltb _ _ (c .before .if2 .taken), ← c .blank2 .ensures), simp (← c .before .before .before .before .setup-unfit .ensures, c .before .before .before .if1 .left, lt-leb _ _ (c .before .if2 .taken), lt-ltb _ _ (c .before .if2 .taken), ← c .blank2 .ensures))
 
--- src/host.rt:48:9
 fresh-requires : tie.Need-fresh-requires
 fresh-requires c κs = search needs
 
--- src/host.rt:28:1
 returns-3 : tie.Need-returns-3
 unfolding setUp setUpRegions setUpStatus executed statusNumber
 returns-3 c = (simp (← c .before .before .before .before .before .setup-unfit .ensures, c .before .before .before .before .if1 .left, le-ltb _ _ (c .before .before .if2 .left), le-leb _ _ (c .before .before .if2 .left), ← c .fresh .ensures), simp (← c .before .before .before .before .before .setup-unfit .ensures, c .before .before .before .before .if1 .left, le-ltb _ _ (c .before .before .if2 .left), le-leb _ _ (c .before .before .if2 .left), ← c .fresh .ensures))

@@ -3,20 +3,15 @@ use Rattle.laws.proofs.Auto.{tested}
 use Rattle.pair.specs.Sound.{numbersUnsound}
 use Rattle.pair.proofs.sound.numbers_unsound.Statement.{statement}
 use Rattle.pair.proofs.sound.numbers_unsound.Tie as tie
-use Rattle.pair.proofs.sound.numbers_unsound.Reads as reads
-use Rattle.pair.proofs.sound.numbers_unsound.Lts as lts
 
--- src/sound.rt:115:9
 returns : tie.Need-returns
 unfolding numbersUnsound
 returns c = search (needs, tested)
 
--- src/sound.rt:118:9
 returns-2 : tie.Need-returns-2
 unfolding numbersUnsound
 returns-2 c = search (needs, tested)
 
--- src/sound.rt:111:1
 returns-3 : tie.Need-returns-3
 unfolding numbersUnsound
 returns-3 c = search (needs, tested)

@@ -3,15 +3,11 @@ use Rattle.laws.proofs.Auto.{tested}
 use Rattle.pair.specs.Sound.{ringUnsound}
 use Rattle.pair.proofs.sound.ring_unsound.Statement.{statement}
 use Rattle.pair.proofs.sound.ring_unsound.Tie as tie
-use Rattle.pair.proofs.sound.ring_unsound.Reads as reads
-use Rattle.pair.proofs.sound.ring_unsound.Lts as lts
 
--- src/sound.rt:56:9
 returns : tie.Need-returns
 unfolding ringUnsound
 returns c = search (needs, tested)
 
--- src/sound.rt:52:1
 returns-2 : tie.Need-returns-2
 unfolding ringUnsound
 returns-2 c = search (needs, tested)

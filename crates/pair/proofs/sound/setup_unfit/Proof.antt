@@ -3,50 +3,37 @@ use Rattle.pair.specs.Sound.{setupUnfit}
 use borrow.Author.Needs.{needs}
 use Rattle.pair.proofs.sound.setup_unfit.Statement.{statement}
 use Rattle.pair.proofs.sound.setup_unfit.Tie as tie
-use Rattle.pair.proofs.sound.setup_unfit.Reads as reads
-use Rattle.pair.proofs.sound.setup_unfit.Lts as lts
-use Rattle.header.proofs.other_service.Reads as other-service-reads
-use Rattle.pieces.proofs.pmtu_unfit.Reads as pmtu-unfit-reads
 
--- src/sound.rt:18:9
 pmtu-unfit-requires : tie.Need-pmtu-unfit-requires
 pmtu-unfit-requires c κs = search needs
 
--- src/sound.rt:20:9
 returns : tie.Need-returns
 unfolding setupUnfit
 returns c = simp (← c .before .pmtu-unfit .ensures, c .if1 .taken)
 
--- src/sound.rt:22:9
 other-service-requires : tie.Need-other-service-requires
 other-service-requires c κs = search needs
 
--- src/sound.rt:24:9
 returns-2 : tie.Need-returns-2
 unfolding setupUnfit
 returns-2 c = simp (← c .before .before .before .pmtu-unfit .ensures, c .before .before .if1 .left, ← c .before .other-service .ensures, c .if2 .taken)
 
--- src/sound.rt:27:9
 returns-3 : tie.Need-returns-3
 unfolding setupUnfit
 returns-3 c = simp (← c .before .before .before .before .before .pmtu-unfit .ensures, c .before .before .before .before .if1 .left, ← c .before .before .before .other-service .ensures, c .before .before .if2 .left, le-ltb _ _ (c .if3 .taken), le-leb _ _ (c .if3 .taken))
 
--- src/sound.rt:30:9
 returns-4 : tie.Need-returns-4
 unfolding setupUnfit
 returns-4 c = simp (← c .before .before .before .before .before .before .before .pmtu-unfit .ensures, c .before .before .before .before .before .before .if1 .left, ← c .before .before .before .before .before .other-service .ensures, c .before .before .before .before .if2 .left, lt-leb _ _ (c .before .before .if3 .left), lt-ltb _ _ (c .before .before .if3 .left), le-ltb _ _ (c .if4 .taken), le-leb _ _ (c .if4 .taken))
 
--- src/sound.rt:33:9
 returns-5 : tie.Need-returns-5
 unfolding setupUnfit
 returns-5 c = simp (← c .before .before .before .before .before .before .before .before .before .pmtu-unfit .ensures, c .before .before .before .before .before .before .before .before .if1 .left, ← c .before .before .before .before .before .before .before .other-service .ensures, c .before .before .before .before .before .before .if2 .left, lt-leb _ _ (c .before .before .before .before .if3 .left), lt-ltb _ _ (c .before .before .before .before .if3 .left), lt-leb _ _ (c .before .before .if4 .left), lt-ltb _ _ (c .before .before .if4 .left), le-ltb _ _ (c .if5 .taken), le-leb _ _ (c .if5 .taken))
 
--- src/sound.rt:36:9
 returns-6 : tie.Need-returns-6
 unfolding setupUnfit
 returns-6 c = simp (← c .before .before .before .before .before .before .before .before .before .before .before .pmtu-unfit .ensures, c .before .before .before .before .before .before .before .before .before .before .if1 .left, ← c .before .before .before .before .before .before .before .before .before .other-service .ensures, c .before .before .before .before .before .before .before .before .if2 .left, lt-leb _ _ (c .before .before .before .before .before .before .if3 .left), lt-ltb _ _ (c .before .before .before .before .before .before .if3 .left), lt-leb _ _ (c .before .before .before .before .if4 .left), lt-ltb _ _ (c .before .before .before .before .if4 .left), lt-leb _ _ (c .before .before .if5 .left), lt-ltb _ _ (c .before .before .if5 .left), eq-eqb _ _ (c .if6 .taken))
 
--- src/sound.rt:15:1
 returns-7 : tie.Need-returns-7
 unfolding setupUnfit
 returns-7 c = simp (← c .before .before .before .before .before .before .before .before .before .before .before .before .pmtu-unfit .ensures, c .before .before .before .before .before .before .before .before .before .before .before .if1 .left, ← c .before .before .before .before .before .before .before .before .before .before .other-service .ensures, c .before .before .before .before .before .before .before .before .before .if2 .left, lt-leb _ _ (c .before .before .before .before .before .before .before .if3 .left), lt-ltb _ _ (c .before .before .before .before .before .before .before .if3 .left), lt-leb _ _ (c .before .before .before .before .before .if4 .left), lt-ltb _ _ (c .before .before .before .before .before .if4 .left), lt-leb _ _ (c .before .before .before .if5 .left), lt-ltb _ _ (c .before .before .before .if5 .left), ne-eqb _ _ (c .before .if6 .left))

@@ -2,20 +2,14 @@ use Rattle.pair.specs.Sound.{setupUnsound}
 use borrow.Author.Needs.{needs}
 use Rattle.pair.proofs.sound.setup_unsound.Statement.{statement}
 use Rattle.pair.proofs.sound.setup_unsound.Tie as tie
-use Rattle.pair.proofs.sound.setup_unsound.Reads as reads
-use Rattle.pair.proofs.sound.setup_unsound.Lts as lts
-use Rattle.pair.proofs.sound.setup_unfit.Reads as setup-unfit-reads
 
--- src/sound.rt:45:9
 setup-unfit-requires : tie.Need-setup-unfit-requires
 setup-unfit-requires c κs = search needs
 
--- src/sound.rt:47:9
 returns : tie.Need-returns
 unfolding setupUnsound
 returns c = simp (← c .before .setup-unfit .ensures, c .if1 .taken)
 
--- src/sound.rt:42:1
 returns-2 : tie.Need-returns-2
 unfolding setupUnsound
 returns-2 c = simp (← c .before .before .setup-unfit .ensures, c .before .if1 .left)
