@@ -3,14 +3,14 @@ use Prim.Native.Nat.{ℕ, _≤_, _<_}
 use mathlib.Core.Path.{_≡_, refl, sym, ap, subst}
 use mathlib.Core.Bool.{Bool, true, false, cond}
 use mathlib.Core.List.{List, [], _∷_}
-use mathlib.Core.Logic.{_⊎_, inl, inr}
+use mathlib.Core.Logic.{inl, inr}
 use native.Mathlib.Omega.{arith}
 use lib.Dec.{eqb}
 use lib.ListN.{length, getD, set, getD-replicate}
 use borrow.Author.Tests.{eqb-true, eqb-false}
-use Rattle.table.specs.Table.{regionRow, entryRow, noRegion, keyRow, freeRow, slotAt}
+use Rattle.table.specs.Table.{entryRow, noRegion, keyRow}
 use Rattle.table.specs.View.{oneMore}
-use Rattle.table.specs.Claims.{RegionFits, EntryFits, HasKey, RegionsSound}
+use Rattle.table.specs.Claims.{HasKey, RegionsSound}
 use Rattle.table.proofs.Rings.{in-use-kept, posted-sound}
 use Rattle.table.proofs.Regions.{added-sound, removed-sound, no-key}
 use Rattle.table.specs.declared.Region.{Region}
@@ -23,7 +23,9 @@ use Rattle.pair.specs.Host.{noRegions, setUpRegions, resetRegions, madeR
 use Rattle.pair.specs.Calls.{Whole, HostCall, begun, called, calledAll}
 use Rattle.pair.specs.Calls.HostCall.{Reset, MakeReady, AddRegion, RemoveRegion, PostEntry}
 use Rattle.pair.specs.Claims.{SetupSound, MessageSound, Sound, WholeSound, BegunSound, CallsSound}
-use Rattle.pair.proofs.Answers.{set-up-pair, set-up-regions, reset-pair, reset-regions, ready-wrong, ready-done, add-either, post-either, held-some}
+use Rattle.pair.proofs.Begin.{set-up-pair, set-up-regions, reset-pair, reset-regions, ready-wrong, ready-done}
+use Rattle.pair.proofs.Adding.{AddEither, add-either}
+use Rattle.pair.proofs.Posting.{PostEither, post-either, held-some}
 
 -- a fresh pair beside empty regions
 empty-sound : (memory : ℕ) → RegionsSound memory noRegions
@@ -109,9 +111,7 @@ add-kept : (w : Whole) (r : Region) → WholeSound w → WholeSound (called w (A
 unfolding called
 add-kept w r W = with-regions w (addRegions (w .pair) (w .regions) r) W (go (add-either (w .pair) (w .regions) r (W .pair)))
   where
-    go : (addRegions (w .pair) (w .regions) r ≡ w .regions)
-        ⊎ (RegionFits (w .pair .setup .memory) r × (keyRow (r .key) (w .regions) ≡ 16) × (freeRow (w .regions) < 16)
-        × (addRegions (w .pair) (w .regions) r ≡ set (w .regions) (freeRow (w .regions)) (regionRow r)))
+    go : AddEither (w .pair) (w .regions) r
         → RegionsSound (w .pair .setup .memory) (addRegions (w .pair) (w .regions) r)
     go (inl e) = subst (RegionsSound (w .pair .setup .memory)) (sym e) (W .regions)
     go (inr (f, k, m, e)) =
@@ -152,10 +152,7 @@ post-kept : (w : Whole) (e : Entry) → WholeSound w → WholeSound (called w (P
 unfolding called with-entries
 post-kept w e W = go (post-either (w .pair) (w .entries) e (W .pair))
   where
-    go : ((posted (w .pair) e .pair ≡ w .pair) × (postEntries (w .pair) (w .entries) e ≡ w .entries))
-        ⊎ (EntryFits (w .pair .setup .memory) e × (w .pair .entries .count < 16)
-        × (posted (w .pair) e .pair ≡ moved (w .pair) (w .pair .state) (oneMore (w .pair .entries)))
-        × (postEntries (w .pair) (w .entries) e ≡ set (w .entries) (slotAt (w .pair .entries .head) (w .pair .entries .count)) (entryRow e)))
+    go : PostEither (w .pair) (w .entries) e
         → WholeSound (with-entries w (posted (w .pair) e .pair) (postEntries (w .pair) (w .entries) e))
     go (inl (a, b)) =
         subst (λ q. WholeSound (with-entries w q (postEntries (w .pair) (w .entries) e))) (sym a) (subst (λ x. WholeSound (with-entries w (w .pair) x)) (sym b) W)

@@ -1,3 +1,6 @@
 pub mod Tests
-pub mod Answers
+pub mod Known
+pub mod Begin
+pub mod Adding
+pub mod Posting
 pub mod Kept

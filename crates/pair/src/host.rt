@@ -10,7 +10,7 @@ use table::Entry;
 use table::Region;
 use table::Ring;
 ghost use mathlib.Core.Path.{_≡_};
-ghost use Rattle.pair.specs.Host.{setUp, setUpRegions, resetTo, resetRegions, madeReady, addStatus, addRegions, removeStatus, removeRegions, posted, postEntries};
+ghost use Rattle.pair.specs.Host.{outcome, setUp, setUpRegions, resetTo, resetRegions, madeReady, addStatus, addRegions, removeStatus, removeRegions, posted, postEntries};
 
 fn wide(x: usize) -> u64
     ensures { λ r. ⌜ r ≡ x ⌝ }
@@ -24,6 +24,12 @@ fn wide32(x: u32) -> u64
     x as u64
 }
 
+fn outcome(status: Status, pair: Pair) -> HostOutcome
+    ensures { λ r. ⌜ r ≡ outcome status pair ⌝ }
+{
+    HostOutcome { status, pair }
+}
+
 // Takes the numbers of a new pair, and empties its tables.
 pub fn set_up(setup: Setup, regions: &mut [[u64; 7]; 16]) -> HostOutcome
     ensures { λ r. ⌜ r ≡ setUp setup ⌝ }
@@ -32,24 +38,15 @@ pub fn set_up(setup: Setup, regions: &mut [[u64; 7]; 16]) -> HostOutcome
     let unfit = setup_unfit(setup);
     if unfit {
         let pair = crate::blank();
-        return HostOutcome {
-            status: Status::BadNumber,
-            pair,
-        };
+        return outcome(Status::BadNumber, pair);
     }
     if crate::LIMIT < setup.memory {
         let pair = crate::blank();
-        return HostOutcome {
-            status: Status::OutOfRange,
-            pair,
-        };
+        return outcome(Status::OutOfRange, pair);
     }
     *regions = [[0; 7]; 16];
     let pair = crate::fresh(setup);
-    HostOutcome {
-        status: Status::Executed,
-        pair,
-    }
+    outcome(Status::Executed, pair)
 }
 
 // Starts afresh with the numbers of the set-up and empty tables.
@@ -60,17 +57,11 @@ pub fn reset(pair: Pair, regions: &mut [[u64; 7]; 16]) -> HostOutcome
     let setup = pair.setup;
     let bad = setup_unsound(setup);
     if bad {
-        return HostOutcome {
-            status: Status::OutOfRange,
-            pair,
-        };
+        return outcome(Status::OutOfRange, pair);
     }
     *regions = [[0; 7]; 16];
     let next = crate::fresh(setup);
-    HostOutcome {
-        status: Status::Executed,
-        pair: next,
-    }
+    outcome(Status::Executed, next)
 }
 
 // Lets packets in.
@@ -78,24 +69,15 @@ pub fn make_ready(pair: Pair) -> HostOutcome
     ensures { λ r. ⌜ r ≡ madeReady pair ⌝ }
 {
     if pair.state != crate::INIT {
-        return HostOutcome {
-            status: Status::WrongState,
-            pair,
-        };
+        return outcome(Status::WrongState, pair);
     }
     let bad = unsound(pair);
     if bad {
-        return HostOutcome {
-            status: Status::OutOfRange,
-            pair,
-        };
+        return outcome(Status::OutOfRange, pair);
     }
     let mut next = pair;
     next.state = crate::READY;
-    HostOutcome {
-        status: Status::Executed,
-        pair: next,
-    }
+    outcome(Status::Executed, next)
 }
 
 // Lets peers name a part of memory by a key.
@@ -152,32 +134,20 @@ pub fn post_entry(pair: Pair, entries: &mut [[u64; 3]; 16], entry: Entry) -> Hos
     ensures { λ r. ⌜ now (entries .exit) ≡ postEntries pair (now (entries .entry)) entry ⌝ }
 {
     if pair.state == crate::ERROR {
-        return HostOutcome {
-            status: Status::WrongState,
-            pair,
-        };
+        return outcome(Status::WrongState, pair);
     }
     let bad = unsound(pair);
     if bad {
-        return HostOutcome {
-            status: Status::OutOfRange,
-            pair,
-        };
+        return outcome(Status::OutOfRange, pair);
     }
     let off = table::outside(entry.offset, entry.length, wide(pair.setup.memory));
     if off {
-        return HostOutcome {
-            status: Status::OutOfRange,
-            pair,
-        };
+        return outcome(Status::OutOfRange, pair);
     }
     let head = pair.entries.head;
     let count = pair.entries.count;
     if 16 <= count {
-        return HostOutcome {
-            status: Status::TableFull,
-            pair,
-        };
+        return outcome(Status::TableFull, pair);
     }
     let at = table::slot(head, count);
     let row = table::entry_row(entry);
@@ -188,8 +158,5 @@ pub fn post_entry(pair: Pair, entries: &mut [[u64; 3]; 16], entry: Entry) -> Hos
     };
     let mut next = pair;
     next.entries = ring;
-    HostOutcome {
-        status: Status::Executed,
-        pair: next,
-    }
+    outcome(Status::Executed, next)
 }

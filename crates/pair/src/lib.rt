@@ -139,7 +139,7 @@ fn fresh(setup: Setup) -> Pair
 }
 
 // What a refused set-up gives in place of a pair: every later call refuses it.
-fn blank() -> Pair
+pub fn blank() -> Pair
     ensures { λ r. ⌜ r ≡ blankPair ⌝ }
 {
     let start = Psn(0);

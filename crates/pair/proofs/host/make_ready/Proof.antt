@@ -5,20 +5,38 @@ use borrow.Author.Needs.{needs}
 use Rattle.pair.proofs.host.make_ready.Statement.{statement}
 use Rattle.pair.proofs.host.make_ready.Tie as tie
 
+outcome-requires : tie.Need-outcome-requires
+outcome-requires c κs = search needs
+
 returns : tie.Need-returns
 unfolding madeReady readyStatus executed statusNumber
-returns c = simp (ne-eqb _ _ (c .if1 .taken))
+returns c = simp (ne-eqb _ _ (c .before .if1 .taken), ← c .outcome .ensures)
 
 unsound-requires : tie.Need-unsound-requires
 unsound-requires c κs = search needs
 
+outcome-requires-2 : tie.Need-outcome-requires-2
+outcome-requires-2 c κs = search needs
+
 returns-2 : tie.Need-returns-2
 unfolding madeReady readyStatus executed statusNumber
-returns-2 c = simp (eq-eqb _ _ (c .before .before .if1 .left), ← c .before .unsound .ensures, c .if2 .taken)
+returns-2 c = simp (eq-eqb _ _ (c .before .before .before .if1 .left), ← c .before .before .unsound .ensures, c .before .if2 .taken, ← c .outcome2 .ensures)
+
+outcome-requires-3 : tie.Need-outcome-requires-3
+outcome-requires-3 c κs = search needs
 
 returns-3 : tie.Need-returns-3
 unfolding madeReady readyStatus executed statusNumber
-returns-3 c = simp (eq-eqb _ _ (c .before .before .if1 .left), ← c .before .unsound .ensures, c .if2 .left)
+returns-3 c = simp (eq-eqb _ _ (c .before .before .before .if1 .left), ← c .before .before .unsound .ensures, c .before .if2 .left, ← c .outcome3 .ensures)
 
 pub make-ready-spec : {M : Type 1} → statement M
-make-ready-spec = tie.close (tie.spec returns unsound-requires returns-2 returns-3)
+make-ready-spec =
+    tie.close
+    (tie.spec
+    outcome-requires
+    returns
+    unsound-requires
+    outcome-requires-2
+    returns-2
+    outcome-requires-3
+    returns-3)
