@@ -1,40 +1,16 @@
 -- What is known of an answer: its number, and what it left.
-use Prim.Native.Nat.{ℕ}
 use mathlib.Core.Path.{_≡_, refl, sym, ap, _∙_}
 use mathlib.Core.Bool.{Bool, true, false, cond}
-use lib.Dec.{eqb}
 use Rattle.pair.specs.declared.Pair.{Pair}
 use Rattle.pair.specs.declared.Status.{Status}
 use Rattle.pair.specs.declared.Status.the-variants as status
 use Rattle.pair.specs.Answer.{statusNumber, executed}
 use Rattle.pair.specs.Sound.{pairUnsound}
-use Rattle.pair.specs.Claims.{OneNumber, Sound}
+use Rattle.pair.specs.Claims.{statusOf, NumberBack, OneNumber, Sound}
 use Rattle.pair.proofs.Tests.{tested}
 
--- the answer of a number
-numbered : ℕ → Status
-numbered n =
-    cond (eqb n 0) status.Executed
-    (cond (eqb n 1) status.Acknowledged
-    (cond (eqb n 2) status.ReadAccepted
-    (cond (eqb n 3) status.AtomicExecuted
-    (cond (eqb n 4) status.DuplicateAnswered
-    (cond (eqb n 5) status.Dropped
-    (cond (eqb n 6) status.Abandoned
-    (cond (eqb n 16) status.SequenceNak
-    (cond (eqb n 17) status.InvalidRequestNak
-    (cond (eqb n 18) status.AccessNak
-    (cond (eqb n 19) status.NotReadyNak
-    (cond (eqb n 32) status.ReadUnfinished
-    (cond (eqb n 33) status.TableFull
-    (cond (eqb n 34) status.OutOfRange
-    (cond (eqb n 35) status.OutputShort
-    (cond (eqb n 36) status.WrongState
-    (cond (eqb n 37) status.NoSuchKey
-    (cond (eqb n 38) status.KeyInUse status.BadNumber)))))))))))))))))
-
-back : (a : Status) → numbered (statusNumber a) ≡ a
-unfolding numbered statusNumber
+pub back : NumberBack
+unfolding statusOf statusNumber
 back status.Executed = refl
 back status.Acknowledged = refl
 back status.ReadAccepted = refl
@@ -56,7 +32,7 @@ back status.KeyInUse = refl
 back status.BadNumber = refl
 
 pub one-number : OneNumber
-one-number a b h = sym (back a) ∙ (ap numbered h ∙ back b)
+one-number a b h = sym (back a) ∙ (ap statusOf h ∙ back b)
 
 -- a test that cannot fail holds
 pub holds-true : (b : Bool) → (b ≡ false → ⊥) → b ≡ true

@@ -22,7 +22,7 @@ use Rattle.pair.specs.declared.Status.the-variants as status
 use Rattle.pair.specs.Answer.{statusNumber, executed}
 use Rattle.pair.specs.Pair.{blankPair, moved}
 use Rattle.pair.specs.Sound.{pairUnsound}
-use Rattle.pair.specs.Host.{postStatus, posted, postEntries}
+use Rattle.pair.specs.Host.{entryLimit, postStatus, posted, postEntries}
 use Rattle.pair.specs.View.{heldOf, waitingOf, entriesOf}
 use Rattle.pair.specs.Claims.{SetupSound, MessageSound, Sound, PostError, PostRange, PostFull, PostDone, HeldWaiting, BlankRefused}
 use Rattle.pair.proofs.Known.{holds-true, either, kept, done, unsound, sound}
@@ -58,8 +58,8 @@ module _ (q : Pair) (rows : List (List ℕ)) (e : Entry) where
       → ((statusNumber (posted q e .status) ≡ statusNumber s) × (posted q e .pair ≡ q)) × (postEntries q rows e ≡ rows)
   unfolding posted postEntries
   post-refused s d h = (
-    (ap statusNumber d, kept (postStatus q e) s (moved q (q .state) (oneMore (q .entries))) q d h),
-    kept (postStatus q e) s (set rows (slotAt (q .entries .head) (q .entries .count)) (entryRow e)) rows d h,
+    (ap statusNumber d, kept (postStatus q e) s _ q d h),
+    kept (postStatus q e) s _ rows d h,
   )
 
   error-post : q .state ≡ 2 → postStatus q e ≡ status.WrongState
@@ -74,21 +74,21 @@ module _ (q : Pair) (rows : List (List ℕ)) (e : Entry) where
       (either (pairUnsound q))
 
   module _ (h : q .state ≡ 2 → ⊥) (S : Sound q) (f : EntryFits (q .setup .memory) e) where
-    full-post : 16 ≤ q .entries .count → postStatus q e ≡ status.TableFull
+    full-post : entryLimit ≤ q .entries .count → postStatus q e ≡ status.TableFull
     unfolding postStatus
     full-post n =
-        rw (ne-eqb (q .state) 2 h, sound q S, entry-tested (q .setup .memory) e .1 f, le-leb 16 (q .entries .count) n)
+        rw (ne-eqb (q .state) 2 h, sound q S, entry-tested (q .setup .memory) e .1 f, le-leb entryLimit (q .entries .count) n)
 
-    pub done-post : q .entries .count < 16 → postStatus q e ≡ status.Executed
+    pub done-post : q .entries .count < entryLimit → postStatus q e ≡ status.Executed
     unfolding postStatus
     done-post n =
-        rw (ne-eqb (q .state) 2 h, sound q S, entry-tested (q .setup .memory) e .1 f, lt-leb 16 (q .entries .count) n)
+        rw (ne-eqb (q .state) 2 h, sound q S, entry-tested (q .setup .memory) e .1 f, lt-leb entryLimit (q .entries .count) n)
 
-    pub posted-pair : q .entries .count < 16 → posted q e .pair ≡ moved q (q .state) (oneMore (q .entries))
+    pub posted-pair : q .entries .count < entryLimit → posted q e .pair ≡ moved q (q .state) (oneMore (q .entries))
     unfolding posted executed statusNumber
     posted-pair n = done (postStatus q e) status.Executed (moved q (q .state) (oneMore (q .entries))) q (done-post n) refl
 
-    pub posted-entries : q .entries .count < 16
+    pub posted-entries : q .entries .count < entryLimit
         → postEntries q rows e ≡ set rows (slotAt (q .entries .head) (q .entries .count)) (entryRow e)
     unfolding postEntries executed statusNumber
     posted-entries n =
@@ -164,14 +164,14 @@ pub post-either : (q : Pair) (rows : List (List ℕ)) (e : Entry) → Sound q
     → PostEither q rows e
 unfolding executed statusNumber
 post-either q rows e S =
-    go (eqb (q .state) 2) refl (outside (e .offset) (e .length) (q .setup .memory)) refl (leb 16 (q .entries .count)) refl
+    go (eqb (q .state) 2) refl (outside (e .offset) (e .length) (q .setup .memory)) refl (leb entryLimit (q .entries .count)) refl
   where
     same : (n : ℕ) → ((statusNumber (posted q e .status) ≡ n) × (posted q e .pair ≡ q)) × (postEntries q rows e ≡ rows)
         → PostEither q rows e
     same n ((a, b), c) = inl (b, c)
 
     go : (a : Bool) → eqb (q .state) 2 ≡ a → (b : Bool) → outside (e .offset) (e .length) (q .setup .memory) ≡ b
-        → (c : Bool) → leb 16 (q .entries .count) ≡ c
+        → (c : Bool) → leb entryLimit (q .entries .count) ≡ c
         → PostEither q rows e
     go true x b y c z = same 36 (post-error q rows e (eqb-true (q .state) 2 x))
     go false x true y c z =
@@ -179,11 +179,11 @@ post-either q rows e S =
     go false x false y true z =
         same 33
         (post-refused q rows e status.TableFull
-        (full-post q rows e (eqb-false (q .state) 2 x) S (entry-tested (q .setup .memory) e .0 y) (leb-true 16 (q .entries .count) z)) refl)
+        (full-post q rows e (eqb-false (q .state) 2 x) S (entry-tested (q .setup .memory) e .0 y) (leb-true entryLimit (q .entries .count) z)) refl)
     go false x false y false z =
         let h = eqb-false (q .state) 2 x in
         let f : EntryFits (q .setup .memory) e = entry-tested (q .setup .memory) e .0 y in
-        let n : q .entries .count < 16 = leb-false 16 (q .entries .count) z in
+        let n : q .entries .count < 16 = leb-false entryLimit (q .entries .count) z in
         inr (f, n, posted-pair q rows e h S f n, posted-entries q rows e h S f n)
 
 -- The blank pair

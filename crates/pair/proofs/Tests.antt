@@ -6,15 +6,16 @@ use mathlib.Core.Logic.{_⊎_, inl, inr}
 use native.Mathlib.Omega.{arith}
 use lib.Dec.{eqb, ltb, leb}
 use borrow.Author.Tests.{le-ltb, lt-leb, eq-eqb, ne-eqb, ltb-false, leb-false, eqb-true, eqb-false}
+use Rattle.laws.proofs.Auto.{tests}
 use Rattle.laws.proofs.Tests.{or-left, or-right, neither}
 use Rattle.sequence.specs.Sequence.{space}
 use Rattle.header.specs.Read.{otherService}
 use Rattle.pieces.specs.Pieces.{pmtuFits, pieces}
 use Rattle.pieces.proofs.Counting.{pmtus}
-use Rattle.table.specs.Table.{outside, pastTop}
+use Rattle.table.specs.Table.{addresses, outside, pastTop}
 use Rattle.pair.specs.declared.Setup.{Setup}
 use Rattle.pair.specs.declared.Pair.{Pair}
-use Rattle.pair.specs.Sound.{memoryLimit, setupUnfit, setupUnsound, numbersUnsound, ringUnsound, writeUnsound, messageUnsound, readUnsound, pairUnsound}
+use Rattle.pair.specs.Sound.{memoryLimit, setupUnfit, setupUnsound, numbersUnsound, ringUnsound, sendUnsound, writeUnsound, messageUnsound, readUnsound, pairUnsound}
 use Rattle.pair.specs.Claims.{SetupFit, SetupSound, MessageSound, Sound, SetupTested, Tested}
 
 -- a flag that names a failing test, and the test
@@ -59,7 +60,7 @@ setup-tested s = (fits, passes)
           theirs = leb-false space (s .theirs) (or-left (leb space (s .theirs)) _ h4);
           start = leb-false space (s .start .0) (or-left (leb space (s .start .0)) _ h5);
           pkey = eqb-false (s .pkey % 32768) 0 (or-left (eqb (s .pkey % 32768) 0) _ h6);
-          timer = ltb-false 31 (s .timer) h7;
+          timer = omega (arith, tests);
         }
 
     passes : SetupFit s → setupUnfit s ≡ false
@@ -95,14 +96,22 @@ write-fits placed address n h =
     let k = or-right (leb n placed) _ h in (
       leb-false n placed (or-left (leb n placed) _ h),
       ltb-false memoryLimit n (or-left (ltb memoryLimit n) _ k),
-      leb-false (2 ^ 64) (address + placed) (or-right (ltb memoryLimit n) _ k),
+      leb-false addresses (address + placed) (or-right (ltb memoryLimit n) _ k),
     )
 
 fits-write : (placed address n : ℕ) → (placed < n) × (n ≤ 1048576) × (address + placed < 2 ^ 64)
     → writeUnsound placed address n ≡ false
 unfolding writeUnsound pastTop
 fits-write placed address n (a, b, c) =
-    neither (lt-leb n placed a) (neither (le-ltb memoryLimit n b) (lt-leb (2 ^ 64) (address + placed) c))
+    neither (lt-leb n placed a) (neither (le-ltb memoryLimit n b) (lt-leb addresses (address + placed) c))
+
+send-fits : (entries : ℕ) → sendUnsound entries ≡ false → 1 ≤ entries
+unfolding sendUnsound
+send-fits entries h = omega (arith, tests)
+
+fits-send : (entries : ℕ) → 1 ≤ entries → sendUnsound entries ≡ false
+unfolding sendUnsound
+fits-send entries h = ne-eqb entries 0 (λ z. omega arith)
 
 message-fits : (q : Pair) → messageUnsound (q .message .kind) (q .message .placed) (q .message .address) (q .message .length) (q .entries .count) ≡ false
     → MessageSound q
@@ -110,12 +119,11 @@ unfolding messageUnsound
 message-fits q = go (eqb (q .message .kind) 255) refl (eqb (q .message .kind) 0) refl (eqb (q .message .kind) 6) refl
   where
     go : (a : Bool) → eqb (q .message .kind) 255 ≡ a → (b : Bool) → eqb (q .message .kind) 0 ≡ b → (c : Bool) → eqb (q .message .kind) 6 ≡ c
-        → cond a false (cond b (eqb (q .entries .count) 0) (cond c (writeUnsound (q .message .placed) (q .message .address) (q .message .length)) true)) ≡ false
+        → cond a false (cond b (sendUnsound (q .entries .count)) (cond c (writeUnsound (q .message .placed) (q .message .address) (q .message .length)) true)) ≡ false
         → MessageSound q
     go true x b y c z h = inl (eqb-true (q .message .kind) 255 x)
     go false x true y c z h =
-        let ne : q .entries .count ≡ 0 → ⊥ = eqb-false (q .entries .count) 0 h in
-        inr (inl (eqb-true (q .message .kind) 0 y, omega arith))
+        inr (inl (eqb-true (q .message .kind) 0 y, send-fits (q .entries .count) h))
     go false x false y true z h =
         let w = write-fits (q .message .placed) (q .message .address) (q .message .length) h in
         inr (inr (eqb-true (q .message .kind) 6 z, w .0, w .1, w .2))
@@ -125,7 +133,7 @@ fits-message : (q : Pair) → MessageSound q
     → messageUnsound (q .message .kind) (q .message .placed) (q .message .address) (q .message .length) (q .entries .count) ≡ false
 unfolding messageUnsound
 fits-message q (inl e) = rw (eq-eqb (q .message .kind) 255 e)
-fits-message q (inr (inl (e, some))) = rw e (ne-eqb (q .entries .count) 0 (λ z. omega arith))
+fits-message q (inr (inl (e, some))) = rw e (fits-send (q .entries .count) some)
 fits-message q (inr (inr (e, a, b, c))) = rw e (fits-write (q .message .placed) (q .message .address) (q .message .length) (a, b, c))
 
 -- a READ being answered, on its numbers

@@ -1,7 +1,8 @@
 -- What is proved of the pair and the host's calls, each statement by a name; the proofs stand in proofs/.
 use Prim.Native.Nat.{ℕ, _+_, _%_, _^_, _≤_, _<_}
 use mathlib.Core.Path.{_≡_}
-use mathlib.Core.Bool.{false}
+use mathlib.Core.Bool.{false, cond}
+use lib.Dec.{eqb}
 use mathlib.Core.List.{List, [], _∷_, _++_}
 use mathlib.Core.Logic.{_⊎_}
 use lib.ListN.{length, getD}
@@ -16,6 +17,7 @@ use Rattle.pair.specs.declared.Setup.{Setup}
 use Rattle.pair.specs.declared.Pair.{Pair}
 use Rattle.pair.specs.declared.HostOutcome.{HostOutcome}
 use Rattle.pair.specs.declared.Status.{Status}
+use Rattle.pair.specs.declared.Status.the-variants as status
 use Rattle.pair.specs.Answer.{statusNumber}
 use Rattle.pair.specs.Pair.{blankPair, moved}
 use Rattle.pair.specs.Sound.{setupUnfit, pairUnsound}
@@ -23,7 +25,32 @@ use Rattle.pair.specs.Host.{noRegions, setUp, setUpRegions, resetTo, res
 use Rattle.pair.specs.View.{heldOf, waitingOf, entriesOf}
 use Rattle.pair.specs.Calls.{Whole, HostCall, begun, calledAll}
 
--- Each number is the number of one answer.
+-- The answer of each number, listed once more the other way round.
+unfoldable pub statusOf : ℕ → Status
+statusOf n =
+    cond (eqb n 0) status.Executed
+    (cond (eqb n 1) status.Acknowledged
+    (cond (eqb n 2) status.ReadAccepted
+    (cond (eqb n 3) status.AtomicExecuted
+    (cond (eqb n 4) status.DuplicateAnswered
+    (cond (eqb n 5) status.Dropped
+    (cond (eqb n 6) status.Abandoned
+    (cond (eqb n 16) status.SequenceNak
+    (cond (eqb n 17) status.InvalidRequestNak
+    (cond (eqb n 18) status.AccessNak
+    (cond (eqb n 19) status.NotReadyNak
+    (cond (eqb n 32) status.ReadUnfinished
+    (cond (eqb n 33) status.TableFull
+    (cond (eqb n 34) status.OutOfRange
+    (cond (eqb n 35) status.OutputShort
+    (cond (eqb n 36) status.WrongState
+    (cond (eqb n 37) status.NoSuchKey
+    (cond (eqb n 38) status.KeyInUse status.BadNumber)))))))))))))))))
+
+abbrev pub NumberBack : Type 0
+NumberBack = (a : Status) → statusOf (statusNumber a) ≡ a
+
+-- So each number is the number of one answer.
 abbrev pub OneNumber : Type 0
 OneNumber = (a b : Status) → statusNumber a ≡ statusNumber b → a ≡ b
 

@@ -33,13 +33,16 @@ unfoldable pub ringUnsound : ℕ → ℕ → Bool
 ringUnsound head count = leb 16 head || ltb 16 count
 
 -- an open SEND holds an entry; an open WRITE has bytes to come, within the limit, and the next of them has an address
+unfoldable pub sendUnsound : ℕ → Bool
+sendUnsound entries = eqb entries 0
+
 unfoldable pub writeUnsound : ℕ → ℕ → ℕ → Bool
 writeUnsound placed address length = leb length placed || (ltb memoryLimit length || pastTop address placed)
 
 unfoldable pub messageUnsound : ℕ → ℕ → ℕ → ℕ → ℕ → Bool
 messageUnsound kind placed address length entries =
     cond (eqb kind 255) false
-    (cond (eqb kind 0) (eqb entries 0)
+    (cond (eqb kind 0) (sendUnsound entries)
     (cond (eqb kind 6) (writeUnsound placed address length) true))
 
 -- a READ being answered has no more responses remaining than it has at all, its bytes lie in memory, its numbers have 24 bits

@@ -102,10 +102,10 @@ pub fn add_region(pair: Pair, regions: &mut [[u64; 7]; 16], region: Region) -> S
         return Status::OutOfRange;
     }
     let used = table::find(regions, false, wide32(region.key));
+    let free = table::find(regions, true, 0);
     if used < 16 {
         return Status::KeyInUse;
     }
-    let free = table::find(regions, true, 0);
     if 16 <= free {
         return Status::TableFull;
     }

@@ -8,7 +8,7 @@ use native.Mathlib.Numerals.{add-one}
 use lib.Dec.{ltb, leb}
 use lib.ListN.{getD}
 use borrow.Author.Tests.{lt-ltb, le-ltb, le-leb, lt-leb, ltb-true, ltb-false}
-use Rattle.table.specs.Table.{outside, pastTop, sought, firstFrom, slotAt}
+use Rattle.table.specs.Table.{addresses, outside, pastTop, sought, firstFrom, slotAt}
 
 pub off-outside : (offset length memory : ℕ) → memory < offset → outside offset length memory ≡ true
 unfolding outside
@@ -26,9 +26,9 @@ pub rest-past-top : (address length : ℕ) → address < 2 ^ 64 → ltb (1844674
 unfolding pastTop
 rest-past-top address length h = go (ltb (18446744073709551615 - address) length) refl
   where
-    go : (t : Bool) → ltb (18446744073709551615 - address) length ≡ t → t ≡ leb (2 ^ 64) (address + length)
-    go true e = sym (le-leb (2 ^ 64) (address + length) (omega (arith, ltb-true (18446744073709551615 - address) length e)))
-    go false e = sym (lt-leb (2 ^ 64) (address + length) (omega (arith, ltb-false (18446744073709551615 - address) length e)))
+    go : (t : Bool) → ltb (18446744073709551615 - address) length ≡ t → t ≡ leb addresses (address + length)
+    go true e = sym (le-leb addresses (address + length) (omega (arith, ltb-true (18446744073709551615 - address) length e)))
+    go false e = sym (lt-leb addresses (address + length) (omega (arith, ltb-false (18446744073709551615 - address) length e)))
 
 pub slot-rest : (head i : ℕ) → (head % 16 + i % 16) % 16 ≡ slotAt head i
 unfolding slotAt

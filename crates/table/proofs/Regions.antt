@@ -11,7 +11,7 @@ use lib.Seq.{getD-set-same, getD-set-other, set-out}
 use borrow.Author.Tests.{lt-ltb, le-ltb, lt-leb, ne-eqb, ltb-true, ltb-false, leb-false, eqb-true, eqb-false}
 use Rattle.laws.proofs.Tests.{or-left, or-right}
 use Rattle.table.specs.declared.Region.{Region}
-use Rattle.table.specs.Table.{outside, pastTop, regionOutside, regionRow, noRegion, sought, firstFrom, keyRow, freeRow}
+use Rattle.table.specs.Table.{addresses, outside, pastTop, regionOutside, regionRow, noRegion, sought, firstFrom, keyRow, freeRow}
 use Rattle.table.specs.View.{regionOf}
 use Rattle.table.specs.Claims.{RegionFits, RegionTested, EntryTested, Free, HasKey, First, KeyFound, FreeFound, RowSound, RegionsSound, Added, Removed, AddedSound, RemovedSound}
 
@@ -24,21 +24,21 @@ pub region-tested : RegionTested
 unfolding regionOutside outside pastTop
 region-tested memory r = (fits, passes)
   where
-    fits : (eqb (r .length) 0 || (ltb memory (r .offset + r .length) || leb (2 ^ 64) (r .address + r .length))) ≡ false → RegionFits memory r
+    fits : (eqb (r .length) 0 || (ltb memory (r .offset + r .length) || leb addresses (r .address + r .length))) ≡ false → RegionFits memory r
     fits h =
         let a : eqb (r .length) 0 ≡ false = or-left (eqb (r .length) 0) _ h in
-        let b : (ltb memory (r .offset + r .length) || leb (2 ^ 64) (r .address + r .length)) ≡ false = or-right (eqb (r .length) 0) _ h in
+        let b : (ltb memory (r .offset + r .length) || leb addresses (r .address + r .length)) ≡ false = or-right (eqb (r .length) 0) _ h in
         let ne : r .length ≡ 0 → ⊥ = eqb-false (r .length) 0 a in
         record {
           some = omega arith;
           within = ltb-false memory (r .offset + r .length) (or-left (ltb memory (r .offset + r .length)) _ b);
-          below = leb-false (2 ^ 64) (r .address + r .length) (or-right (ltb memory (r .offset + r .length)) _ b);
+          below = leb-false addresses (r .address + r .length) (or-right (ltb memory (r .offset + r .length)) _ b);
         }
 
-    passes : RegionFits memory r → (eqb (r .length) 0 || (ltb memory (r .offset + r .length) || leb (2 ^ 64) (r .address + r .length))) ≡ false
+    passes : RegionFits memory r → (eqb (r .length) 0 || (ltb memory (r .offset + r .length) || leb addresses (r .address + r .length))) ≡ false
     passes f =
         let ne : r .length ≡ 0 → ⊥ = λ e. omega (arith, f .some) in
-        rw (ne-eqb (r .length) 0 ne, le-ltb memory (r .offset + r .length) (f .within), lt-leb (2 ^ 64) (r .address + r .length) (f .below))
+        rw (ne-eqb (r .length) 0 ne, le-ltb memory (r .offset + r .length) (f .within), lt-leb addresses (r .address + r .length) (f .below))
 
 -- the test of a row, and what it means
 abbrev meets : Bool → ℕ → List ℕ → Bool

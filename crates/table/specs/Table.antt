@@ -11,9 +11,13 @@ use Rattle.table.specs.declared.Entry.{Entry}
 unfoldable pub outside : ℕ → ℕ → ℕ → Bool
 outside offset length memory = ltb memory (offset + length)
 
+-- addresses have 64 bits
+abbrev pub addresses : ℕ
+addresses = 2 ^ 64
+
 -- address plus length is not below 2^64
 unfoldable pub pastTop : ℕ → ℕ → Bool
-pastTop address length = leb (2 ^ 64) (address + length)
+pastTop address length = leb addresses (address + length)
 
 -- a region has length at least 1, lies in memory, and ends below 2^64
 unfoldable pub regionOutside : ℕ → ℕ → ℕ → ℕ → Bool

@@ -32,16 +32,16 @@ wide32-requires c κs = search needs
 find-requires : tie.Need-find-requires
 find-requires c κs = search needs
 
-returns-4 : tie.Need-returns-4
-unfolding addStatus addRegions executed statusNumber
-returns-4 c = (simp (ne-eqb _ _ (c .before .before .before .before .before .before .before .before .before .if1 .left), ← c .before .before .before .before .before .before .before .before .unsound .ensures, c .before .before .before .before .before .before .before .if2 .left, ← c .before .before .before .before .before .before .wide .ensures, ← c .before .before .before .before .before .region-outside .ensures, c .before .before .before .before .if3 .left, ← c .before .before .wide32 .ensures, ← c .before .find .ensures .0, lt-leb _ _ (c .if4 .taken), lt-ltb _ _ (c .if4 .taken)), simp (ne-eqb _ _ (c .before .before .before .before .before .before .before .before .before .if1 .left), ← c .before .before .before .before .before .before .before .before .unsound .ensures, c .before .before .before .before .before .before .before .if2 .left, ← c .before .before .before .before .before .before .wide .ensures, ← c .before .before .before .before .before .region-outside .ensures, c .before .before .before .before .if3 .left, ← c .before .before .wide32 .ensures, ← c .before .find .ensures .0, lt-leb _ _ (c .if4 .taken), lt-ltb _ _ (c .if4 .taken)))
-
 find-requires-2 : tie.Need-find-requires-2
 find-requires-2 c κs = search needs
 
+returns-4 : tie.Need-returns-4
+unfolding addStatus addRegions executed statusNumber
+returns-4 c = (simp (ne-eqb _ _ (c .before .before .before .before .before .before .before .before .before .before .before .if1 .left), ← c .before .before .before .before .before .before .before .before .before .before .unsound .ensures, c .before .before .before .before .before .before .before .before .before .if2 .left, ← c .before .before .before .before .before .before .before .before .wide .ensures, ← c .before .before .before .before .before .before .before .region-outside .ensures, c .before .before .before .before .before .before .if3 .left, ← c .before .before .before .before .wide32 .ensures, ← c .before .before .before .find .ensures .0, ← c .before .find2 .ensures .0, lt-leb _ _ (c .if4 .taken), lt-ltb _ _ (c .if4 .taken)), simp (ne-eqb _ _ (c .before .before .before .before .before .before .before .before .before .before .before .if1 .left), ← c .before .before .before .before .before .before .before .before .before .before .unsound .ensures, c .before .before .before .before .before .before .before .before .before .if2 .left, ← c .before .before .before .before .before .before .before .before .wide .ensures, ← c .before .before .before .before .before .before .before .region-outside .ensures, c .before .before .before .before .before .before .if3 .left, ← c .before .before .before .before .wide32 .ensures, ← c .before .before .before .find .ensures .0, ← c .before .find2 .ensures .0, lt-leb _ _ (c .if4 .taken), lt-ltb _ _ (c .if4 .taken)))
+
 returns-5 : tie.Need-returns-5
 unfolding addStatus addRegions executed statusNumber
-returns-5 c = (simp (ne-eqb _ _ (c .before .before .before .before .before .before .before .before .before .before .before .before .if1 .left), ← c .before .before .before .before .before .before .before .before .before .before .before .unsound .ensures, c .before .before .before .before .before .before .before .before .before .before .if2 .left, ← c .before .before .before .before .before .before .before .before .before .wide .ensures, ← c .before .before .before .before .before .before .before .before .region-outside .ensures, c .before .before .before .before .before .before .before .if3 .left, ← c .before .before .before .before .before .wide32 .ensures, ← c .before .before .before .before .find .ensures .0, le-ltb _ _ (c .before .before .before .if4 .left), le-leb _ _ (c .before .before .before .if4 .left), ← c .before .find2 .ensures .0, le-ltb _ _ (c .if5 .taken), le-leb _ _ (c .if5 .taken)), simp (ne-eqb _ _ (c .before .before .before .before .before .before .before .before .before .before .before .before .if1 .left), ← c .before .before .before .before .before .before .before .before .before .before .before .unsound .ensures, c .before .before .before .before .before .before .before .before .before .before .if2 .left, ← c .before .before .before .before .before .before .before .before .before .wide .ensures, ← c .before .before .before .before .before .before .before .before .region-outside .ensures, c .before .before .before .before .before .before .before .if3 .left, ← c .before .before .before .before .before .wide32 .ensures, ← c .before .before .before .before .find .ensures .0, le-ltb _ _ (c .before .before .before .if4 .left), le-leb _ _ (c .before .before .before .if4 .left), ← c .before .find2 .ensures .0, le-ltb _ _ (c .if5 .taken), le-leb _ _ (c .if5 .taken)))
+returns-5 c = (simp (ne-eqb _ _ (c .before .before .before .before .before .before .before .before .before .before .before .before .if1 .left), ← c .before .before .before .before .before .before .before .before .before .before .before .unsound .ensures, c .before .before .before .before .before .before .before .before .before .before .if2 .left, ← c .before .before .before .before .before .before .before .before .before .wide .ensures, ← c .before .before .before .before .before .before .before .before .region-outside .ensures, c .before .before .before .before .before .before .before .if3 .left, ← c .before .before .before .before .before .wide32 .ensures, ← c .before .before .before .before .find .ensures .0, ← c .before .before .find2 .ensures .0, le-ltb _ _ (c .before .if4 .left), le-leb _ _ (c .before .if4 .left), le-ltb _ _ (c .if5 .taken), le-leb _ _ (c .if5 .taken)), simp (ne-eqb _ _ (c .before .before .before .before .before .before .before .before .before .before .before .before .if1 .left), ← c .before .before .before .before .before .before .before .before .before .before .before .unsound .ensures, c .before .before .before .before .before .before .before .before .before .before .if2 .left, ← c .before .before .before .before .before .before .before .before .before .wide .ensures, ← c .before .before .before .before .before .before .before .before .region-outside .ensures, c .before .before .before .before .before .before .before .if3 .left, ← c .before .before .before .before .before .wide32 .ensures, ← c .before .before .before .before .find .ensures .0, ← c .before .before .find2 .ensures .0, le-ltb _ _ (c .before .if4 .left), le-leb _ _ (c .before .if4 .left), le-ltb _ _ (c .if5 .taken), le-leb _ _ (c .if5 .taken)))
 
 region-row-requires : tie.Need-region-row-requires
 region-row-requires c κs = search needs
@@ -54,7 +54,7 @@ element-set-from-row c = search needs
 
 returns-6 : tie.Need-returns-6
 unfolding addStatus addRegions executed statusNumber
-returns-6 c = (simp (ne-eqb _ _ (c .before .before .before .before .before .before .before .before .before .before .before .before .before .if1 .left), ← c .before .before .before .before .before .before .before .before .before .before .before .before .unsound .ensures, c .before .before .before .before .before .before .before .before .before .before .before .if2 .left, ← c .before .before .before .before .before .before .before .before .before .before .wide .ensures, ← c .before .before .before .before .before .before .before .before .before .region-outside .ensures, c .before .before .before .before .before .before .before .before .if3 .left, ← c .before .before .before .before .before .before .wide32 .ensures, ← c .before .before .before .before .before .find .ensures .0, le-ltb _ _ (c .before .before .before .before .if4 .left), le-leb _ _ (c .before .before .before .before .if4 .left), ← c .before .before .find2 .ensures .0, lt-leb _ _ (c .before .if5 .left), lt-ltb _ _ (c .before .if5 .left), ← c .region-row .ensures), simp (ne-eqb _ _ (c .before .before .before .before .before .before .before .before .before .before .before .before .before .if1 .left), ← c .before .before .before .before .before .before .before .before .before .before .before .before .unsound .ensures, c .before .before .before .before .before .before .before .before .before .before .before .if2 .left, ← c .before .before .before .before .before .before .before .before .before .before .wide .ensures, ← c .before .before .before .before .before .before .before .before .before .region-outside .ensures, c .before .before .before .before .before .before .before .before .if3 .left, ← c .before .before .before .before .before .before .wide32 .ensures, ← c .before .before .before .before .before .find .ensures .0, le-ltb _ _ (c .before .before .before .before .if4 .left), le-leb _ _ (c .before .before .before .before .if4 .left), ← c .before .before .find2 .ensures .0, lt-leb _ _ (c .before .if5 .left), lt-ltb _ _ (c .before .if5 .left), ← c .region-row .ensures))
+returns-6 c = (simp (ne-eqb _ _ (c .before .before .before .before .before .before .before .before .before .before .before .before .before .if1 .left), ← c .before .before .before .before .before .before .before .before .before .before .before .before .unsound .ensures, c .before .before .before .before .before .before .before .before .before .before .before .if2 .left, ← c .before .before .before .before .before .before .before .before .before .before .wide .ensures, ← c .before .before .before .before .before .before .before .before .before .region-outside .ensures, c .before .before .before .before .before .before .before .before .if3 .left, ← c .before .before .before .before .before .before .wide32 .ensures, ← c .before .before .before .before .before .find .ensures .0, ← c .before .before .before .find2 .ensures .0, le-ltb _ _ (c .before .before .if4 .left), le-leb _ _ (c .before .before .if4 .left), lt-leb _ _ (c .before .if5 .left), lt-ltb _ _ (c .before .if5 .left), ← c .region-row .ensures), simp (ne-eqb _ _ (c .before .before .before .before .before .before .before .before .before .before .before .before .before .if1 .left), ← c .before .before .before .before .before .before .before .before .before .before .before .before .unsound .ensures, c .before .before .before .before .before .before .before .before .before .before .before .if2 .left, ← c .before .before .before .before .before .before .before .before .before .before .wide .ensures, ← c .before .before .before .before .before .before .before .before .before .region-outside .ensures, c .before .before .before .before .before .before .before .before .if3 .left, ← c .before .before .before .before .before .before .wide32 .ensures, ← c .before .before .before .before .before .find .ensures .0, ← c .before .before .before .find2 .ensures .0, le-ltb _ _ (c .before .before .if4 .left), le-leb _ _ (c .before .before .if4 .left), lt-leb _ _ (c .before .if5 .left), lt-ltb _ _ (c .before .if5 .left), ← c .region-row .ensures))
 
 pub add-region-spec : {M : Type 1} → statement M
 add-region-spec =
@@ -68,8 +68,8 @@ add-region-spec =
     returns-3
     wide32-requires
     find-requires
-    returns-4
     find-requires-2
+    returns-4
     returns-5
     region-row-requires
     mul-row
