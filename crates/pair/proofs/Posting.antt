@@ -24,7 +24,7 @@ use Rattle.pair.specs.Pair.{blankPair, moved}
 use Rattle.pair.specs.Sound.{pairUnsound}
 use Rattle.pair.specs.Host.{entryLimit, postStatus, posted, postEntries}
 use Rattle.pair.specs.View.{heldOf, waitingOf, entriesOf}
-use Rattle.pair.specs.Claims.{SetupSound, MessageSound, Sound, PostError, PostRange, PostFull, PostDone, HeldWaiting, BlankRefused}
+use Rattle.pair.specs.Claims.{IsBlank, SetupSound, MessageSound, Sound, PostError, PostRange, PostFull, PostDone, HeldWaiting, BlankRefused}
 use Rattle.pair.proofs.Known.{holds-true, either, kept, done, unsound, sound}
 use Rattle.pair.proofs.Begin.{reset-never, ready-wrong}
 use Rattle.pair.proofs.Adding.{add-error}
@@ -197,6 +197,10 @@ unset (f, h) = go (f .pmtu)
     go (inr (inr (inl e))) = omega arith
     go (inr (inr (inr (inl e)))) = omega arith
     go (inr (inr (inr (inr e)))) = omega arith
+
+pub is-blank : IsBlank
+unfolding blankPair
+is-blank = record { state = refl; send = refl; write = refl; read = refl; atomic = refl; memory = refl }
 
 pub blank-refused : BlankRefused
 unfolding blankPair

@@ -246,6 +246,18 @@ PostDone =
 abbrev pub HeldWaiting : Type 0
 HeldWaiting = (q : Pair) (rows : List (List ℕ)) → heldOf q rows ++ waitingOf q rows ≡ entriesOf q rows
 
+-- The blank pair: in Error, no function enabled, no memory.
+pub record Blank (q : Pair) : Type 0 where
+  pub state : q .state ≡ 2
+  pub send : q .setup .send ≡ false
+  pub write : q .setup .write ≡ false
+  pub read : q .setup .read ≡ false
+  pub atomic : q .setup .atomic ≡ false
+  pub memory : q .setup .memory ≡ 0
+
+abbrev pub IsBlank : Type 0
+IsBlank = Blank blankPair
+
 -- The blank pair is of no use: every call that takes it is refused.
 abbrev pub BlankRefused : Type 0
 BlankRefused =

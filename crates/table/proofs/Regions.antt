@@ -11,9 +11,9 @@ use lib.Seq.{getD-set-same, getD-set-other, set-out}
 use borrow.Author.Tests.{lt-ltb, le-ltb, lt-leb, ne-eqb, ltb-true, ltb-false, leb-false, eqb-true, eqb-false}
 use Rattle.laws.proofs.Tests.{or-left, or-right}
 use Rattle.table.specs.declared.Region.{Region}
-use Rattle.table.specs.Table.{addresses, outside, pastTop, regionOutside, regionRow, noRegion, sought, firstFrom, keyRow, freeRow}
+use Rattle.table.specs.Table.{addresses, outside, pastTop, regionOutside, regionRow, noRegion, sought, firstFrom, keyRow, freeRow, entryRow}
 use Rattle.table.specs.View.{regionOf}
-use Rattle.table.specs.Claims.{RegionFits, RegionTested, EntryTested, Free, HasKey, First, KeyFound, FreeFound, RowSound, RegionsSound, Added, Removed, AddedSound, RemovedSound}
+use Rattle.table.specs.Claims.{RegionRows, EntryRows, RegionFits, RegionTested, EntryTested, Free, HasKey, First, KeyFound, FreeFound, RowSound, RegionsSound, Added, Removed, AddedSound, RemovedSound}
 
 pub entry-tested : EntryTested
 unfolding outside
@@ -39,6 +39,15 @@ region-tested memory r = (fits, passes)
     passes f =
         let ne : r .length ≡ 0 → ⊥ = λ e. omega (arith, f .some) in
         rw (ne-eqb (r .length) 0 ne, le-ltb memory (r .offset + r .length) (f .within), lt-leb addresses (r .address + r .length) (f .below))
+
+pub region-rows : RegionRows
+unfolding regionRow
+region-rows r =
+    (record { key = refl; address = refl; bytes = refl; offset = refl; write = refl; read = refl; atomic = refl }, refl)
+
+pub entry-rows : EntryRows
+unfolding entryRow
+entry-rows e = (refl, refl, refl, refl)
 
 -- the test of a row, and what it means
 abbrev meets : Bool → ℕ → List ℕ → Bool

@@ -35,6 +35,25 @@ EntryTested =
     → (outside (e .offset) (e .length) memory ≡ false → EntryFits memory e)
     × (EntryFits memory e → outside (e .offset) (e .length) memory ≡ false)
 
+-- Where each number of a region stands in its row, and of an entry.
+pub record RegionColumns (r : Region) (row : List ℕ) : Type 0 where
+  pub key : getD row 0 0 ≡ r .key
+  pub address : getD row 1 0 ≡ r .address
+  pub bytes : getD row 2 0 ≡ r .length
+  pub offset : getD row 3 0 ≡ r .offset
+  pub write : getD row 4 0 ≡ cond (r .write) 1 0
+  pub read : getD row 5 0 ≡ cond (r .read) 1 0
+  pub atomic : getD row 6 0 ≡ cond (r .atomic) 1 0
+
+abbrev pub RegionRows : Type 0
+RegionRows = (r : Region) → RegionColumns r (regionRow r) × (length (regionRow r) ≡ 7)
+
+abbrev pub EntryRows : Type 0
+EntryRows =
+    (e : Entry)
+    → (getD (entryRow e) 0 0 ≡ e .number) × (getD (entryRow e) 1 0 ≡ e .offset) × (getD (entryRow e) 2 0 ≡ e .length)
+    × (length (entryRow e) ≡ 3)
+
 -- A row is free, or it is the row of some region.
 abbrev pub Free : List ℕ → Type 0
 Free row = getD row 2 0 ≡ 0
