@@ -10,8 +10,8 @@ use lib.ListN.{length, set}
 use borrow.Author.Tests.{lt-ltb, le-leb, lt-leb, eq-eqb, ne-eqb, ltb-true, ltb-false, leb-true, leb-false, eqb-true, eqb-false}
 use Rattle.table.specs.Table.{regionOutside, regionRow, noRegion, keyRow, freeRow}
 use Rattle.table.specs.View.{regionOf}
-use Rattle.table.specs.Claims.{RegionFits}
-use Rattle.table.proofs.Regions.{region-tested, key-found, free-found, added, removed}
+use Rattle.table.specs.Claims.{HasKey, RegionFits}
+use Rattle.table.proofs.Regions.{first-one, region-tested, key-found, free-found, added, removed}
 use Rattle.table.specs.declared.Region.{Region}
 use Rattle.pair.specs.declared.Pair.{Pair}
 use Rattle.pair.specs.declared.Status.{Status}
@@ -19,7 +19,7 @@ use Rattle.pair.specs.declared.Status.the-variants as status
 use Rattle.pair.specs.Answer.{statusNumber, executed}
 use Rattle.pair.specs.Sound.{pairUnsound}
 use Rattle.pair.specs.Host.{addStatus, addRegions, removeStatus, removeRegions}
-use Rattle.pair.specs.Claims.{Sound, InUse, Full, AddError, AddRange, AddUsed, AddFull, AddDone, RemoveUnknown, RemoveDone}
+use Rattle.pair.specs.Claims.{RemoveFirst, Sound, InUse, Full, AddError, AddRange, AddUsed, AddFull, AddDone, RemoveUnknown, RemoveDone}
 use Rattle.pair.proofs.Known.{holds-true, either, kept, done, unsound, sound}
 
 -- Add region
@@ -137,12 +137,23 @@ remove-unknown rows key h =
     let e = unknown-remove rows key (key-unused key rows h) in
     (ap statusNumber e, kept (removeStatus rows key) status.NoSuchKey (set rows (keyRow key rows) noRegion) rows e refl)
 
+removed-row : (rows : List (List ℕ)) (key : ℕ) → keyRow key rows < 16 → removeRegions rows key ≡ set rows (keyRow key rows) noRegion
+unfolding removeRegions executed statusNumber
+removed-row rows key h = done (removeStatus rows key) status.Executed (set rows (keyRow key rows) noRegion) rows (done-remove rows key h) refl
+
+pub remove-first : RemoveFirst
+unfolding statusNumber
+remove-first rows key i h F =
+    let same : keyRow key rows ≡ i = first-one (HasKey key) rows (keyRow key rows) i (key-found key rows) F in
+    let b : keyRow key rows < 16 = omega arith in
+    (ap statusNumber (done-remove rows key b), removed-row rows key b ∙ ap (λ k. set rows k noRegion) same)
+
 pub remove-done : RemoveDone
 unfolding removeRegions executed statusNumber
 remove-done memory rows key S u =
     let b : keyRow key rows < 16 = key-used key rows u in
     let e = done-remove rows key b in
-    let n : removeRegions rows key ≡ set rows (keyRow key rows) noRegion = done (removeStatus rows key) status.Executed (set rows (keyRow key rows) noRegion) rows e refl in
+    let n = removed-row rows key b in
     let a = removed memory rows key S b in
     (ap statusNumber e, ap (regionOf key) n ∙ a .0, λ other ne. ap (regionOf other) n ∙ a .1 other ne)
 

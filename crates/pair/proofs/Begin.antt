@@ -3,6 +3,8 @@ use Prim.Native.Nat.{ℕ, _<_}
 use mathlib.Core.Path.{_≡_, refl, sym, ap, subst}
 use mathlib.Core.List.{List}
 use borrow.Author.Tests.{lt-ltb, le-ltb, eq-eqb, ne-eqb}
+use Rattle.table.specs.Table.{sought, firstFrom}
+use Rattle.table.specs.View.{regionOf, ringFrom, newest, newestSaved}
 use Rattle.pair.specs.declared.Setup.{Setup}
 use Rattle.pair.specs.declared.Pair.{Pair}
 use Rattle.pair.specs.declared.Status.the-variants as status
@@ -10,15 +12,19 @@ use Rattle.pair.specs.Answer.{statusNumber, executed}
 use Rattle.pair.specs.Pair.{freshPair, blankPair, moved}
 use Rattle.pair.specs.Sound.{memoryLimit, setupUnfit, setupUnsound}
 use Rattle.pair.specs.Host.{noRegions, setUpStatus, setUp, setUpRegions, resetStatus, resetTo, resetRegions, readyStatus, madeReady}
-use Rattle.pair.specs.Claims.{SetupFit, SetupSound, Sound, Fresh, SetUpBad, SetUpOver, SetUpDone, ResetDone, ResetNever, ReadyWrong, ReadyUnsound, ReadyDone}
+use Rattle.pair.specs.Claims.{Unmoved, FreshViews, SetupFit, SetupSound, Sound, Fresh, SetUpBad, SetUpOver, SetUpDone, ResetDone, ResetNever, ReadyWrong, ReadyUnsound, ReadyDone}
 use Rattle.pair.proofs.Tests.{setup-tested, setup-sound, sound-setup}
-use Rattle.pair.proofs.Known.{holds-true, kept, done, unsound, sound}
+use Rattle.pair.proofs.Known.{unmoved, holds-true, kept, done, unsound, sound}
 
 -- Set-up
 is-fresh : (s : Setup) → Fresh s (freshPair s)
 unfolding freshPair
 is-fresh s =
     record { setup = refl; state = refl; expected = refl; msn = refl; mark = refl; message = refl; entries = refl; read = refl; saved = refl }
+
+pub fresh-views : FreshViews
+unfolding freshPair regionOf sought firstFrom ringFrom newest newestSaved
+fresh-views s rows = (λ key. refl, refl, λ psn. refl)
 
 bad-status : (s : Setup) → (SetupFit s → ⊥) → setUpStatus s ≡ status.BadNumber
 unfolding setUpStatus
@@ -110,8 +116,16 @@ ready-unsound q h u =
     let e = unsound-ready q h u in
     (ap statusNumber e, kept (readyStatus q) status.OutOfRange (moved q 1 (q .entries)) q e refl)
 
-pub ready-done : ReadyDone
+pub ready-pair : (q : Pair) → q .state ≡ 0 → Sound q → madeReady q .pair ≡ moved q 1 (q .entries)
 unfolding madeReady executed statusNumber
+ready-pair q h S = done (readyStatus q) status.Executed (moved q 1 (q .entries)) q (done-ready q h S) refl
+
+pub ready-done : ReadyDone
+unfolding madeReady statusNumber
 ready-done q h S =
-    let e = done-ready q h S in
-    (ap statusNumber e, done (readyStatus q) status.Executed (moved q 1 (q .entries)) q e refl)
+    let p = ready-pair q h S in (
+      ap statusNumber (done-ready q h S),
+      ap (λ x. x .state) p,
+      ap (λ x. x .entries .count) p,
+      subst (Unmoved q) (sym p) (unmoved q 1 (q .entries) refl),
+    )

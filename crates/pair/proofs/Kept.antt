@@ -23,7 +23,7 @@ use Rattle.pair.specs.Host.{noRegions, setUpRegions, resetRegions, madeR
 use Rattle.pair.specs.Calls.{Whole, HostCall, begun, called, calledAll}
 use Rattle.pair.specs.Calls.HostCall.{Reset, MakeReady, AddRegion, RemoveRegion, PostEntry}
 use Rattle.pair.specs.Claims.{SetupSound, MessageSound, Sound, WholeSound, BegunSound, CallsSound}
-use Rattle.pair.proofs.Begin.{set-up-pair, set-up-regions, reset-pair, reset-regions, ready-wrong, ready-done}
+use Rattle.pair.proofs.Begin.{set-up-pair, set-up-regions, reset-pair, reset-regions, ready-wrong, ready-pair}
 use Rattle.pair.proofs.Adding.{AddEither, add-either}
 use Rattle.pair.proofs.Posting.{PostEither, post-either, held-some}
 
@@ -98,7 +98,7 @@ ready-kept w W = go (eqb (w .pair .state) 0) refl
     go : (t : Bool) → eqb (w .pair .state) 0 ≡ t
         → WholeSound (record { pair = madeReady (w .pair) .pair; regions = w .regions; entries = w .entries; saved = w .saved })
     go true e =
-        subst (λ q. WholeSound (record { pair = q; regions = w .regions; entries = w .entries; saved = w .saved })) (sym (ready-done (w .pair) (eqb-true (w .pair .state) 0 e) (W .pair) .1))
+        subst (λ q. WholeSound (record { pair = q; regions = w .regions; entries = w .entries; saved = w .saved })) (sym (ready-pair (w .pair) (eqb-true (w .pair .state) 0 e) (W .pair)))
         (record { pair = ready-sound (w .pair) (W .pair); regions = W .regions; entries = W .entries; saved = W .saved; held = W .held })
     go false e =
         subst (λ q. WholeSound (record { pair = q; regions = w .regions; entries = w .entries; saved = w .saved })) (sym (ready-wrong (w .pair) (eqb-false (w .pair .state) 0 e) .1)) W
@@ -141,7 +141,7 @@ one-more-sound q S n =
   where
     go : MessageSound q → MessageSound (moved q (q .state) (oneMore (q .entries)))
     go (inl e) = inl e
-    go (inr (inl (e, some))) = inr (inl (e, omega arith))
+    go (inr (inl (e, some, placed))) = inr (inl (e, omega arith, placed))
     go (inr (inr e)) = inr (inr e)
 
 -- the pair and the entries replaced

@@ -1,12 +1,15 @@
 -- What is known of an answer: its number, and what it left.
+use Prim.Native.Nat.{ℕ}
 use mathlib.Core.Path.{_≡_, refl, sym, ap, _∙_}
 use mathlib.Core.Bool.{Bool, true, false, cond}
+use Rattle.table.specs.declared.Ring.{Ring}
 use Rattle.pair.specs.declared.Pair.{Pair}
+use Rattle.pair.specs.Pair.{moved}
 use Rattle.pair.specs.declared.Status.{Status}
 use Rattle.pair.specs.declared.Status.the-variants as status
 use Rattle.pair.specs.Answer.{statusNumber, executed}
 use Rattle.pair.specs.Sound.{pairUnsound}
-use Rattle.pair.specs.Claims.{statusOf, NumberBack, OneNumber, Sound}
+use Rattle.pair.specs.Claims.{Unmoved, statusOf, NumberBack, OneNumber, Sound}
 use Rattle.pair.proofs.Tests.{tested}
 
 pub back : NumberBack
@@ -56,3 +59,8 @@ unsound q h = holds-true (pairUnsound q) (λ e. h (tested q .0 e))
 
 pub sound : (q : Pair) → Sound q → pairUnsound q ≡ false
 sound q S = tested q .1 S
+
+-- what a moved pair keeps
+pub unmoved : (q : Pair) (state : ℕ) (r : Ring) → r .head ≡ q .entries .head → Unmoved q (moved q state r)
+unmoved q state r h =
+    record { setup = refl; expected = refl; msn = refl; mark = refl; message = refl; head = h; read = refl; saved = refl }

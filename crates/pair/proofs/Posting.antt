@@ -1,6 +1,6 @@
 -- Entries posted: which answer the call gives, and what it leaves.
-use Prim.Native.Nat.{ℕ, _+_, _≤_, _<_}
-use mathlib.Core.Path.{_≡_, refl, sym, ap, _∙_}
+use Prim.Native.Nat.{ℕ, suc, _+_, _-_, _≤_, _<_}
+use mathlib.Core.Path.{_≡_, refl, sym, ap, subst, _∙_}
 use mathlib.Core.Bool.{Bool, true, false, cond, true≢false}
 use mathlib.Core.List.{List, [], _∷_, _++_}
 use mathlib.Core.Logic.{_⊎_, inl, inr}
@@ -11,7 +11,7 @@ use lib.Seq.{take-append-le, drop-append-le}
 use borrow.Author.Tests.{le-leb, lt-leb, eq-eqb, ne-eqb, leb-true, leb-false, eqb-true, eqb-false}
 use Rattle.pieces.specs.Claims.{IsPmtu}
 use Rattle.table.specs.Table.{outside, entryRow, slotAt}
-use Rattle.table.specs.View.{oneMore}
+use Rattle.table.specs.View.{ringFrom, oneMore}
 use Rattle.table.specs.Claims.{EntryFits}
 use Rattle.table.proofs.Rings.{appends, ring-length}
 use Rattle.table.proofs.Regions.{entry-tested}
@@ -24,8 +24,8 @@ use Rattle.pair.specs.Pair.{blankPair, moved}
 use Rattle.pair.specs.Sound.{pairUnsound}
 use Rattle.pair.specs.Host.{entryLimit, postStatus, posted, postEntries}
 use Rattle.pair.specs.View.{heldOf, waitingOf, entriesOf}
-use Rattle.pair.specs.Claims.{IsBlank, SetupSound, MessageSound, Sound, PostError, PostRange, PostFull, PostDone, HeldWaiting, BlankRefused}
-use Rattle.pair.proofs.Known.{holds-true, either, kept, done, unsound, sound}
+use Rattle.pair.specs.Claims.{Unmoved, HeldFirst, HeldNone, BlankUnsound, IsBlank, SetupSound, MessageSound, Sound, PostError, PostRange, PostFull, PostDone, HeldWaiting, BlankRefused}
+use Rattle.pair.proofs.Known.{unmoved, holds-true, either, kept, done, unsound, sound}
 use Rattle.pair.proofs.Begin.{reset-never, ready-wrong}
 use Rattle.pair.proofs.Adding.{add-error}
 
@@ -37,6 +37,10 @@ held-waiting q rows = go (eqb (q .message .kind) 0)
     go : (t : Bool) → cond t (take 1 (entriesOf q rows)) [] ++ cond t (drop 1 (entriesOf q rows)) (entriesOf q rows) ≡ entriesOf q rows
     go true = take-append-drop 1 (entriesOf q rows)
     go false = refl
+
+pub held-none : HeldNone
+unfolding heldOf
+held-none q rows h = rw (ne-eqb (q .message .kind) 0 h)
 
 -- so the 16 are those that the ring counts
 counted : (q : Pair) (rows : List (List ℕ)) → length (heldOf q rows) + length (waitingOf q rows) ≡ q .entries .count
@@ -50,8 +54,15 @@ held-some q S k = go (S .message)
   where
     go : MessageSound q → 1 ≤ q .entries .count
     go (inl e) = absurd (omega arith)
-    go (inr (inl (e, some))) = some
+    go (inr (inl (e, some, placed))) = some
     go (inr (inr (e, a, b, c))) = absurd (omega arith)
+
+pub held-first : HeldFirst
+unfolding heldOf ringFrom
+held-first q rows S k =
+    let some : 1 ≤ q .entries .count = held-some q S k in
+    let n : q .entries .count ≡ suc (q .entries .count - 1) = omega arith in
+    rw (eq-eqb (q .message .kind) 0 k) (ap (λ c. take 1 (ringFrom rows (q .entries .head) 0 c)) n)
 
 module _ (q : Pair) (rows : List (List ℕ)) (e : Entry) where
   post-refused : (s : Status) → postStatus q e ≡ s → executed s ≡ false
@@ -146,7 +157,8 @@ post-done q rows e h S f m l =
     let t = posted-entries q rows e h S f n in
     record {
       number = ap statusNumber (done-post q rows e h S f n);
-      pair = p ∙ ap (λ x. moved q (q .state) (x .entries)) (sym p);
+      state = ap (λ x. x .state) p;
+      unmoved = subst (Unmoved q) (sym p) (unmoved q (q .state) (oneMore (q .entries)) refl);
       waiting = ap (λ x. waitingOf x (postEntries q rows e)) p ∙ (ap (waitingOf (after q rows e)) t ∙ waiting-more q rows e S n l);
       held = ap (λ x. heldOf x (postEntries q rows e)) p ∙ (ap (heldOf (after q rows e)) t ∙ held-same q rows e S n l);
     }
@@ -201,6 +213,9 @@ unset (f, h) = go (f .pmtu)
 pub is-blank : IsBlank
 unfolding blankPair
 is-blank = record { state = refl; send = refl; write = refl; read = refl; atomic = refl; memory = refl }
+
+pub blank-unsound : BlankUnsound
+blank-unsound S = unset (S .setup)
 
 pub blank-refused : BlankRefused
 unfolding blankPair

@@ -105,13 +105,16 @@ unfolding writeUnsound pastTop
 fits-write placed address n (a, b, c) =
     neither (lt-leb n placed a) (neither (le-ltb memoryLimit n b) (lt-leb addresses (address + placed) c))
 
-send-fits : (entries : ℕ) → sendUnsound entries ≡ false → 1 ≤ entries
+send-fits : (placed entries : ℕ) → sendUnsound placed entries ≡ false → (1 ≤ entries) × (placed ≤ 1048576)
 unfolding sendUnsound
-send-fits entries h = omega (arith, tests)
+send-fits placed entries h =
+    let a : eqb entries 0 ≡ false = or-left (eqb entries 0) _ h in
+    let b : ltb memoryLimit placed ≡ false = or-right (eqb entries 0) _ h in
+    (omega (arith, tests), omega (arith, tests))
 
-fits-send : (entries : ℕ) → 1 ≤ entries → sendUnsound entries ≡ false
+fits-send : (placed entries : ℕ) → (1 ≤ entries) × (placed ≤ 1048576) → sendUnsound placed entries ≡ false
 unfolding sendUnsound
-fits-send entries h = ne-eqb entries 0 (λ z. omega arith)
+fits-send placed entries (a, b) = neither (ne-eqb entries 0 (λ z. omega arith)) (le-ltb memoryLimit placed b)
 
 message-fits : (q : Pair) → messageUnsound (q .message .kind) (q .message .placed) (q .message .address) (q .message .length) (q .entries .count) ≡ false
     → MessageSound q
@@ -119,11 +122,12 @@ unfolding messageUnsound
 message-fits q = go (eqb (q .message .kind) 255) refl (eqb (q .message .kind) 0) refl (eqb (q .message .kind) 6) refl
   where
     go : (a : Bool) → eqb (q .message .kind) 255 ≡ a → (b : Bool) → eqb (q .message .kind) 0 ≡ b → (c : Bool) → eqb (q .message .kind) 6 ≡ c
-        → cond a false (cond b (sendUnsound (q .entries .count)) (cond c (writeUnsound (q .message .placed) (q .message .address) (q .message .length)) true)) ≡ false
+        → cond a false (cond b (sendUnsound (q .message .placed) (q .entries .count)) (cond c (writeUnsound (q .message .placed) (q .message .address) (q .message .length)) true)) ≡ false
         → MessageSound q
     go true x b y c z h = inl (eqb-true (q .message .kind) 255 x)
     go false x true y c z h =
-        inr (inl (eqb-true (q .message .kind) 0 y, send-fits (q .entries .count) h))
+        let s = send-fits (q .message .placed) (q .entries .count) h in
+        inr (inl (eqb-true (q .message .kind) 0 y, s .0, s .1))
     go false x false y true z h =
         let w = write-fits (q .message .placed) (q .message .address) (q .message .length) h in
         inr (inr (eqb-true (q .message .kind) 6 z, w .0, w .1, w .2))
@@ -133,7 +137,7 @@ fits-message : (q : Pair) → MessageSound q
     → messageUnsound (q .message .kind) (q .message .placed) (q .message .address) (q .message .length) (q .entries .count) ≡ false
 unfolding messageUnsound
 fits-message q (inl e) = rw (eq-eqb (q .message .kind) 255 e)
-fits-message q (inr (inl (e, some))) = rw e (fits-send (q .entries .count) some)
+fits-message q (inr (inl (e, a, b))) = rw e (fits-send (q .message .placed) (q .entries .count) (a, b))
 fits-message q (inr (inr (e, a, b, c))) = rw e (fits-write (q .message .placed) (q .message .address) (q .message .length) (a, b, c))
 
 -- a READ being answered, on its numbers

@@ -5,21 +5,22 @@ use mathlib.Core.Bool.{false, cond}
 use lib.Dec.{eqb}
 use mathlib.Core.List.{List, [], _∷_, _++_}
 use mathlib.Core.Logic.{_⊎_}
-use lib.ListN.{length, getD}
+use lib.ListN.{length, getD, set}
 use Rattle.pieces.specs.Pieces.{pieces}
 use Rattle.pieces.specs.Claims.{IsPmtu}
 use Rattle.table.specs.Table.{regionRow, entryRow, noRegion, slotAt}
-use Rattle.table.specs.View.{regionOf}
-use Rattle.table.specs.Claims.{RegionFits, EntryFits, Free, HasKey, RegionsSound, EntriesSound, SavedSound}
+use Rattle.table.specs.View.{regionOf, newestSaved}
+use Rattle.table.specs.Claims.{RegionFits, EntryFits, Free, HasKey, First, RegionsSound, EntriesSound, SavedSound}
 use Rattle.table.specs.declared.Region.{Region}
 use Rattle.table.specs.declared.Entry.{Entry}
+use Rattle.table.specs.declared.Saved.the-variants.{Nothing}
 use Rattle.pair.specs.declared.Setup.{Setup}
 use Rattle.pair.specs.declared.Pair.{Pair}
 use Rattle.pair.specs.declared.HostOutcome.{HostOutcome}
 use Rattle.pair.specs.declared.Status.{Status}
 use Rattle.pair.specs.declared.Status.the-variants as status
 use Rattle.pair.specs.Answer.{statusNumber}
-use Rattle.pair.specs.Pair.{blankPair, moved}
+use Rattle.pair.specs.Pair.{blankPair, freshPair}
 use Rattle.pair.specs.Sound.{setupUnfit, pairUnsound}
 use Rattle.pair.specs.Host.{noRegions, setUp, setUpRegions, resetTo, resetRegions, madeReady, addStatus, addRegions, removeStatus, removeRegions, posted, postEntries}
 use Rattle.pair.specs.View.{heldOf, waitingOf, entriesOf}
@@ -45,7 +46,7 @@ statusOf n =
     (cond (eqb n 35) status.OutputShort
     (cond (eqb n 36) status.WrongState
     (cond (eqb n 37) status.NoSuchKey
-    (cond (eqb n 38) status.KeyInUse status.BadNumber)))))))))))))))))
+    (cond (eqb n 38) status.KeyInUse (cond (eqb n 39) status.BadNumber status.Executed))))))))))))))))))
 
 abbrev pub NumberBack : Type 0
 NumberBack = (a : Status) → statusOf (statusNumber a) ≡ a
@@ -54,7 +55,8 @@ NumberBack = (a : Status) → statusOf (statusNumber a) ≡ a
 abbrev pub OneNumber : Type 0
 OneNumber = (a b : Status) → statusNumber a ≡ statusNumber b → a ≡ b
 
--- Numbers that a set-up accepts, listed here once more and not by the definition under test; so are the conditions below.
+-- Numbers that a set-up accepts, listed here once more and not by the definition under test; so are the conditions of
+-- soundness and what a fresh pair is.
 pub record SetupFit (s : Setup) : Type 0 where
   pub pmtu : IsPmtu (s .pmtu)
   pub service : (s .service ≡ 0) ⊎ (s .service ≡ 1)
@@ -71,7 +73,7 @@ SetupSound s = SetupFit s × (s .memory ≤ 1048576)
 abbrev pub MessageSound : Pair → Type 0
 MessageSound q =
     (q .message .kind ≡ 255)
-    ⊎ (((q .message .kind ≡ 0) × (1 ≤ q .entries .count))
+    ⊎ (((q .message .kind ≡ 0) × (1 ≤ q .entries .count) × (q .message .placed ≤ 1048576))
     ⊎ ((q .message .kind ≡ 6)
     × (q .message .placed < q .message .length)
     × (q .message .length ≤ 1048576)
@@ -145,6 +147,17 @@ abbrev pub ResetNever : Type 0
 ResetNever =
     (q : Pair) (rows : List (List ℕ)) → (SetupSound (q .setup) → ⊥) → Answers (resetTo q) 34 q × (resetRegions q rows ≡ rows)
 
+-- Of two pairs, what neither make ready nor post entry moves, field by field.
+pub record Unmoved (old new : Pair) : Type 0 where
+  pub setup : new .setup ≡ old .setup
+  pub expected : new .expected ≡ old .expected
+  pub msn : new .msn ≡ old .msn
+  pub mark : new .mark ≡ old .mark
+  pub message : new .message ≡ old .message
+  pub head : new .entries .head ≡ old .entries .head
+  pub read : new .read ≡ old .read
+  pub saved : new .saved ≡ old .saved
+
 -- Make ready: the state moves, and nothing else.
 abbrev pub ReadyWrong : Type 0
 ReadyWrong = (q : Pair) → (q .state ≡ 0 → ⊥) → Answers (madeReady q) 36 q
@@ -153,7 +166,12 @@ abbrev pub ReadyUnsound : Type 0
 ReadyUnsound = (q : Pair) → q .state ≡ 0 → (Sound q → ⊥) → Answers (madeReady q) 34 q
 
 abbrev pub ReadyDone : Type 0
-ReadyDone = (q : Pair) → q .state ≡ 0 → Sound q → Answers (madeReady q) 0 (moved q 1 (q .entries))
+ReadyDone =
+    (q : Pair) → q .state ≡ 0 → Sound q
+    → (statusNumber (madeReady q .status) ≡ 0)
+    × (madeReady q .pair .state ≡ 1)
+    × (madeReady q .pair .entries .count ≡ q .entries .count)
+    × Unmoved q (madeReady q .pair)
 
 -- Add region: 36, 34, 38, 33, in this order, and a refusal leaves the table.
 abbrev pub Adds : Pair → List (List ℕ) → Region → ℕ → Type 0
@@ -197,7 +215,12 @@ AddDone =
     × (regionOf (r .key) (addRegions q rows r) ≡ regionRow r)
     × ((key : ℕ) → (key ≡ r .key → ⊥) → regionOf key (addRegions q rows r) ≡ regionOf key rows)
 
--- Remove region.
+-- Remove region. In whatever table, it is the first row of the key that is emptied; in a sound one the key is then gone.
+abbrev pub RemoveFirst : Type 0
+RemoveFirst =
+    (rows : List (List ℕ)) (key i : ℕ) → i < 16 → First (HasKey key) rows i
+    → (statusNumber (removeStatus rows key) ≡ 0) × (removeRegions rows key ≡ set rows i noRegion)
+
 abbrev pub RemoveUnknown : Type 0
 RemoveUnknown =
     (rows : List (List ℕ)) (key : ℕ) → (InUse key rows → ⊥)
@@ -231,7 +254,8 @@ PostFull =
 -- An entry posted waits behind the others; the one held is as it was, and of the pair nothing else moves.
 pub record PostsLast (q : Pair) (rows : List (List ℕ)) (e : Entry) : Type 0 where
   pub number : statusNumber (posted q e .status) ≡ 0
-  pub pair : posted q e .pair ≡ moved q (q .state) (posted q e .pair .entries)
+  pub state : posted q e .pair .state ≡ q .state
+  pub unmoved : Unmoved q (posted q e .pair)
   pub waiting : waitingOf (posted q e .pair) (postEntries q rows e) ≡ waitingOf q rows ++ (entryRow e ∷ [])
   pub held : heldOf (posted q e .pair) (postEntries q rows e) ≡ heldOf q rows
 
@@ -242,9 +266,26 @@ PostDone =
     → length rows ≡ 16
     → PostsLast q rows e
 
--- The entries are the one held, then those waiting.
+-- The entry held is the first of the ring, where a SEND is open, and there is none where not; the entries are the one
+-- held, then those waiting.
+abbrev pub HeldFirst : Type 0
+HeldFirst =
+    (q : Pair) (rows : List (List ℕ)) → Sound q → q .message .kind ≡ 0
+    → heldOf q rows ≡ getD rows (slotAt (q .entries .head) 0) [] ∷ []
+
+abbrev pub HeldNone : Type 0
+HeldNone = (q : Pair) (rows : List (List ℕ)) → (q .message .kind ≡ 0 → ⊥) → heldOf q rows ≡ []
+
 abbrev pub HeldWaiting : Type 0
 HeldWaiting = (q : Pair) (rows : List (List ℕ)) → heldOf q rows ++ waitingOf q rows ≡ entriesOf q rows
+
+-- A fresh pair's tables hold nothing.
+abbrev pub FreshViews : Type 0
+FreshViews =
+    (s : Setup) (rows : List (List ℕ))
+    → ((key : ℕ) → regionOf key noRegions ≡ noRegion)
+    × (entriesOf (freshPair s) rows ≡ [])
+    × ((psn : ℕ) → newestSaved psn rows (freshPair s .saved) ≡ Nothing)
 
 -- The blank pair: in Error, no function enabled, no memory.
 pub record Blank (q : Pair) : Type 0 where
@@ -266,6 +307,9 @@ BlankRefused =
     × Answers (madeReady blankPair) 36 blankPair
     × Adds blankPair rows r 36
     × Posts blankPair rows e 36
+
+abbrev pub BlankUnsound : Type 0
+BlankUnsound = Sound blankPair → ⊥
 
 -- The pair and its tables, as calls make them.
 pub record WholeSound (w : Whole) : Type 0 where

@@ -1,4 +1,4 @@
--- Which pairs no call could have made. Each test names the failing case, as the code does.
+-- Pairs with a number out of its range, which no call makes. Each test names the failing case, as the code does.
 use Prim.Native.Nat.{ℕ, _%_}
 use mathlib.Core.Bool.{Bool, true, false, cond, not, _||_}
 use lib.Dec.{eqb, ltb, leb}
@@ -32,9 +32,10 @@ numbersUnsound state expected msn = ltb 2 state || (leb space expected || leb sp
 unfoldable pub ringUnsound : ℕ → ℕ → Bool
 ringUnsound head count = leb 16 head || ltb 16 count
 
--- an open SEND holds an entry; an open WRITE has bytes to come, within the limit, and the next of them has an address
-unfoldable pub sendUnsound : ℕ → Bool
-sendUnsound entries = eqb entries 0
+-- an open SEND holds an entry and has placed no more bytes than memory can have; an open WRITE has bytes to come, within
+-- the limit, and the next of them has an address
+unfoldable pub sendUnsound : ℕ → ℕ → Bool
+sendUnsound placed entries = eqb entries 0 || ltb memoryLimit placed
 
 unfoldable pub writeUnsound : ℕ → ℕ → ℕ → Bool
 writeUnsound placed address length = leb length placed || (ltb memoryLimit length || pastTop address placed)
@@ -42,7 +43,7 @@ writeUnsound placed address length = leb length placed || (ltb memoryLimit lengt
 unfoldable pub messageUnsound : ℕ → ℕ → ℕ → ℕ → ℕ → Bool
 messageUnsound kind placed address length entries =
     cond (eqb kind 255) false
-    (cond (eqb kind 0) (sendUnsound entries)
+    (cond (eqb kind 0) (sendUnsound placed entries)
     (cond (eqb kind 6) (writeUnsound placed address length) true))
 
 -- a READ being answered has no more responses remaining than it has at all, its bytes lie in memory, its numbers have 24 bits

@@ -49,8 +49,8 @@ pub struct OpenMessage {
     pub length: usize,
 }
 
-// A READ that is being answered: the responses still to send, the bytes they are cut from, the first one's PSN, and
-// the MSN that all carry.
+// A READ that is being answered: how many responses are still to send, the bytes of memory that it reads, the PSN of its
+// first response, and the MSN that all of them carry.
 pub struct ReadAnswer {
     pub remaining: usize,
     pub offset: usize,
@@ -138,7 +138,7 @@ fn fresh(setup: Setup) -> Pair
     }
 }
 
-// What a refused set-up gives in place of a pair: every later call refuses it.
+// What a refused set-up gives in place of a pair: every call that takes a pair refuses it.
 pub fn blank() -> Pair
     ensures { λ r. ⌜ r ≡ blankPair ⌝ }
 {

@@ -1,10 +1,11 @@
-// Which pairs a call could have made.
+// Pairs with a number out of its range, which no call makes.
 use crate::Pair;
 use crate::Setup;
+use sequence::Msn;
 use sequence::Psn;
 ghost use mathlib.Core.Path.{_≡_};
 ghost use Rattle.table.specs.Table.{outside};
-ghost use Rattle.pair.specs.Sound.{setupUnfit, setupUnsound, ringUnsound, messageUnsound, readUnsound, numbersUnsound, pairUnsound};
+ghost use Rattle.pair.specs.Sound.{setupUnfit, setupUnsound, ringUnsound, sendUnsound, messageUnsound, readUnsound, numbersUnsound, pairUnsound};
 
 fn wide(x: usize) -> u64
     ensures { λ r. ⌜ r ≡ x ⌝ }
@@ -65,7 +66,17 @@ fn ring_unsound(head: usize, count: usize) -> bool
     16 < count
 }
 
-// An open SEND holds an entry; an open WRITE has bytes to come, within the limit, and its next address is one.
+// An open SEND holds an entry, and has placed no more than memory can have.
+fn send_unsound(placed: usize, entries: usize) -> bool
+    ensures { λ r. ⌜ r ≡ sendUnsound placed entries ⌝ }
+{
+    if entries == 0 {
+        return true;
+    }
+    crate::LIMIT < placed
+}
+
+// An open WRITE has bytes to come, within the limit, and its next byte has an address.
 fn message_unsound(kind: u8, placed: usize, address: u64, length: usize, entries: usize) -> bool
     ensures { λ r. ⌜ r ≡ messageUnsound kind placed address length entries ⌝ }
 {
@@ -73,7 +84,7 @@ fn message_unsound(kind: u8, placed: usize, address: u64, length: usize, entries
         return false;
     }
     if kind == opcode::SEND {
-        return entries == 0;
+        return send_unsound(placed, entries);
     }
     if kind != opcode::WRITE {
         return true;
@@ -92,12 +103,12 @@ fn read_unsound(
     remaining: usize,
     offset: usize,
     length: usize,
-    psn: u32,
-    msn: u32,
+    psn: Psn,
+    msn: Msn,
     pmtu: usize,
     memory: usize,
 ) -> bool
-    ensures { λ r. ⌜ r ≡ readUnsound remaining offset length psn msn pmtu memory ⌝ }
+    ensures { λ r. ⌜ r ≡ readUnsound remaining offset length (psn .0) (msn .0) pmtu memory ⌝ }
 {
     if remaining == 0 {
         return false;
@@ -109,25 +120,25 @@ fn read_unsound(
     if off {
         return true;
     }
-    if Psn::SPACE <= psn {
+    if Psn::SPACE <= psn.0 {
         return true;
     }
-    Psn::SPACE <= msn
+    16777216 <= msn.0
 }
 
-fn numbers_unsound(state: u8, expected: u32, msn: u32) -> bool
-    ensures { λ r. ⌜ r ≡ numbersUnsound state expected msn ⌝ }
+fn numbers_unsound(state: u8, expected: Psn, msn: Msn) -> bool
+    ensures { λ r. ⌜ r ≡ numbersUnsound state (expected .0) (msn .0) ⌝ }
 {
     if 2 < state {
         return true;
     }
-    if Psn::SPACE <= expected {
+    if Psn::SPACE <= expected.0 {
         return true;
     }
-    Psn::SPACE <= msn
+    16777216 <= msn.0
 }
 
-// Whether no call could have made the pair.
+// Whether some number of the pair is out of its range.
 pub fn unsound(pair: Pair) -> bool
     ensures { λ r. ⌜ r ≡ pairUnsound pair ⌝ }
 {
@@ -136,7 +147,7 @@ pub fn unsound(pair: Pair) -> bool
     if a {
         return true;
     }
-    let b = numbers_unsound(pair.state, pair.expected.0, pair.msn.0);
+    let b = numbers_unsound(pair.state, pair.expected, pair.msn);
     if b {
         return true;
     }
@@ -162,8 +173,8 @@ pub fn unsound(pair: Pair) -> bool
         pair.read.remaining,
         pair.read.offset,
         pair.read.length,
-        pair.read.psn.0,
-        pair.read.msn.0,
+        pair.read.psn,
+        pair.read.msn,
         pair.setup.pmtu,
         pair.setup.memory,
     )

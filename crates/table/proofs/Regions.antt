@@ -134,7 +134,7 @@ free-found rows =
     }
 
 -- there is one first
-first-one : (good : List ℕ → Type 0) (rows : List (List ℕ)) (i j : ℕ) → First good rows i → First good rows j → i ≡ j
+pub first-one : (good : List ℕ → Type 0) (rows : List (List ℕ)) (i j : ℕ) → First good rows i → First good rows j → i ≡ j
 first-one good rows i j F G = go (ltb i j) refl (ltb j i) refl
   where
     go : (a : Bool) → ltb i j ≡ a → (b : Bool) → ltb j i ≡ b → i ≡ j

@@ -1,19 +1,20 @@
 -- Rings: a row more at the end, a row less at the head.
-use Prim.Native.Nat.{ℕ, zero, suc, _+_, _-_, _≤_, _<_}
+use Prim.Native.Nat.{ℕ, zero, suc, _+_, _-_, _^_, _≤_, _<_}
 use mathlib.Core.Path.{_≡_, refl, sym, ap, subst, _∙_}
 use mathlib.Core.Bool.{Bool, true, false, cond}
 use mathlib.Core.List.{List, [], _∷_, _++_}
 use native.Mathlib.Omega.{arith}
 use native.Mathlib.Numerals.{add-one}
-use lib.Dec.{eqb}
-use lib.ListN.{length, getD, set, length-set}
+use lib.Dec.{eqb, ltb}
+use lib.ListN.{length, getD, set, drop, length-set}
 use lib.Seq.{getD-set-same, getD-set-other}
-use borrow.Author.Tests.{lt-ltb, le-ltb, eq-eqb, ne-eqb, eqb-true, eqb-false}
+use borrow.Author.Tests.{lt-ltb, le-ltb, eq-eqb, ne-eqb, eqb-true, eqb-false, ltb-true, ltb-false}
+use Rattle.table.specs.declared.Ring.{Ring}
 use Rattle.table.specs.declared.Saved.{Saved}
 use Rattle.table.specs.declared.Saved.the-variants.{Value, Nothing}
 use Rattle.table.specs.Table.{slotAt, entryRow}
-use Rattle.table.specs.View.{ringFrom, later, newest, savedRing, savedRows}
-use Rattle.table.specs.Claims.{EntrySound, InUseKept, PostedSound, Appends, Takes, Saves, SavesFull, Newest}
+use Rattle.table.specs.View.{ringFrom, inRing, oneMore, later, newest, newestSaved, savedRing, savedRows}
+use Rattle.table.specs.Claims.{SavedSound, SavesSound, NewestNone, NewestSaved, SavedFound, SavedOther, EntrySound, InUseKept, PostedSound, Appends, Takes, Saves, SavesFull, Newest}
 
 -- two places less than 16 apart are different rows
 apart : (head i n : ℕ) → i < n → n < i + 16 → slotAt head i ≡ slotAt head n → ⊥
@@ -82,24 +83,31 @@ pub in-use-kept : InUseKept
 in-use-kept rows r row i h b =
     getD-set-other rows (slotAt (r .head) (r .count)) (slotAt (r .head) i) row [] (apart (r .head) i (r .count) b (omega arith))
 
+-- what holds of the rows from place j to n, and of the row stored behind them, holds of all
+each-behind : (P : List ℕ → Type 0) (rows : List (List ℕ)) (head : ℕ) (row : List ℕ) (j n : ℕ) → length rows ≡ 16 → n < j + 16 → P row
+    → ((i : ℕ) → j ≤ i → i < n → P (getD rows (slotAt head i) []))
+    → (i : ℕ) → j ≤ i → i < n + 1 → P (getD (set rows (slotAt head n) row) (slotAt head i) [])
+each-behind P rows head row j n l h new old i a b = go (eqb i n) refl
+  where
+    there : slotAt head n < length rows
+    there = omega (arith, l, slot-below head n)
+
+    go : (t : Bool) → eqb i n ≡ t → P (getD (set rows (slotAt head n) row) (slotAt head i) [])
+    go true e =
+        subst (λ k. P (getD (set rows (slotAt head n) row) (slotAt head k) [])) (sym (eqb-true i n e))
+        (subst P (sym (getD-set-same rows (slotAt head n) row [] there)) new)
+    go false e =
+        let ne : i ≡ n → ⊥ = eqb-false i n e in
+        let c : i < n = omega arith in
+        subst P (sym (getD-set-other rows (slotAt head n) (slotAt head i) row [] (apart head i n c (omega arith)))) (old i a c)
+
 pub posted-sound : PostedSound
 posted-sound memory rows r e S h fits =
     let l : length rows ≡ 16 = S .rows16 in
-    let at = slotAt (r .head) (r .count) in
-    let new : getD (set rows at (entryRow e)) at [] ≡ entryRow e = getD-set-same rows at (entryRow e) [] (omega (arith, slot-below (r .head) (r .count))) in
     record {
-      rows16 = length-set rows at (entryRow e) ∙ l;
-      each = λ i b. go new i (eqb i (r .count)) refl b;
+      rows16 = length-set rows (slotAt (r .head) (r .count)) (entryRow e) ∙ l;
+      each = λ i b. each-behind (EntrySound memory) rows (r .head) (entryRow e) 0 (r .count) l (omega arith) (e, refl, fits) (λ k z c. S .each k c) i (omega arith) b;
     }
-  where
-    go : getD (set rows (slotAt (r .head) (r .count)) (entryRow e)) (slotAt (r .head) (r .count)) [] ≡ entryRow e
-        → (i : ℕ) (t : Bool) → eqb i (r .count) ≡ t → i < r .count + 1
-        → EntrySound memory (getD (set rows (slotAt (r .head) (r .count)) (entryRow e)) (slotAt (r .head) i) [])
-    go new i true d b = (e, ap (λ k. getD (set rows (slotAt (r .head) (r .count)) (entryRow e)) (slotAt (r .head) k) []) (eqb-true i (r .count) d) ∙ new, fits)
-    go new i false d b =
-        let ne : i ≡ r .count → ⊥ = eqb-false i (r .count) d in
-        let c : i < r .count = omega arith in
-        subst (EntrySound memory) (sym (in-use-kept rows r (entryRow e) i h c)) (S .each i c)
 
 pub takes : Takes
 unfolding ringFrom
@@ -148,3 +156,83 @@ module _ (psn : ℕ) (rows : List (List ℕ)) (head n : ℕ) (h : 0 < n) where
 pub newest-none : (psn : ℕ) (rows : List (List ℕ)) (head n : ℕ) → n ≤ 0 → newest psn (ringFrom rows head 0 n) ≡ Nothing
 unfolding newest ringFrom
 newest-none psn rows head n h = let e : n ≡ 0 = omega arith in rw e
+
+-- Saved atomics
+pub newest-empty : NewestNone
+unfolding newest
+newest-empty psn = refl
+
+pub newest-saved : NewestSaved
+unfolding newestSaved
+newest-saved psn rows r h = rw (le-ltb 16 (r .count) h)
+
+-- the ring after saving
+grows : (r : Ring) → r .count < 16 → savedRing r ≡ oneMore r
+unfolding savedRing
+grows r h = rw (lt-ltb (r .count) 16 h)
+
+turns : (r : Ring) → 16 ≤ r .count → savedRing r ≡ (record { head = slotAt (r .head) 1; count = r .count })
+unfolding savedRing
+turns r h = rw (le-ltb (r .count) 16 h)
+
+-- what is saved is the last of the list, whether 16 were saved before or not
+last-saved : (rows : List (List ℕ)) (r : Ring) (psn value : ℕ) → length rows ≡ 16 → r .count ≤ 16
+    → (l : List (List ℕ)) × (inRing (savedRows rows r psn value) (savedRing r) ≡ l ++ ((psn ∷ value ∷ []) ∷ []))
+last-saved rows r psn value l h = go (ltb (r .count) 16) refl
+  where
+    go : (t : Bool) → ltb (r .count) 16 ≡ t → (k : List (List ℕ)) × (inRing (savedRows rows r psn value) (savedRing r) ≡ k ++ ((psn ∷ value ∷ []) ∷ []))
+    go true e = (inRing rows r, saves rows r psn value l (ltb-true (r .count) 16 e))
+    go false e = (drop 1 (inRing rows r), saves-full rows r psn value l (omega (arith, ltb-false (r .count) 16 e)))
+
+ring-bounds : (r : Ring) → r .head < 16 → r .count ≤ 16 → (savedRing r .head < 16) × (savedRing r .count ≤ 16)
+ring-bounds r a b = go (ltb (r .count) 16) refl
+  where
+    go : (t : Bool) → ltb (r .count) 16 ≡ t → (savedRing r .head < 16) × (savedRing r .count ≤ 16)
+    go true e =
+        let n : r .count < 16 = ltb-true (r .count) 16 e in
+        subst (λ x. (x .head < 16) × (x .count ≤ 16)) (sym (grows r n)) (a, omega arith)
+    go false e = subst (λ x. (x .head < 16) × (x .count ≤ 16)) (sym (turns r (ltb-false (r .count) 16 e))) (slot-below (r .head) 1, b)
+
+pub saved-found : SavedFound
+saved-found rows r psn value l h =
+    let k = last-saved rows r psn value l h in
+    newest-saved psn (savedRows rows r psn value) (savedRing r) (counted (ltb (r .count) 16) refl)
+    ∙ (ap (newest psn) (k .1) ∙ (newest-last psn (k .0) (psn ∷ value ∷ []) ∙ rw (eq-eqb psn psn refl)))
+  where
+    counted : (t : Bool) → ltb (r .count) 16 ≡ t → savedRing r .count ≤ 16
+    counted true e =
+        let n : r .count < 16 = ltb-true (r .count) 16 e in
+        subst (λ x. x .count ≤ 16) (sym (grows r n)) (omega arith)
+    counted false e = subst (λ x. x .count ≤ 16) (sym (turns r (ltb-false (r .count) 16 e))) h
+
+pub saved-other : SavedOther
+saved-other rows r psn value other l h ne =
+    let n : savedRing r .count ≤ 16 = subst (λ x. x .count ≤ 16) (sym (grows r h)) (omega arith) in
+    newest-saved other (savedRows rows r psn value) (savedRing r) n
+    ∙ (ap (newest other) (saves rows r psn value l h)
+    ∙ (newest-last other (inRing rows r) (psn ∷ value ∷ [])
+    ∙ (rw (ne-eqb psn other ne) (sym (newest-saved other rows r (omega arith))))))
+
+-- a row of 24 and 64 bits
+abbrev SavedRow : List ℕ → Type 0
+SavedRow row = (getD row 0 0 < 2 ^ 24) × (getD row 1 0 < 2 ^ 64)
+
+pub saves-sound : SavesSound
+unfolding savedRows
+saves-sound rows r psn value S a b p v =
+    let l : length rows ≡ 16 = S .rows16 in
+    let kept : length (savedRows rows r psn value) ≡ 16 = length-set rows (slotAt (r .head) (r .count)) (psn ∷ value ∷ []) ∙ l in
+    let bounds = ring-bounds r a b in
+    (record { rows16 = kept; each = go l (ltb (r .count) 16) refl }, bounds .0, bounds .1)
+  where
+    go : length rows ≡ 16 → (t : Bool) → ltb (r .count) 16 ≡ t
+        → (i : ℕ) → i < savedRing r .count → SavedRow (getD (savedRows rows r psn value) (slotAt (savedRing r .head) i) [])
+    go l true e =
+        let n : r .count < 16 = ltb-true (r .count) 16 e in
+        subst (λ x. (i : ℕ) → i < x .count → SavedRow (getD (savedRows rows r psn value) (slotAt (x .head) i) [])) (sym (grows r n))
+        (λ i c. each-behind SavedRow rows (r .head) (psn ∷ value ∷ []) 0 (r .count) l (omega arith) (p, v) (λ k z d. S .each k d) i (omega arith) c)
+    go l false e =
+        let n : 16 ≤ r .count = ltb-false (r .count) 16 e in
+        subst (λ x. (i : ℕ) → i < x .count → SavedRow (getD (savedRows rows r psn value) (slotAt (x .head) i) [])) (sym (turns r n))
+        (λ i c. subst (λ k. SavedRow (getD (savedRows rows r psn value) k [])) (sym (slot-next (r .head) i))
+        (each-behind SavedRow rows (r .head) (psn ∷ value ∷ []) 1 (r .count) l (omega arith) (p, v) (λ k z d. S .each k d) (suc i) (omega arith) (omega arith)))

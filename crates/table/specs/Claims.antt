@@ -9,9 +9,9 @@ use lib.ListN.{length, getD, set, drop}
 use Rattle.table.specs.declared.Region.{Region}
 use Rattle.table.specs.declared.Entry.{Entry}
 use Rattle.table.specs.declared.Ring.{Ring}
-use Rattle.table.specs.declared.Saved.the-variants.{Value}
+use Rattle.table.specs.declared.Saved.the-variants.{Value, Nothing}
 use Rattle.table.specs.Table.{outside, regionOutside, regionRow, entryRow, noRegion, keyRow, freeRow, slotAt}
-use Rattle.table.specs.View.{regionOf, inRing, oneMore, newest, savedRing, savedRows}
+use Rattle.table.specs.View.{regionOf, inRing, oneMore, newest, newestSaved, savedRing, savedRows}
 
 -- A region that the rules allow in memory of that length, and an entry.
 pub record RegionFits (memory : ℕ) (r : Region) : Type 0 where
@@ -154,8 +154,32 @@ SavesFull =
     (rows : List (List ℕ)) (r : Ring) (psn value : ℕ) → length rows ≡ 16 → r .count ≡ 16
     → inRing (savedRows rows r psn value) (savedRing r) ≡ drop 1 (inRing rows r) ++ ((psn ∷ value ∷ []) ∷ [])
 
--- The newest of a list that ends in a row is that row's value if it has the PSN, else the newest of the rest.
+-- Saving keeps what is saved sound, and the ring within the table.
+abbrev pub SavesSound : Type 0
+SavesSound =
+    (rows : List (List ℕ)) (r : Ring) (psn value : ℕ) → SavedSound rows r → r .head < 16 → r .count ≤ 16 → psn < 2 ^ 24 → value < 2 ^ 64
+    → SavedSound (savedRows rows r psn value) (savedRing r) × (savedRing r .head < 16) × (savedRing r .count ≤ 16)
+
+-- The newest of no rows is nothing; of a list that ends in a row it is that row's value if it has the PSN, else the
+-- newest of the rest. In a table it is the newest of the rows in use.
+abbrev pub NewestNone : Type 0
+NewestNone = (psn : ℕ) → newest psn [] ≡ Nothing
+
 abbrev pub Newest : Type 0
 Newest =
     (psn : ℕ) (rows : List (List ℕ)) (row : List ℕ)
     → newest psn (rows ++ (row ∷ [])) ≡ cond (eqb (getD row 0 0) psn) (Value (getD row 1 0)) (newest psn rows)
+
+abbrev pub NewestSaved : Type 0
+NewestSaved = (psn : ℕ) (rows : List (List ℕ)) (r : Ring) → r .count ≤ 16 → newestSaved psn rows r ≡ newest psn (inRing rows r)
+
+-- So an atomic is found as soon as it is saved, and one of another number is as it was, unless it was the oldest of 16.
+abbrev pub SavedFound : Type 0
+SavedFound =
+    (rows : List (List ℕ)) (r : Ring) (psn value : ℕ) → length rows ≡ 16 → r .count ≤ 16
+    → newestSaved psn (savedRows rows r psn value) (savedRing r) ≡ Value value
+
+abbrev pub SavedOther : Type 0
+SavedOther =
+    (rows : List (List ℕ)) (r : Ring) (psn value other : ℕ) → length rows ≡ 16 → r .count < 16 → (psn ≡ other → ⊥)
+    → newestSaved other (savedRows rows r psn value) (savedRing r) ≡ newestSaved other rows r

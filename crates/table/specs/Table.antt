@@ -19,7 +19,7 @@ addresses = 2 ^ 64
 unfoldable pub pastTop : ℕ → ℕ → Bool
 pastTop address length = leb addresses (address + length)
 
--- a region has length at least 1, lies in memory, and ends below 2^64
+-- a region has some bytes, all of them in memory, and its end is below 2^64
 unfoldable pub regionOutside : ℕ → ℕ → ℕ → ℕ → Bool
 regionOutside address length offset memory = eqb length 0 || (outside offset length memory || pastTop address length)
 

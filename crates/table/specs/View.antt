@@ -22,7 +22,7 @@ ringFrom rows head i (suc n) = getD rows (slotAt head i) [] ∷ ringFrom rows he
 abbrev pub inRing : List (List ℕ) → Ring → List (List ℕ)
 inRing rows r = ringFrom rows (r .head) 0 (r .count)
 
--- the ring with a row more, and the ring without its first row
+-- the ring with a row more
 abbrev pub oneMore : Ring → Ring
 oneMore r = record { head = r .head; count = r .count + 1 }
 

@@ -6,9 +6,6 @@ ghost use Prim.Native.Nat.{_≤_, _<_};
 ghost use Rattle.table.specs.View.{ringFrom, newest, newestSaved, savedRing, savedRows};
 ghost use Rattle.table.specs.Table.{sought, firstFrom, regionRow, entryRow, slotAt, outside, pastTop, regionOutside};
 
-// The rows of each table.
-pub const ROWS: usize = 16;
-
 // Memory that peers may name by a key. Its row has the fields in this order, a right as 1 or 0.
 // A row of length 0 is empty.
 pub struct Region {
@@ -164,7 +161,7 @@ pub fn save(saved: &mut [[u64; 2]; 16], ring: Ring, psn: Psn, value: u64)
     saved[at] = row;
 }
 
-// The value of the newest saved atomic with this PSN.
+// What the atomic saved last under this PSN answered.
 pub fn newest(saved: &[[u64; 2]; 16], ring: Ring, psn: Psn) -> Saved
     ensures { λ r. ⌜ r ≡ newestSaved (psn .0) (now (saved .entry)) ring ⌝ }
 {

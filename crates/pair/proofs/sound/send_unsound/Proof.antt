@@ -1,0 +1,19 @@
+use borrow.Author.Tests.{eq-eqb, ne-eqb}
+use Rattle.pair.specs.Sound.{sendUnsound}
+use Rattle.pair.proofs.sound.send_unsound.Statement.{statement}
+use Rattle.pair.proofs.sound.send_unsound.Tie as tie
+use Rattle.pair.proofs.sound.send_unsound.Reads as reads
+use Rattle.pair.proofs.sound.send_unsound.Lts as lts
+
+-- src/sound.rt:74:9
+returns : tie.Need-returns
+unfolding sendUnsound
+returns c = simp (eq-eqb _ _ (c .if1 .taken))
+
+-- src/sound.rt:70:1
+returns-2 : tie.Need-returns-2
+unfolding sendUnsound
+returns-2 c = simp (ne-eqb _ _ (c .if1 .left))
+
+pub send-unsound-spec : {M : Type 1} → statement M
+send-unsound-spec = tie.close (tie.spec returns returns-2)
