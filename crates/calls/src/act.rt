@@ -3,6 +3,7 @@ use crate::force;
 use crate::print::decimal;
 use crate::print::text;
 use crate::read::Line;
+use crate::show;
 use pair::HostOutcome;
 use pair::Pair;
 use pair::Setup;
@@ -28,6 +29,8 @@ const ENTRIES: u64 = 0x656e7472696573;
 
 const REGIONS: u64 = 0x726567696f6e73;
 
+const SHOW: u64 = 0x73686f77;
+
 const FORCE: u64 = 0x666f726365;
 
 const ROW: u64 = 0x726f77;
@@ -40,7 +43,7 @@ pub(crate) fn low32(n: u64) -> u32 {
     (n % 4294967296) as u32
 }
 
-fn low16(n: u64) -> u16 {
+pub(crate) fn low16(n: u64) -> u16 {
     (n % 65536) as u16
 }
 
@@ -53,7 +56,7 @@ pub(crate) fn small(n: u64) -> usize {
 }
 
 // Whether a line has so many arguments, all of them numbers.
-fn numbers(line: Line, count: usize) -> bool {
+pub(crate) fn numbers(line: Line, count: usize) -> bool {
     if !line.good {
         return false;
     }
@@ -64,7 +67,7 @@ fn numbers(line: Line, count: usize) -> bool {
 }
 
 // A line that is no call.
-fn unknown() {
+pub(crate) fn unknown() {
     text(b"?\n");
 }
 
@@ -304,6 +307,9 @@ fn pair_call(
     if c == FORCE {
         return force::force(line, pair);
     }
+    if c == SHOW {
+        return show::show(line, pair);
+    }
     unknown();
     pair
 }
@@ -337,11 +343,19 @@ pub(crate) fn act(
         return pair;
     }
     if c == ENTRIES {
-        list_entries(pair, entries);
+        if numbers(line, 0) {
+            list_entries(pair, entries);
+        } else {
+            unknown();
+        }
         return pair;
     }
     if c == REGIONS {
-        list_regions(regions);
+        if numbers(line, 0) {
+            list_regions(regions);
+        } else {
+            unknown();
+        }
         return pair;
     }
     if empty(line) {

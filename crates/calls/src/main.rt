@@ -3,6 +3,7 @@ mod act;
 mod force;
 mod print;
 mod read;
+mod show;
 
 use crate::act::act;
 use crate::read::next_line;

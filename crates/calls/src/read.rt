@@ -52,7 +52,7 @@ fn ends(b: u32) -> bool {
     b == END
 }
 
-// The number with one more digit; u64::MAX and false where it is none, or too large.
+// A number with one more digit; not good where that is no digit, or the number is too large.
 struct Number {
     value: u64,
     good: bool,

@@ -22,7 +22,7 @@ use Rattle.pair.specs.declared.Status.the-variants as status
 use Rattle.pair.specs.Answer.{statusNumber, executed}
 use Rattle.pair.specs.Pair.{blankPair, moved}
 use Rattle.pair.specs.Sound.{pairUnsound}
-use Rattle.pair.specs.Host.{entryLimit, postStatus, posted, postEntries}
+use Rattle.pair.specs.Host.{entryLimit, entryCount, postStatus, posted, postEntries}
 use Rattle.pair.specs.View.{heldOf, waitingOf, entriesOf}
 use Rattle.pair.specs.Claims.{Unmoved, HeldFirst, HeldNone, BlankUnsound, IsBlank, SetupSound, MessageSound, Sound, PostError, PostRange, PostFull, PostDone, HeldWaiting, BlankRefused}
 use Rattle.pair.proofs.Known.{unmoved, holds-true, either, kept, done, unsound, sound}
@@ -85,21 +85,21 @@ module _ (q : Pair) (rows : List (List ℕ)) (e : Entry) where
       (either (pairUnsound q))
 
   module _ (h : q .state ≡ 2 → ⊥) (S : Sound q) (f : EntryFits (q .setup .memory) e) where
-    full-post : entryLimit ≤ q .entries .count → postStatus q e ≡ status.TableFull
+    full-post : entryLimit ≤ entryCount q → postStatus q e ≡ status.TableFull
     unfolding postStatus
     full-post n =
-        rw (ne-eqb (q .state) 2 h, sound q S, entry-tested (q .setup .memory) e .1 f, le-leb entryLimit (q .entries .count) n)
+        rw (ne-eqb (q .state) 2 h, sound q S, entry-tested (q .setup .memory) e .1 f, le-leb entryLimit (entryCount q) n)
 
-    pub done-post : q .entries .count < entryLimit → postStatus q e ≡ status.Executed
+    pub done-post : entryCount q < entryLimit → postStatus q e ≡ status.Executed
     unfolding postStatus
     done-post n =
-        rw (ne-eqb (q .state) 2 h, sound q S, entry-tested (q .setup .memory) e .1 f, lt-leb entryLimit (q .entries .count) n)
+        rw (ne-eqb (q .state) 2 h, sound q S, entry-tested (q .setup .memory) e .1 f, lt-leb entryLimit (entryCount q) n)
 
-    pub posted-pair : q .entries .count < entryLimit → posted q e .pair ≡ moved q (q .state) (oneMore (q .entries))
+    pub posted-pair : entryCount q < entryLimit → posted q e .pair ≡ moved q (q .state) (oneMore (q .entries))
     unfolding posted executed statusNumber
     posted-pair n = done (postStatus q e) status.Executed (moved q (q .state) (oneMore (q .entries))) q (done-post n) refl
 
-    pub posted-entries : q .entries .count < entryLimit
+    pub posted-entries : entryCount q < entryLimit
         → postEntries q rows e ≡ set rows (slotAt (q .entries .head) (q .entries .count)) (entryRow e)
     unfolding postEntries executed statusNumber
     posted-entries n =
@@ -176,14 +176,14 @@ pub post-either : (q : Pair) (rows : List (List ℕ)) (e : Entry) → Sound q
     → PostEither q rows e
 unfolding executed statusNumber
 post-either q rows e S =
-    go (eqb (q .state) 2) refl (outside (e .offset) (e .length) (q .setup .memory)) refl (leb entryLimit (q .entries .count)) refl
+    go (eqb (q .state) 2) refl (outside (e .offset) (e .length) (q .setup .memory)) refl (leb entryLimit (entryCount q)) refl
   where
     same : (n : ℕ) → ((statusNumber (posted q e .status) ≡ n) × (posted q e .pair ≡ q)) × (postEntries q rows e ≡ rows)
         → PostEither q rows e
     same n ((a, b), c) = inl (b, c)
 
     go : (a : Bool) → eqb (q .state) 2 ≡ a → (b : Bool) → outside (e .offset) (e .length) (q .setup .memory) ≡ b
-        → (c : Bool) → leb entryLimit (q .entries .count) ≡ c
+        → (c : Bool) → leb entryLimit (entryCount q) ≡ c
         → PostEither q rows e
     go true x b y c z = same 36 (post-error q rows e (eqb-true (q .state) 2 x))
     go false x true y c z =
@@ -191,11 +191,11 @@ post-either q rows e S =
     go false x false y true z =
         same 33
         (post-refused q rows e status.TableFull
-        (full-post q rows e (eqb-false (q .state) 2 x) S (entry-tested (q .setup .memory) e .0 y) (leb-true entryLimit (q .entries .count) z)) refl)
+        (full-post q rows e (eqb-false (q .state) 2 x) S (entry-tested (q .setup .memory) e .0 y) (leb-true entryLimit (entryCount q) z)) refl)
     go false x false y false z =
         let h = eqb-false (q .state) 2 x in
         let f : EntryFits (q .setup .memory) e = entry-tested (q .setup .memory) e .0 y in
-        let n : q .entries .count < 16 = leb-false entryLimit (q .entries .count) z in
+        let n : q .entries .count < 16 = leb-false entryLimit (entryCount q) z in
         inr (f, n, posted-pair q rows e h S f n, posted-entries q rows e h S f n)
 
 -- The blank pair

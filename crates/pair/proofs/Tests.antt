@@ -15,7 +15,7 @@ use Rattle.pieces.proofs.Counting.{pmtus}
 use Rattle.table.specs.Table.{addresses, outside, pastTop}
 use Rattle.pair.specs.declared.Setup.{Setup}
 use Rattle.pair.specs.declared.Pair.{Pair}
-use Rattle.pair.specs.Sound.{memoryLimit, setupUnfit, setupUnsound, numbersUnsound, ringUnsound, sendUnsound, writeUnsound, messageUnsound, readUnsound, pairUnsound}
+use Rattle.pair.specs.Sound.{memoryLimit, setupUnfit, setupUnsound, numbersUnsound, ringUnsound, noEntry, sendUnsound, writeUnsound, messageUnsound, readUnsound, pairUnsound}
 use Rattle.pair.specs.Claims.{SetupFit, SetupSound, MessageSound, Sound, SetupTested, Tested}
 
 -- a flag that names a failing test, and the test
@@ -105,16 +105,22 @@ unfolding writeUnsound pastTop
 fits-write placed address n (a, b, c) =
     neither (lt-leb n placed a) (neither (le-ltb memoryLimit n b) (lt-leb addresses (address + placed) c))
 
+some-entry : (entries : ℕ) → noEntry entries ≡ false → 1 ≤ entries
+unfolding noEntry
+some-entry entries h = omega (arith, tests)
+
+entry-some : (entries : ℕ) → 1 ≤ entries → noEntry entries ≡ false
+unfolding noEntry
+entry-some entries h = ne-eqb entries 0 (λ z. omega arith)
+
 send-fits : (placed entries : ℕ) → sendUnsound placed entries ≡ false → (1 ≤ entries) × (placed ≤ 1048576)
 unfolding sendUnsound
 send-fits placed entries h =
-    let a : eqb entries 0 ≡ false = or-left (eqb entries 0) _ h in
-    let b : ltb memoryLimit placed ≡ false = or-right (eqb entries 0) _ h in
-    (omega (arith, tests), omega (arith, tests))
+    (some-entry entries (or-left (noEntry entries) _ h), ltb-false memoryLimit placed (or-right (noEntry entries) _ h))
 
 fits-send : (placed entries : ℕ) → (1 ≤ entries) × (placed ≤ 1048576) → sendUnsound placed entries ≡ false
 unfolding sendUnsound
-fits-send placed entries (a, b) = neither (ne-eqb entries 0 (λ z. omega arith)) (le-ltb memoryLimit placed b)
+fits-send placed entries (a, b) = neither (entry-some entries a) (le-ltb memoryLimit placed b)
 
 message-fits : (q : Pair) → messageUnsound (q .message .kind) (q .message .placed) (q .message .address) (q .message .length) (q .entries .count) ≡ false
     → MessageSound q

@@ -69,9 +69,12 @@ removeStatus rows key = cond (leb 16 (keyRow key rows)) NoSuchKey Executed
 unfoldable pub removeRegions : List (List ℕ) → ℕ → List (List ℕ)
 removeRegions rows key = cond (executed (removeStatus rows key)) (set rows (keyRow key rows) noRegion) rows
 
--- how many entries there may be, the one held and those waiting
+-- how many entries there may be, and how many there are, the one held and those waiting
 abbrev pub entryLimit : ℕ
 entryLimit = 16
+
+abbrev pub entryCount : Pair → ℕ
+entryCount q = q .entries .count
 
 -- Post entry: 36 in Error, 34 for an entry outside memory, 33 where 16 are held or waiting
 unfoldable pub postStatus : Pair → Entry → Status
@@ -79,7 +82,7 @@ postStatus q e =
     cond (eqb (q .state) 2) WrongState
     (cond (pairUnsound q) OutOfRange
     (cond (outside (e .offset) (e .length) (q .setup .memory)) OutOfRange
-    (cond (leb entryLimit (q .entries .count)) TableFull Executed)))
+    (cond (leb entryLimit (entryCount q)) TableFull Executed)))
 
 unfoldable pub posted : Pair → Entry → HostOutcome
 posted q e = outcome (postStatus q e) (cond (executed (postStatus q e)) (moved q (q .state) (oneMore (q .entries))) q)

@@ -34,8 +34,11 @@ ringUnsound head count = leb 16 head || ltb 16 count
 
 -- an open SEND holds an entry and has placed no more bytes than memory can have; an open WRITE has bytes to come, within
 -- the limit, and the next of them has an address
+unfoldable pub noEntry : ℕ → Bool
+noEntry entries = eqb entries 0
+
 unfoldable pub sendUnsound : ℕ → ℕ → Bool
-sendUnsound placed entries = eqb entries 0 || ltb memoryLimit placed
+sendUnsound placed entries = noEntry entries || ltb memoryLimit placed
 
 unfoldable pub writeUnsound : ℕ → ℕ → ℕ → Bool
 writeUnsound placed address length = leb length placed || (ltb memoryLimit length || pastTop address placed)

@@ -13,7 +13,7 @@ use Rattle.table.specs.declared.Ring.{Ring}
 use Rattle.table.specs.declared.Saved.{Saved}
 use Rattle.table.specs.declared.Saved.the-variants.{Value, Nothing}
 use Rattle.table.specs.Table.{slotAt, entryRow}
-use Rattle.table.specs.View.{ringFrom, inRing, oneMore, later, newest, newestSaved, savedRing, savedRows}
+use Rattle.table.specs.View.{ringFrom, inRing, oneMore, later, newest, newestSaved, savedLimit, savedRing, savedRows}
 use Rattle.table.specs.Claims.{SavedSound, SavesSound, NewestNone, NewestSaved, SavedFound, SavedOther, EntrySound, InUseKept, PostedSound, Appends, Takes, Saves, SavesFull, Newest}
 
 -- two places less than 16 apart are different rows
@@ -115,13 +115,13 @@ takes rows head n = from-next rows head 0 n
 
 pub saves : Saves
 unfolding savedRing savedRows
-saves rows r psn value l h = simp (lt-ltb (r .count) 16 h) (appends rows r (psn ∷ value ∷ []) l h)
+saves rows r psn value l h = simp (lt-ltb (r .count) savedLimit h) (appends rows r (psn ∷ value ∷ []) l h)
 
 pub saves-full : SavesFull
 unfolding savedRing savedRows ringFrom
 saves-full rows r psn value l h =
     let row = psn ∷ value ∷ [] in
-    rw (le-ltb (r .count) 16 (omega arith), h)
+    rw (le-ltb (r .count) savedLimit (omega arith), h)
     (from-next (set rows (slotAt (r .head) 16) row) (r .head) 0 16 ∙ behind rows (r .head) row 1 15 l (omega arith))
 
 pub later-if : (b : Bool) (v : ℕ) (s t : Saved) → later (cond b (Value v) s) t ≡ cond b (Value v) (later s t)
@@ -164,16 +164,16 @@ newest-empty psn = refl
 
 pub newest-saved : NewestSaved
 unfolding newestSaved
-newest-saved psn rows r h = rw (le-ltb 16 (r .count) h)
+newest-saved psn rows r h = rw (le-ltb savedLimit (r .count) h)
 
 -- the ring after saving
 grows : (r : Ring) → r .count < 16 → savedRing r ≡ oneMore r
 unfolding savedRing
-grows r h = rw (lt-ltb (r .count) 16 h)
+grows r h = rw (lt-ltb (r .count) savedLimit h)
 
 turns : (r : Ring) → 16 ≤ r .count → savedRing r ≡ (record { head = slotAt (r .head) 1; count = r .count })
 unfolding savedRing
-turns r h = rw (le-ltb (r .count) 16 h)
+turns r h = rw (le-ltb (r .count) savedLimit h)
 
 -- what is saved is the last of the list, whether 16 were saved before or not
 last-saved : (rows : List (List ℕ)) (r : Ring) (psn value : ℕ) → length rows ≡ 16 → r .count ≤ 16

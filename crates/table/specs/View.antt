@@ -35,13 +35,17 @@ unfoldable pub newest : ℕ → List (List ℕ) → Saved
 newest psn [] = Nothing
 newest psn (row ∷ rows) = later (newest psn rows) (cond (eqb (getD row 0 0) psn) (Value (getD row 1 0)) Nothing)
 
--- the same of a table; a ring of more than 16 has none
+-- how many atomics are saved
+abbrev pub savedLimit : ℕ
+savedLimit = 16
+
+-- the newest in a table; a ring that has more rows than there are has none
 unfoldable pub newestSaved : ℕ → List (List ℕ) → Ring → Saved
-newestSaved psn rows r = cond (ltb 16 (r .count)) Nothing (newest psn (inRing rows r))
+newestSaved psn rows r = cond (ltb savedLimit (r .count)) Nothing (newest psn (inRing rows r))
 
 -- one atomic more: the seventeenth takes the place of the oldest
 unfoldable pub savedRing : Ring → Ring
-savedRing r = cond (ltb (r .count) 16) (oneMore r) (record { head = slotAt (r .head) 1; count = r .count })
+savedRing r = cond (ltb (r .count) savedLimit) (oneMore r) (record { head = slotAt (r .head) 1; count = r .count })
 
 unfoldable pub savedRows : List (List ℕ) → Ring → ℕ → ℕ → List (List ℕ)
 savedRows rows r psn value = set rows (slotAt (r .head) (r .count)) (psn ∷ value ∷ [])
