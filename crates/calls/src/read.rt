@@ -91,8 +91,11 @@ fn with_digit(value: u64, b: u32) -> Number {
     }
 }
 
-// The letters with one more; a word of more than 8 letters is no word that we know.
+// The letters with one more; more than 8, or a zero byte, make no word that we know.
 fn with_letter(letters: u64, b: u32) -> u64 {
+    if b == 0 {
+        return 1;
+    }
     if 72057594037927935 < letters {
         return 1;
     }

@@ -21,8 +21,8 @@ use Rattle.pair.specs.Answer.{executed}
 use Rattle.pair.specs.Pair.{freshPair, moved}
 use Rattle.pair.specs.Host.{noRegions, setUpRegions, resetRegions, madeReady, addRegions, removeStatus, removeRegions, posted, postEntries}
 use Rattle.pair.specs.Calls.{Whole, HostCall, begun, called, calledAll}
-use Rattle.pair.specs.Calls.HostCall.{Reset, MakeReady, AddRegion, RemoveRegion, PostEntry}
-use Rattle.pair.specs.Claims.{SetupSound, MessageSound, Sound, WholeSound, BegunSound, CallsSound}
+use Rattle.pair.specs.Calls.HostCall.{SetUp, Reset, MakeReady, AddRegion, RemoveRegion, PostEntry}
+use Rattle.pair.specs.Claims.{SetupSound, MessageSound, Sound, WholeSound, Accepted, BegunSound, CallsSound}
 use Rattle.pair.proofs.Begin.{set-up-pair, set-up-regions, reset-pair, reset-regions, ready-wrong, ready-pair}
 use Rattle.pair.proofs.Adding.{AddEither, add-either}
 use Rattle.pair.proofs.Posting.{PostEither, post-either, held-some}
@@ -170,14 +170,16 @@ post-kept w e W = go (post-either (w .pair) (w .entries) e (W .pair))
               (sym (in-use-kept (w .entries) (w .pair .entries) (entryRow e) 0 n (held-some (w .pair) (W .pair) k))) (W .held k);
         }))
 
-called-sound : (w : Whole) (c : HostCall) → WholeSound w → WholeSound (called w c)
-called-sound w Reset W = reset-kept w W
-called-sound w MakeReady W = ready-kept w W
-called-sound w (AddRegion r) W = add-kept w r W
-called-sound w (RemoveRegion key) W = remove-kept w key W
-called-sound w (PostEntry e) W = post-kept w e W
+called-sound : (w : Whole) (c : HostCall) → Accepted c → WholeSound w → WholeSound (called w c)
+unfolding called
+called-sound w (SetUp s) h W = begun-sound s (w .regions) (w .entries) (w .saved) h (W .entries .rows16) (W .saved .rows16)
+called-sound w Reset h W = reset-kept w W
+called-sound w MakeReady h W = ready-kept w W
+called-sound w (AddRegion r) h W = add-kept w r W
+called-sound w (RemoveRegion key) h W = remove-kept w key W
+called-sound w (PostEntry e) h W = post-kept w e W
 
 pub calls-sound : CallsSound
 unfolding calledAll
-calls-sound w [] W = W
-calls-sound w (c ∷ cs) W = calls-sound (called w c) cs (called-sound w c W)
+calls-sound w [] h W = W
+calls-sound w (c ∷ cs) (h, hs) W = calls-sound (called w c) cs hs (called-sound w c h W)

@@ -12,30 +12,30 @@ use Rattle.pair.specs.Sound.{pairUnsound}
 use Rattle.pair.specs.Claims.{Unmoved, statusOf, NumberBack, OneNumber, Sound}
 use Rattle.pair.proofs.Tests.{tested}
 
-pub back : NumberBack
+pub number-back : NumberBack
 unfolding statusOf statusNumber
-back status.Executed = refl
-back status.Acknowledged = refl
-back status.ReadAccepted = refl
-back status.AtomicExecuted = refl
-back status.DuplicateAnswered = refl
-back status.Dropped = refl
-back status.Abandoned = refl
-back status.SequenceNak = refl
-back status.InvalidRequestNak = refl
-back status.AccessNak = refl
-back status.NotReadyNak = refl
-back status.ReadUnfinished = refl
-back status.TableFull = refl
-back status.OutOfRange = refl
-back status.OutputShort = refl
-back status.WrongState = refl
-back status.NoSuchKey = refl
-back status.KeyInUse = refl
-back status.BadNumber = refl
+number-back status.Executed = refl
+number-back status.Acknowledged = refl
+number-back status.ReadAccepted = refl
+number-back status.AtomicExecuted = refl
+number-back status.DuplicateAnswered = refl
+number-back status.Dropped = refl
+number-back status.Abandoned = refl
+number-back status.SequenceNak = refl
+number-back status.InvalidRequestNak = refl
+number-back status.AccessNak = refl
+number-back status.NotReadyNak = refl
+number-back status.ReadUnfinished = refl
+number-back status.TableFull = refl
+number-back status.OutOfRange = refl
+number-back status.OutputShort = refl
+number-back status.WrongState = refl
+number-back status.NoSuchKey = refl
+number-back status.KeyInUse = refl
+number-back status.BadNumber = refl
 
 pub one-number : OneNumber
-one-number a b h = sym (back a) ∙ (ap statusOf h ∙ back b)
+one-number a b h = sym (number-back a) ∙ (ap statusOf h ∙ number-back b)
 
 -- a test that cannot fail holds
 pub holds-true : (b : Bool) → (b ≡ false → ⊥) → b ≡ true

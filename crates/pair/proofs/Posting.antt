@@ -20,7 +20,7 @@ use Rattle.pair.specs.declared.Pair.{Pair}
 use Rattle.pair.specs.declared.Status.{Status}
 use Rattle.pair.specs.declared.Status.the-variants as status
 use Rattle.pair.specs.Answer.{statusNumber, executed}
-use Rattle.pair.specs.Pair.{blankPair, moved}
+use Rattle.pair.specs.Pair.{blankPair, freshPair, moved}
 use Rattle.pair.specs.Sound.{pairUnsound}
 use Rattle.pair.specs.Host.{entryLimit, entryCount, postStatus, posted, postEntries}
 use Rattle.pair.specs.View.{heldOf, waitingOf, entriesOf}
@@ -211,8 +211,15 @@ unset (f, h) = go (f .pmtu)
     go (inr (inr (inr (inr e)))) = omega arith
 
 pub is-blank : IsBlank
-unfolding blankPair
-is-blank = record { state = refl; send = refl; write = refl; read = refl; atomic = refl; memory = refl }
+unfolding blankPair freshPair
+is-blank =
+    record {
+      numbers = (refl, refl, refl, refl, refl);
+      start = (refl, refl, refl);
+      functions = (refl, refl, refl, refl);
+      state = refl;
+      rest = record { setup = refl; state = refl; expected = refl; msn = refl; mark = refl; message = refl; entries = refl; read = refl; saved = refl };
+    }
 
 pub blank-unsound : BlankUnsound
 blank-unsound S = unset (S .setup)

@@ -14,6 +14,7 @@ pub record Whole : Type 0 where
   pub saved : List (List ℕ)
 
 pub data HostCall : Type 0 where
+  SetUp : Setup → HostCall
   Reset : HostCall
   MakeReady : HostCall
   AddRegion : Region → HostCall
@@ -26,6 +27,7 @@ begun s regions entries saved =
     record { pair = setUp s .pair; regions = setUpRegions s regions; entries = entries; saved = saved }
 
 unfoldable pub called : Whole → HostCall → Whole
+called w (SetUp s) = begun s (w .regions) (w .entries) (w .saved)
 called w Reset =
     record { pair = resetTo (w .pair) .pair; regions = resetRegions (w .pair) (w .regions); entries = w .entries; saved = w .saved }
 called w MakeReady = record { pair = madeReady (w .pair) .pair; regions = w .regions; entries = w .entries; saved = w .saved }

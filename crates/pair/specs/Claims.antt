@@ -20,10 +20,11 @@ use Rattle.pair.specs.declared.HostOutcome.{HostOutcome}
 use Rattle.pair.specs.declared.Status.{Status}
 use Rattle.pair.specs.declared.Status.the-variants as status
 use Rattle.pair.specs.Answer.{statusNumber}
-use Rattle.pair.specs.Pair.{blankPair, freshPair}
+use Rattle.pair.specs.Pair.{blankPair, freshPair, moved}
 use Rattle.pair.specs.Sound.{setupUnfit, pairUnsound}
 use Rattle.pair.specs.Host.{noRegions, setUp, setUpRegions, resetTo, resetRegions, madeReady, addStatus, addRegions, removeStatus, removeRegions, posted, postEntries}
 use Rattle.pair.specs.View.{heldOf, waitingOf, entriesOf}
+use Rattle.pair.specs.Calls.HostCall.{SetUp, Reset, MakeReady, AddRegion, RemoveRegion, PostEntry}
 use Rattle.pair.specs.Calls.{Whole, HostCall, begun, calledAll}
 
 -- The answer of each number, listed once more the other way round.
@@ -113,10 +114,10 @@ pub record Fresh (s : Setup) (q : Pair) : Type 0 where
   pub expected : q .expected ≡ s .start
   pub msn : q .msn .0 ≡ 0
   pub mark : q .mark ≡ false
-  pub message : q .message .kind ≡ 255
-  pub entries : q .entries .count ≡ 0
-  pub read : q .read .remaining ≡ 0
-  pub saved : q .saved .count ≡ 0
+  pub message : q .message ≡ (record { kind = 255; placed = 0; address = 0; key = 0; length = 0 })
+  pub entries : q .entries ≡ (record { head = 0; count = 0 })
+  pub read : q .read ≡ (record { remaining = 0; offset = 0; length = 0; psn = record { 0 = 0 }; msn = record { 0 = 0 } })
+  pub saved : q .saved ≡ (record { head = 0; count = 0 })
 
 -- An outcome: the number of its answer, and the pair.
 abbrev pub Answers : HostOutcome → ℕ → Pair → Type 0
@@ -287,14 +288,13 @@ FreshViews =
     × (entriesOf (freshPair s) rows ≡ [])
     × ((psn : ℕ) → newestSaved psn rows (freshPair s .saved) ≡ Nothing)
 
--- The blank pair: in Error, no function enabled, no memory.
+-- The blank pair: no number, no function, no memory, and all else as in a fresh pair, but in Error.
 pub record Blank (q : Pair) : Type 0 where
+  pub numbers : (q .setup .service ≡ 0) × (q .setup .pmtu ≡ 0) × (q .setup .ours ≡ 0) × (q .setup .theirs ≡ 0) × (q .setup .pkey ≡ 0)
+  pub start : (q .setup .start .0 ≡ 0) × (q .setup .timer ≡ 0) × (q .setup .memory ≡ 0)
+  pub functions : (q .setup .send ≡ false) × (q .setup .write ≡ false) × (q .setup .read ≡ false) × (q .setup .atomic ≡ false)
   pub state : q .state ≡ 2
-  pub send : q .setup .send ≡ false
-  pub write : q .setup .write ≡ false
-  pub read : q .setup .read ≡ false
-  pub atomic : q .setup .atomic ≡ false
-  pub memory : q .setup .memory ≡ 0
+  pub rest : Fresh (q .setup) (moved q 0 (q .entries))
 
 abbrev pub IsBlank : Type 0
 IsBlank = Blank blankPair
@@ -319,11 +319,24 @@ pub record WholeSound (w : Whole) : Type 0 where
   pub saved : SavedSound (w .saved) (w .pair .saved)
   pub held : w .pair .message .kind ≡ 0 → w .pair .message .placed ≤ getD (getD (w .entries) (slotAt (w .pair .entries .head) 0) []) 2 0
 
--- Set-up makes them sound, whatever the tables held before; and so they are after every list of the host's calls.
+-- Set-up makes them sound, whatever the tables held before; and so they are after every list of the host's calls in which
+-- each set-up is accepted.
 abbrev pub BegunSound : Type 0
 BegunSound =
     (s : Setup) (regions entries saved : List (List ℕ)) → SetupSound s → length entries ≡ 16 → length saved ≡ 16
     → WholeSound (begun s regions entries saved)
 
+abbrev pub Accepted : HostCall → Type 0
+Accepted (SetUp s) = SetupSound s
+Accepted Reset = Unit {0}
+Accepted MakeReady = Unit {0}
+Accepted (AddRegion r) = Unit {0}
+Accepted (RemoveRegion key) = Unit {0}
+Accepted (PostEntry e) = Unit {0}
+
+abbrev pub AllAccepted : List HostCall → Type 0
+AllAccepted [] = Unit {0}
+AllAccepted (c ∷ cs) = Accepted c × AllAccepted cs
+
 abbrev pub CallsSound : Type 0
-CallsSound = (w : Whole) (calls : List HostCall) → WholeSound w → WholeSound (calledAll w calls)
+CallsSound = (w : Whole) (calls : List HostCall) → AllAccepted calls → WholeSound w → WholeSound (calledAll w calls)

@@ -17,7 +17,7 @@ pub const READY: u8 = 1;
 pub const ERROR: u8 = 2;
 
 // The kind of an open message where none is open; else it is opcode::SEND or opcode::WRITE.
-pub const NONE: u8 = 255;
+pub const CLOSED: u8 = 255;
 
 // Bytes of lent memory, and of a DMA length, at most.
 pub const LIMIT: usize = 1048576;
@@ -109,7 +109,7 @@ fn fresh(setup: Setup) -> Pair
     let expected = setup.start;
     let msn = Msn(0);
     let message = OpenMessage {
-        kind: NONE,
+        kind: CLOSED,
         placed: 0,
         address: 0,
         key: 0,

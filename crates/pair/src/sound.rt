@@ -80,7 +80,7 @@ fn send_unsound(placed: usize, entries: usize) -> bool
 fn message_unsound(kind: u8, placed: usize, address: u64, length: usize, entries: usize) -> bool
     ensures { λ r. ⌜ r ≡ messageUnsound kind placed address length entries ⌝ }
 {
-    if kind == crate::NONE {
+    if kind == crate::CLOSED {
         return false;
     }
     if kind == opcode::SEND {

@@ -14,7 +14,7 @@ use Rattle.table.specs.declared.Saved.{Saved}
 use Rattle.table.specs.declared.Saved.the-variants.{Value, Nothing}
 use Rattle.table.specs.Table.{slotAt, entryRow}
 use Rattle.table.specs.View.{ringFrom, inRing, oneMore, later, newest, newestSaved, savedLimit, savedRing, savedRows}
-use Rattle.table.specs.Claims.{SavedSound, SavesSound, NewestNone, NewestSaved, SavedFound, SavedOther, EntrySound, InUseKept, PostedSound, Appends, Takes, Saves, SavesFull, Newest}
+use Rattle.table.specs.Claims.{SavedSound, SavesSound, NewestNone, NewestSaved, SavedFound, SavedOther, SavedOtherFull, NewestOver, EntrySound, InUseKept, PostedSound, Appends, Takes, Saves, SavesFull, Newest}
 
 -- two places less than 16 apart are different rows
 apart : (head i n : ℕ) → i < n → n < i + 16 → slotAt head i ≡ slotAt head n → ⊥
@@ -166,6 +166,10 @@ pub newest-saved : NewestSaved
 unfolding newestSaved
 newest-saved psn rows r h = rw (le-ltb savedLimit (r .count) h)
 
+pub newest-over : NewestOver
+unfolding newestSaved
+newest-over psn rows r h = rw (lt-ltb savedLimit (r .count) h)
+
 -- the ring after saving
 grows : (r : Ring) → r .count < 16 → savedRing r ≡ oneMore r
 unfolding savedRing
@@ -212,6 +216,13 @@ saved-other rows r psn value other l h ne =
     ∙ (ap (newest other) (saves rows r psn value l h)
     ∙ (newest-last other (inRing rows r) (psn ∷ value ∷ [])
     ∙ (rw (ne-eqb psn other ne) (sym (newest-saved other rows r (omega arith))))))
+
+pub saved-other-full : SavedOtherFull
+saved-other-full rows r psn value other l h ne =
+    let n : savedRing r .count ≤ 16 = subst (λ x. x .count ≤ 16) (sym (turns r (omega arith))) (omega arith) in
+    newest-saved other (savedRows rows r psn value) (savedRing r) n
+    ∙ (ap (newest other) (saves-full rows r psn value l h)
+    ∙ (newest-last other (drop 1 (inRing rows r)) (psn ∷ value ∷ []) ∙ rw (ne-eqb psn other ne)))
 
 -- a row of 24 and 64 bits
 abbrev SavedRow : List ℕ → Type 0

@@ -173,7 +173,11 @@ Newest =
 abbrev pub NewestSaved : Type 0
 NewestSaved = (psn : ℕ) (rows : List (List ℕ)) (r : Ring) → r .count ≤ 16 → newestSaved psn rows r ≡ newest psn (inRing rows r)
 
--- So an atomic is found as soon as it is saved, and one of another number is as it was, unless it was the oldest of 16.
+abbrev pub NewestOver : Type 0
+NewestOver = (psn : ℕ) (rows : List (List ℕ)) (r : Ring) → 16 < r .count → newestSaved psn rows r ≡ Nothing
+
+-- So an atomic is found as soon as it is saved. Of another number the newest is as it was; with 16 saved before, it is
+-- the newest of those but the oldest.
 abbrev pub SavedFound : Type 0
 SavedFound =
     (rows : List (List ℕ)) (r : Ring) (psn value : ℕ) → length rows ≡ 16 → r .count ≤ 16
@@ -183,3 +187,8 @@ abbrev pub SavedOther : Type 0
 SavedOther =
     (rows : List (List ℕ)) (r : Ring) (psn value other : ℕ) → length rows ≡ 16 → r .count < 16 → (psn ≡ other → ⊥)
     → newestSaved other (savedRows rows r psn value) (savedRing r) ≡ newestSaved other rows r
+
+abbrev pub SavedOtherFull : Type 0
+SavedOtherFull =
+    (rows : List (List ℕ)) (r : Ring) (psn value other : ℕ) → length rows ≡ 16 → r .count ≡ 16 → (psn ≡ other → ⊥)
+    → newestSaved other (savedRows rows r psn value) (savedRing r) ≡ newest other (drop 1 (inRing rows r))

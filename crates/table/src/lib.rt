@@ -112,7 +112,7 @@ fn hit(free: bool, key: u64, of: u64, length: u64) -> bool
     of == key
 }
 
-// The first row that is free, or the first one of the key; 16 where there is none.
+// The first free row, whatever the key, or the first row of the key; 16 where there is none.
 pub fn find(regions: &[[u64; 7]; 16], free: bool, key: u64) -> usize
     ensures { λ r. ⌜ r ≡ firstFrom free key (now (regions .entry)) 0 16 ⌝ }
     ensures { λ r. ⌜ r ≤ 16 ⌝ }
@@ -152,7 +152,7 @@ pub fn saved_ring(ring: Ring) -> Ring
     Ring { head, count }
 }
 
-// Saves the value that an atomic answered, behind those saved before.
+// Saves the value that an atomic answered, behind those that the ring has; saved_ring gives the ring to go on with.
 pub fn save(saved: &mut [[u64; 2]; 16], ring: Ring, psn: Psn, value: u64)
     ensures { λ _. ⌜ now (saved .exit) ≡ savedRows (now (saved .entry)) ring (psn .0) value ⌝ }
 {
