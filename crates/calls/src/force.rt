@@ -100,9 +100,13 @@ pub(crate) fn force(line: Line, pair: Pair) -> Pair {
 }
 
 fn any(name: u64, n: u64, pair: Pair) -> Forced {
-    let a = setup_number(name, n, pair);
+    let a = connection_number(name, n, pair);
     if a.hit {
         return a;
+    }
+    let s = start_number(name, n, pair);
+    if s.hit {
+        return s;
     }
     let b = number(name, n, pair);
     if b.hit {
@@ -119,7 +123,7 @@ fn any(name: u64, n: u64, pair: Pair) -> Forced {
     read(name, n, pair)
 }
 
-fn setup_number(name: u64, n: u64, pair: Pair) -> Forced {
+fn connection_number(name: u64, n: u64, pair: Pair) -> Forced {
     let mut p = pair;
     let mut s = pair.setup;
     if name == SERVICE {
@@ -147,6 +151,12 @@ fn setup_number(name: u64, n: u64, pair: Pair) -> Forced {
         p.setup = s;
         return hit(p);
     }
+    missed(pair)
+}
+
+fn start_number(name: u64, n: u64, pair: Pair) -> Forced {
+    let mut p = pair;
+    let mut s = pair.setup;
     if name == TIMER {
         s.timer = low8(n);
         p.setup = s;

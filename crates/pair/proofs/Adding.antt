@@ -103,16 +103,16 @@ add-range q rows r h u = add-refused q rows r status.OutOfRange (range-add q row
 
 pub add-used : AddUsed
 unfolding executed statusNumber
-add-used q rows r h S f u = add-refused q rows r status.KeyInUse (used-add q rows r h S f (key-used (r .key) rows u)) refl
+add-used q rows r (h, S, f) u = add-refused q rows r status.KeyInUse (used-add q rows r h S f (key-used (r .key) rows u)) refl
 
 pub add-full : AddFull
 unfolding executed statusNumber
-add-full q rows r h S f u v =
+add-full q rows r (h, S, f) u v =
     add-refused q rows r status.TableFull (full-add q rows r h S f (key-unused (r .key) rows u) (full-free rows v)) refl
 
 pub add-done : AddDone
 unfolding statusNumber
-add-done q rows r h S f u v l =
+add-done q rows r (h, S, f) u v l =
     let k : keyRow (r .key) rows ≡ 16 = key-unused (r .key) rows u in
     let m : freeRow rows < 16 = free-room rows v in
     let e = added-regions q rows r h S f k m in

@@ -20,7 +20,7 @@ use Rattle.pair.specs.declared.Pair.{Pair}
 use Rattle.pair.specs.Answer.{executed}
 use Rattle.pair.specs.Pair.{freshPair, moved}
 use Rattle.pair.specs.Host.{noRegions, setUpRegions, resetRegions, madeReady, addRegions, removeStatus, removeRegions, posted, postEntries}
-use Rattle.pair.specs.Calls.{Whole, HostCall, begun, called, calledAll}
+use Rattle.pair.specs.Calls.{changed, Whole, HostCall, begun, called, calledAll}
 use Rattle.pair.specs.Calls.HostCall.{SetUp, Reset, MakeReady, AddRegion, RemoveRegion, PostEntry}
 use Rattle.pair.specs.Claims.{SetupSound, MessageSound, Sound, WholeSound, Accepted, BegunSound, CallsSound}
 use Rattle.pair.proofs.Begin.{set-up-pair, set-up-regions, reset-pair, reset-regions, ready-wrong, ready-pair}
@@ -73,8 +73,8 @@ reset-kept : (w : Whole) → WholeSound w → WholeSound (called w Reset)
 unfolding called
 reset-kept w W =
     let h = W .pair .setup in
-    subst (λ q. WholeSound (record { pair = q; regions = resetRegions (w .pair) (w .regions); entries = w .entries; saved = w .saved })) (sym (reset-pair (w .pair) h))
-    (subst (λ x. WholeSound (record { pair = freshPair (w .pair .setup); regions = x; entries = w .entries; saved = w .saved })) (sym (reset-regions (w .pair) (w .regions) h))
+    subst (λ q. WholeSound (changed w q (resetRegions (w .pair) (w .regions)) (w .entries))) (sym (reset-pair (w .pair) h))
+    (subst (λ x. WholeSound (changed w (freshPair (w .pair .setup)) x (w .entries))) (sym (reset-regions (w .pair) (w .regions) h))
     (fresh-whole (w .pair .setup) (w .entries) (w .saved) h (W .entries .rows16) (W .saved .rows16)))
 
 -- a sound pair that becomes Ready
@@ -96,15 +96,15 @@ unfolding called
 ready-kept w W = go (eqb (w .pair .state) 0) refl
   where
     go : (t : Bool) → eqb (w .pair .state) 0 ≡ t
-        → WholeSound (record { pair = madeReady (w .pair) .pair; regions = w .regions; entries = w .entries; saved = w .saved })
+        → WholeSound (changed w (madeReady (w .pair) .pair) (w .regions) (w .entries))
     go true e =
-        subst (λ q. WholeSound (record { pair = q; regions = w .regions; entries = w .entries; saved = w .saved })) (sym (ready-pair (w .pair) (eqb-true (w .pair .state) 0 e) (W .pair)))
+        subst (λ q. WholeSound (changed w q (w .regions) (w .entries))) (sym (ready-pair (w .pair) (eqb-true (w .pair .state) 0 e) (W .pair)))
         (record { pair = ready-sound (w .pair) (W .pair); regions = W .regions; entries = W .entries; saved = W .saved; held = W .held })
     go false e =
-        subst (λ q. WholeSound (record { pair = q; regions = w .regions; entries = w .entries; saved = w .saved })) (sym (ready-wrong (w .pair) (eqb-false (w .pair .state) 0 e) .1)) W
+        subst (λ q. WholeSound (changed w q (w .regions) (w .entries))) (sym (ready-wrong (w .pair) (eqb-false (w .pair .state) 0 e) .1)) W
 
 with-regions : (w : Whole) (rows : List (List ℕ)) → WholeSound w → RegionsSound (w .pair .setup .memory) rows
-    → WholeSound (record { pair = w .pair; regions = rows; entries = w .entries; saved = w .saved })
+    → WholeSound (changed w (w .pair) rows (w .entries))
 with-regions w rows W R = record { pair = W .pair; regions = R; entries = W .entries; saved = W .saved; held = W .held }
 
 add-kept : (w : Whole) (r : Region) → WholeSound w → WholeSound (called w (AddRegion r))
@@ -144,21 +144,17 @@ one-more-sound q S n =
     go (inr (inl (e, some, placed))) = inr (inl (e, omega arith, placed))
     go (inr (inr e)) = inr (inr e)
 
--- the pair and the entries replaced
-with-entries : (w : Whole) → Pair → List (List ℕ) → Whole
-with-entries w q rows = record { pair = q; regions = w .regions; entries = rows; saved = w .saved }
-
 post-kept : (w : Whole) (e : Entry) → WholeSound w → WholeSound (called w (PostEntry e))
-unfolding called with-entries
+unfolding called
 post-kept w e W = go (post-either (w .pair) (w .entries) e (W .pair))
   where
     go : PostEither (w .pair) (w .entries) e
-        → WholeSound (with-entries w (posted (w .pair) e .pair) (postEntries (w .pair) (w .entries) e))
+        → WholeSound (changed w (posted (w .pair) e .pair) (w .regions) (postEntries (w .pair) (w .entries) e))
     go (inl (a, b)) =
-        subst (λ q. WholeSound (with-entries w q (postEntries (w .pair) (w .entries) e))) (sym a) (subst (λ x. WholeSound (with-entries w (w .pair) x)) (sym b) W)
+        subst (λ q. WholeSound (changed w q (w .regions) (postEntries (w .pair) (w .entries) e))) (sym a) (subst (λ x. WholeSound (changed w (w .pair) (w .regions) x)) (sym b) W)
     go (inr (f, n, a, b)) =
-        subst (λ q. WholeSound (with-entries w q (postEntries (w .pair) (w .entries) e))) (sym a)
-        (subst (λ x. WholeSound (with-entries w (moved (w .pair) (w .pair .state) (oneMore (w .pair .entries))) x)) (sym b)
+        subst (λ q. WholeSound (changed w q (w .regions) (postEntries (w .pair) (w .entries) e))) (sym a)
+        (subst (λ x. WholeSound (changed w (moved (w .pair) (w .pair .state) (oneMore (w .pair .entries))) (w .regions) x)) (sym b)
         (record {
           pair = one-more-sound (w .pair) (W .pair) n;
           regions = W .regions;

@@ -146,12 +146,12 @@ post-range q rows e h u = post-refused q rows e status.OutOfRange (range-post q 
 
 pub post-full : PostFull
 unfolding executed statusNumber
-post-full q rows e h S f n =
+post-full q rows e (h, S, f) n =
     post-refused q rows e status.TableFull (full-post q rows e h S f (omega (arith, counted q rows))) refl
 
 pub post-done : PostDone
 unfolding posted statusNumber
-post-done q rows e h S f m l =
+post-done q rows e (h, S, f) m l =
     let n : q .entries .count < 16 = omega (arith, counted q rows) in
     let p = posted-pair q rows e h S f n in
     let t = posted-entries q rows e h S f n in

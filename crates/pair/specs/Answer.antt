@@ -1,4 +1,4 @@
--- The answers of all calls, by the numbers that the rules give them.
+-- The answers of a pair's calls, by the numbers that the rules give them.
 use Prim.Native.Nat.{ℕ}
 use mathlib.Core.Bool.{Bool}
 use lib.Dec.{eqb}

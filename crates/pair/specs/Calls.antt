@@ -21,6 +21,10 @@ pub data HostCall : Type 0 where
   RemoveRegion : ℕ → HostCall
   PostEntry : Entry → HostCall
 
+-- the same with another pair, other regions and other entries; no call of the host writes saved atomics
+abbrev pub changed : Whole → Pair → List (List ℕ) → List (List ℕ) → Whole
+changed w q regions entries = record { pair = q; regions = regions; entries = entries; saved = w .saved }
+
 -- set-up with tables of any contents
 unfoldable pub begun : Setup → List (List ℕ) → List (List ℕ) → List (List ℕ) → Whole
 begun s regions entries saved =
@@ -28,13 +32,11 @@ begun s regions entries saved =
 
 unfoldable pub called : Whole → HostCall → Whole
 called w (SetUp s) = begun s (w .regions) (w .entries) (w .saved)
-called w Reset =
-    record { pair = resetTo (w .pair) .pair; regions = resetRegions (w .pair) (w .regions); entries = w .entries; saved = w .saved }
-called w MakeReady = record { pair = madeReady (w .pair) .pair; regions = w .regions; entries = w .entries; saved = w .saved }
-called w (AddRegion r) = record { pair = w .pair; regions = addRegions (w .pair) (w .regions) r; entries = w .entries; saved = w .saved }
-called w (RemoveRegion key) = record { pair = w .pair; regions = removeRegions (w .regions) key; entries = w .entries; saved = w .saved }
-called w (PostEntry e) =
-    record { pair = posted (w .pair) e .pair; regions = w .regions; entries = postEntries (w .pair) (w .entries) e; saved = w .saved }
+called w Reset = changed w (resetTo (w .pair) .pair) (resetRegions (w .pair) (w .regions)) (w .entries)
+called w MakeReady = changed w (madeReady (w .pair) .pair) (w .regions) (w .entries)
+called w (AddRegion r) = changed w (w .pair) (addRegions (w .pair) (w .regions) r) (w .entries)
+called w (RemoveRegion key) = changed w (w .pair) (removeRegions (w .regions) key) (w .entries)
+called w (PostEntry e) = changed w (posted (w .pair) e .pair) (w .regions) (postEntries (w .pair) (w .entries) e)
 
 unfoldable pub calledAll : Whole → List HostCall → Whole
 calledAll w [] = w

@@ -184,6 +184,10 @@ InUse key rows = (i : ℕ) × (i < 16) × HasKey key (getD rows i [])
 abbrev pub Full : List (List ℕ) → Type 0
 Full rows = (i : ℕ) → i < 16 → Free (getD rows i []) → ⊥
 
+-- what may be added, if the table lets it
+abbrev pub Addable : Pair → Region → Type 0
+Addable q r = (q .state ≡ 2 → ⊥) × Sound q × RegionFits (q .setup .memory) r
+
 abbrev pub AddError : Type 0
 AddError = (q : Pair) (rows : List (List ℕ)) (r : Region) → q .state ≡ 2 → Adds q rows r 36
 
@@ -194,13 +198,13 @@ AddRange =
 
 abbrev pub AddUsed : Type 0
 AddUsed =
-    (q : Pair) (rows : List (List ℕ)) (r : Region) → (q .state ≡ 2 → ⊥) → Sound q → RegionFits (q .setup .memory) r
+    (q : Pair) (rows : List (List ℕ)) (r : Region) → Addable q r
     → InUse (r .key) rows
     → Adds q rows r 38
 
 abbrev pub AddFull : Type 0
 AddFull =
-    (q : Pair) (rows : List (List ℕ)) (r : Region) → (q .state ≡ 2 → ⊥) → Sound q → RegionFits (q .setup .memory) r
+    (q : Pair) (rows : List (List ℕ)) (r : Region) → Addable q r
     → (InUse (r .key) rows → ⊥)
     → Full rows
     → Adds q rows r 33
@@ -208,7 +212,7 @@ AddFull =
 -- A region added is the region of its key; every other key has the region that it had.
 abbrev pub AddDone : Type 0
 AddDone =
-    (q : Pair) (rows : List (List ℕ)) (r : Region) → (q .state ≡ 2 → ⊥) → Sound q → RegionFits (q .setup .memory) r
+    (q : Pair) (rows : List (List ℕ)) (r : Region) → Addable q r
     → (InUse (r .key) rows → ⊥)
     → (Full rows → ⊥)
     → length rows ≡ 16
@@ -238,6 +242,10 @@ RemoveDone =
 abbrev pub Posts : Pair → List (List ℕ) → Entry → ℕ → Type 0
 Posts q rows e number = Answers (posted q e) number q × (postEntries q rows e ≡ rows)
 
+-- what may be posted, if there is room
+abbrev pub Postable : Pair → Entry → Type 0
+Postable q e = (q .state ≡ 2 → ⊥) × Sound q × EntryFits (q .setup .memory) e
+
 abbrev pub PostError : Type 0
 PostError = (q : Pair) (rows : List (List ℕ)) (e : Entry) → q .state ≡ 2 → Posts q rows e 36
 
@@ -248,7 +256,7 @@ PostRange =
 
 abbrev pub PostFull : Type 0
 PostFull =
-    (q : Pair) (rows : List (List ℕ)) (e : Entry) → (q .state ≡ 2 → ⊥) → Sound q → EntryFits (q .setup .memory) e
+    (q : Pair) (rows : List (List ℕ)) (e : Entry) → Postable q e
     → length (heldOf q rows) + length (waitingOf q rows) ≡ 16
     → Posts q rows e 33
 
@@ -262,7 +270,7 @@ pub record PostsLast (q : Pair) (rows : List (List ℕ)) (e : Entry) : Type 0 wh
 
 abbrev pub PostDone : Type 0
 PostDone =
-    (q : Pair) (rows : List (List ℕ)) (e : Entry) → (q .state ≡ 2 → ⊥) → Sound q → EntryFits (q .setup .memory) e
+    (q : Pair) (rows : List (List ℕ)) (e : Entry) → Postable q e
     → length (heldOf q rows) + length (waitingOf q rows) < 16
     → length rows ≡ 16
     → PostsLast q rows e

@@ -6,17 +6,12 @@ use crate::Status;
 use crate::sound::setup_unfit;
 use crate::sound::setup_unsound;
 use crate::sound::unsound;
+use crate::wide;
 use table::Entry;
 use table::Region;
 use table::Ring;
 ghost use mathlib.Core.Path.{_≡_};
 ghost use Rattle.pair.specs.Host.{outcome, setUp, setUpRegions, resetTo, resetRegions, madeReady, addStatus, addRegions, removeStatus, removeRegions, posted, postEntries};
-
-fn wide(x: usize) -> u64
-    ensures { λ r. ⌜ r ≡ x ⌝ }
-{
-    x as u64
-}
 
 fn wide32(x: u32) -> u64
     ensures { λ r. ⌜ r ≡ x ⌝ }

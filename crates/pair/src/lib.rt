@@ -102,6 +102,12 @@ pub struct HostOutcome {
     pub pair: Pair,
 }
 
+pub(crate) fn wide(x: usize) -> u64
+    ensures { λ r. ⌜ r ≡ x ⌝ }
+{
+    x as u64
+}
+
 // A pair as set-up and reset leave it.
 fn fresh(setup: Setup) -> Pair
     ensures { λ r. ⌜ r ≡ freshPair setup ⌝ }

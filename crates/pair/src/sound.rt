@@ -1,17 +1,12 @@
 // Pairs with a number out of its range, which no call makes.
 use crate::Pair;
 use crate::Setup;
+use crate::wide;
 use sequence::Msn;
 use sequence::Psn;
 ghost use mathlib.Core.Path.{_≡_};
 ghost use Rattle.table.specs.Table.{outside};
 ghost use Rattle.pair.specs.Sound.{setupUnfit, setupUnsound, ringUnsound, sendUnsound, messageUnsound, readUnsound, numbersUnsound, pairUnsound};
-
-fn wide(x: usize) -> u64
-    ensures { λ r. ⌜ r ≡ x ⌝ }
-{
-    x as u64
-}
 
 fn outside(offset: usize, length: usize, memory: usize) -> bool
     ensures { λ r. ⌜ r ≡ outside offset length memory ⌝ }

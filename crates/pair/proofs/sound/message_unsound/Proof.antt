@@ -3,50 +3,36 @@ use Rattle.pair.specs.Sound.{messageUnsound, writeUnsound}
 use borrow.Author.Needs.{needs}
 use Rattle.pair.proofs.sound.message_unsound.Statement.{statement}
 use Rattle.pair.proofs.sound.message_unsound.Tie as tie
-use Rattle.pair.proofs.sound.message_unsound.Reads as reads
-use Rattle.pair.proofs.sound.message_unsound.Lts as lts
-use Rattle.pair.proofs.sound.send_unsound.Reads as send-unsound-reads
-use Rattle.pair.proofs.sound.wide.Reads as wide-reads
-use Rattle.table.proofs.past_top.Reads as past-top-reads
 
--- src/sound.rt:84:9
 returns : tie.Need-returns
 unfolding messageUnsound writeUnsound
 returns c = simp (eq-eqb _ _ (c .if1 .taken))
 
--- src/sound.rt:87:9
 send-unsound-requires : tie.Need-send-unsound-requires
 send-unsound-requires c κs = search needs
 
--- src/sound.rt:87:9
 returns-2 : tie.Need-returns-2
 unfolding messageUnsound writeUnsound
 returns-2 c = simp (ne-eqb _ _ (c .before .before .if1 .left), eq-eqb _ _ (c .before .if2 .taken), ← c .send-unsound .ensures)
 
--- src/sound.rt:90:9
 returns-3 : tie.Need-returns-3
 unfolding messageUnsound writeUnsound
 returns-3 c = simp (ne-eqb _ _ (c .before .before .if1 .left), ne-eqb _ _ (c .before .if2 .left), ne-eqb _ _ (c .if3 .taken))
 
--- src/sound.rt:93:9
 returns-4 : tie.Need-returns-4
 unfolding messageUnsound writeUnsound
 returns-4 c = simp (ne-eqb _ _ (c .before .before .before .if1 .left), ne-eqb _ _ (c .before .before .if2 .left), eq-eqb _ _ (c .before .if3 .left), le-ltb _ _ (c .if4 .taken), le-leb _ _ (c .if4 .taken))
 
--- src/sound.rt:96:9
 returns-5 : tie.Need-returns-5
 unfolding messageUnsound writeUnsound
 returns-5 c = simp (ne-eqb _ _ (c .before .before .before .before .if1 .left), ne-eqb _ _ (c .before .before .before .if2 .left), eq-eqb _ _ (c .before .before .if3 .left), lt-leb _ _ (c .before .if4 .left), lt-ltb _ _ (c .before .if4 .left), lt-leb _ _ (c .if5 .taken), lt-ltb _ _ (c .if5 .taken))
 
--- src/sound.rt:98:30
 wide-requires : tie.Need-wide-requires
 wide-requires c κs = search needs
 
--- src/sound.rt:98:5
 past-top-requires : tie.Need-past-top-requires
 past-top-requires c κs = search needs
 
--- src/sound.rt:80:1
 returns-6 : tie.Need-returns-6
 unfolding messageUnsound writeUnsound
 returns-6 c = simp (ne-eqb _ _ (c .before .before .before .before .before .before .if1 .left), ne-eqb _ _ (c .before .before .before .before .before .if2 .left), eq-eqb _ _ (c .before .before .before .before .if3 .left), lt-leb _ _ (c .before .before .before .if4 .left), lt-ltb _ _ (c .before .before .before .if4 .left), le-ltb _ _ (c .before .before .if5 .left), le-leb _ _ (c .before .before .if5 .left), ← c .before .wide .ensures, ← c .past-top .ensures)

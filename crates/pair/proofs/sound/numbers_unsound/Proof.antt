@@ -2,20 +2,15 @@ use borrow.Author.Tests.{le-leb, le-ltb, lt-leb, lt-ltb}
 use Rattle.pair.specs.Sound.{numbersUnsound}
 use Rattle.pair.proofs.sound.numbers_unsound.Statement.{statement}
 use Rattle.pair.proofs.sound.numbers_unsound.Tie as tie
-use Rattle.pair.proofs.sound.numbers_unsound.Reads as reads
-use Rattle.pair.proofs.sound.numbers_unsound.Lts as lts
 
--- src/sound.rt:133:9
 returns : tie.Need-returns
 unfolding numbersUnsound
 returns c = simp (lt-leb _ _ (c .if1 .taken), lt-ltb _ _ (c .if1 .taken))
 
--- src/sound.rt:136:9
 returns-2 : tie.Need-returns-2
 unfolding numbersUnsound
 returns-2 c = simp (le-ltb _ _ (c .before .before .if1 .left), le-leb _ _ (c .before .before .if1 .left), le-ltb _ _ (c .if2 .taken), le-leb _ _ (c .if2 .taken))
 
--- src/sound.rt:129:1
 returns-3 : tie.Need-returns-3
 unfolding numbersUnsound
 returns-3 c = simp (le-ltb _ _ (c .before .before .before .if1 .left), le-leb _ _ (c .before .before .before .if1 .left), lt-leb _ _ (c .before .if2 .left), lt-ltb _ _ (c .before .if2 .left))

@@ -2,15 +2,11 @@ use borrow.Author.Tests.{eq-eqb, ne-eqb}
 use Rattle.pair.specs.Sound.{sendUnsound, noEntry}
 use Rattle.pair.proofs.sound.send_unsound.Statement.{statement}
 use Rattle.pair.proofs.sound.send_unsound.Tie as tie
-use Rattle.pair.proofs.sound.send_unsound.Reads as reads
-use Rattle.pair.proofs.sound.send_unsound.Lts as lts
 
--- src/sound.rt:74:9
 returns : tie.Need-returns
 unfolding sendUnsound noEntry
 returns c = simp (eq-eqb _ _ (c .if1 .taken))
 
--- src/sound.rt:70:1
 returns-2 : tie.Need-returns-2
 unfolding sendUnsound noEntry
 returns-2 c = simp (ne-eqb _ _ (c .if1 .left))

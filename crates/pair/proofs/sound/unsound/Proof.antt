@@ -2,64 +2,45 @@ use Rattle.pair.specs.Sound.{pairUnsound}
 use borrow.Author.Needs.{needs}
 use Rattle.pair.proofs.sound.unsound.Statement.{statement}
 use Rattle.pair.proofs.sound.unsound.Tie as tie
-use Rattle.pair.proofs.sound.unsound.Reads as reads
-use Rattle.pair.proofs.sound.unsound.Lts as lts
-use Rattle.pair.proofs.sound.message_unsound.Reads as message-unsound-reads
-use Rattle.pair.proofs.sound.numbers_unsound.Reads as numbers-unsound-reads
-use Rattle.pair.proofs.sound.read_unsound.Reads as read-unsound-reads
-use Rattle.pair.proofs.sound.ring_unsound.Reads as ring-unsound-reads
-use Rattle.pair.proofs.sound.setup_unsound.Reads as setup-unsound-reads
 
--- src/sound.rt:146:9
 setup-unsound-requires : tie.Need-setup-unsound-requires
 setup-unsound-requires c κs = search needs
 
--- src/sound.rt:148:9
 returns : tie.Need-returns
 unfolding pairUnsound
 returns c = simp (← c .before .setup-unsound .ensures, c .if1 .taken)
 
--- src/sound.rt:150:9
 numbers-unsound-requires : tie.Need-numbers-unsound-requires
 numbers-unsound-requires c κs = search needs
 
--- src/sound.rt:152:9
 returns-2 : tie.Need-returns-2
 unfolding pairUnsound
 returns-2 c = simp (← c .before .before .before .setup-unsound .ensures, c .before .before .if1 .left, ← c .before .numbers-unsound .ensures, c .if2 .taken)
 
--- src/sound.rt:154:9
 ring-unsound-requires : tie.Need-ring-unsound-requires
 ring-unsound-requires c κs = search needs
 
--- src/sound.rt:156:9
 returns-3 : tie.Need-returns-3
 unfolding pairUnsound
 returns-3 c = simp (← c .before .before .before .before .before .setup-unsound .ensures, c .before .before .before .before .if1 .left, ← c .before .before .before .numbers-unsound .ensures, c .before .before .if2 .left, ← c .before .ring-unsound .ensures, c .if3 .taken)
 
--- src/sound.rt:158:9
 ring-unsound-requires-2 : tie.Need-ring-unsound-requires-2
 ring-unsound-requires-2 c κs = search needs
 
--- src/sound.rt:160:9
 returns-4 : tie.Need-returns-4
 unfolding pairUnsound
 returns-4 c = simp (← c .before .before .before .before .before .before .before .setup-unsound .ensures, c .before .before .before .before .before .before .if1 .left, ← c .before .before .before .before .before .numbers-unsound .ensures, c .before .before .before .before .if2 .left, ← c .before .before .before .ring-unsound .ensures, c .before .before .if3 .left, ← c .before .ring-unsound2 .ensures, c .if4 .taken)
 
--- src/sound.rt:162:9
 message-unsound-requires : tie.Need-message-unsound-requires
 message-unsound-requires c κs = search needs
 
--- src/sound.rt:170:9
 returns-5 : tie.Need-returns-5
 unfolding pairUnsound
 returns-5 c = simp (← c .before .before .before .before .before .before .before .before .before .setup-unsound .ensures, c .before .before .before .before .before .before .before .before .if1 .left, ← c .before .before .before .before .before .before .before .numbers-unsound .ensures, c .before .before .before .before .before .before .if2 .left, ← c .before .before .before .before .before .ring-unsound .ensures, c .before .before .before .before .if3 .left, ← c .before .before .before .ring-unsound2 .ensures, c .before .before .if4 .left, ← c .before .message-unsound .ensures, c .if5 .taken)
 
--- src/sound.rt:172:5
 read-unsound-requires : tie.Need-read-unsound-requires
 read-unsound-requires c κs = search needs
 
--- src/sound.rt:142:1
 returns-6 : tie.Need-returns-6
 unfolding pairUnsound
 returns-6 c = simp (← c .before .before .before .before .before .before .before .before .before .before .setup-unsound .ensures, c .before .before .before .before .before .before .before .before .before .if1 .left, ← c .before .before .before .before .before .before .before .before .numbers-unsound .ensures, c .before .before .before .before .before .before .before .if2 .left, ← c .before .before .before .before .before .before .ring-unsound .ensures, c .before .before .before .before .before .if3 .left, ← c .before .before .before .before .ring-unsound2 .ensures, c .before .before .before .if4 .left, ← c .before .before .message-unsound .ensures, c .before .if5 .left, ← c .read-unsound .ensures)
