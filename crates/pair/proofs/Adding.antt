@@ -59,7 +59,7 @@ module _ (q : Pair) (rows : List (List ℕ)) (r : Region) where
   add-refused : (s : Status) → addStatus q rows r ≡ s → executed s ≡ false
       → (statusNumber (addStatus q rows r) ≡ statusNumber s) × (addRegions q rows r ≡ rows)
   unfolding addRegions
-  add-refused s e h = (ap statusNumber e, kept (addStatus q rows r) s (set rows (freeRow rows) (regionRow r)) rows e h)
+  add-refused s e h = (ap statusNumber e, kept (addStatus q rows r) s _ rows e h)
 
   error-add : q .state ≡ 2 → addStatus q rows r ≡ status.WrongState
   unfolding addStatus
@@ -135,7 +135,7 @@ pub remove-unknown : RemoveUnknown
 unfolding removeRegions executed statusNumber
 remove-unknown rows key h =
     let e = unknown-remove rows key (key-unused key rows h) in
-    (ap statusNumber e, kept (removeStatus rows key) status.NoSuchKey (set rows (keyRow key rows) noRegion) rows e refl)
+    (ap statusNumber e, kept (removeStatus rows key) status.NoSuchKey _ rows e refl)
 
 removed-row : (rows : List (List ℕ)) (key : ℕ) → keyRow key rows < 16 → removeRegions rows key ≡ set rows (keyRow key rows) noRegion
 unfolding removeRegions executed statusNumber

@@ -42,13 +42,13 @@ pub set-up-bad : SetUpBad
 unfolding setUp setUpRegions executed statusNumber
 set-up-bad s rows h =
     let e = bad-status s h in
-    ((ap statusNumber e, kept (setUpStatus s) status.BadNumber (freshPair s) blankPair e refl), kept (setUpStatus s) status.BadNumber noRegions rows e refl)
+    ((ap statusNumber e, kept (setUpStatus s) status.BadNumber _ blankPair e refl), kept (setUpStatus s) status.BadNumber _ rows e refl)
 
 pub set-up-over : SetUpOver
 unfolding setUp setUpRegions executed statusNumber
 set-up-over s rows f h =
     let e = over-status s f h in
-    ((ap statusNumber e, kept (setUpStatus s) status.OutOfRange (freshPair s) blankPair e refl), kept (setUpStatus s) status.OutOfRange noRegions rows e refl)
+    ((ap statusNumber e, kept (setUpStatus s) status.OutOfRange _ blankPair e refl), kept (setUpStatus s) status.OutOfRange _ rows e refl)
 
 pub set-up-pair : (s : Setup) → SetupSound s → setUp s .pair ≡ freshPair s
 unfolding setUp executed statusNumber
@@ -89,7 +89,7 @@ pub reset-never : ResetNever
 unfolding resetTo resetRegions executed statusNumber
 reset-never q rows h =
     let e = never-status q h in
-    ((ap statusNumber e, kept (resetStatus q) status.OutOfRange (freshPair (q .setup)) q e refl), kept (resetStatus q) status.OutOfRange noRegions rows e refl)
+    ((ap statusNumber e, kept (resetStatus q) status.OutOfRange _ q e refl), kept (resetStatus q) status.OutOfRange _ rows e refl)
 
 -- Make ready
 wrong-ready : (q : Pair) → (q .state ≡ 0 → ⊥) → readyStatus q ≡ status.WrongState
@@ -108,13 +108,13 @@ pub ready-wrong : ReadyWrong
 unfolding madeReady executed statusNumber
 ready-wrong q h =
     let e = wrong-ready q h in
-    (ap statusNumber e, kept (readyStatus q) status.WrongState (moved q 1 (q .entries)) q e refl)
+    (ap statusNumber e, kept (readyStatus q) status.WrongState _ q e refl)
 
 pub ready-unsound : ReadyUnsound
 unfolding madeReady executed statusNumber
 ready-unsound q h u =
     let e = unsound-ready q h u in
-    (ap statusNumber e, kept (readyStatus q) status.OutOfRange (moved q 1 (q .entries)) q e refl)
+    (ap statusNumber e, kept (readyStatus q) status.OutOfRange _ q e refl)
 
 pub ready-pair : (q : Pair) → q .state ≡ 0 → Sound q → madeReady q .pair ≡ moved q 1 (q .entries)
 unfolding madeReady executed statusNumber
