@@ -2,7 +2,7 @@
 use Prim.Native.Nat.{ℕ, zero, suc, _+_, _*_, _/_, _%_, min}
 use mathlib.Core.Bool.{Bool, cond, _||_}
 use mathlib.Core.List.{List, [], _++_}
-use lib.Dec.{eqb}
+use lib.Dec.{leb, eqb}
 use lib.ListN.{take, drop}
 use Rattle.pieces.specs.declared.Span.{Span}
 
@@ -18,6 +18,14 @@ pieces n pmtu = cond (eqb n 0) 1 (n / pmtu + cond (eqb (n % pmtu) 0) 0 1)
 -- last 2, Last, and all others 1, Middle
 unfoldable pub placeAt : ℕ → ℕ → ℕ
 placeAt count i = cond (eqb count 1) 4 (cond (eqb i 0) 0 (cond (eqb (i + 1) count) 2 1))
+
+-- First, 0, and Middle, 1, are followed by more; Last, 2, and Only, 4, end the message
+unfoldable pub ends : ℕ → Bool
+ends place = leb 2 place
+
+-- First and Only begin it
+unfoldable pub starts : ℕ → Bool
+starts place = eqb place 0 || eqb place 4
 
 -- piece i of the bytes d: PMTU bytes, or as many as there are, from i x PMTU on
 unfoldable pub pieceAt : List ℕ → ℕ → ℕ → List ℕ

@@ -7,10 +7,10 @@ use lib.Dec.{eqb}
 use borrow.Author.Tests.{ltb-false}
 use Rattle.laws.proofs.Tests.{cond-le}
 use Rattle.header.specs.Read.{otherService}
-use Rattle.pieces.specs.Pieces.{pmtuFits, pieces, placeAt}
+use Rattle.pieces.specs.Pieces.{pmtuFits, pieces, placeAt, ends}
 use Rattle.pieces.proofs.Counting.{counts, pmtu-bounds}
 use Rattle.segment.specs.Message.{carries, carriedLength, messageLength, messageLimit, packetsOf}
-use Rattle.segment.specs.Cut.{ends, withImmediate, lowFor}
+use Rattle.segment.specs.Cut.{withImmediate, lowFor}
 use Rattle.segment.specs.declared.Request.{Request}
 use Rattle.segment.specs.declared.Request.the-variants.{Send, SendImmediate, Write, WriteImmediate, Read, CmpSwap, FetchAdd}
 

@@ -9,11 +9,11 @@ use Rattle.sequence.specs.Sequence.{psnAfter}
 use Rattle.sequence.specs.declared.Psn.{Psn}
 use Rattle.sequence.proofs.Circle.{after-none, after-after}
 use Rattle.opcode.specs.Opcode.{placeOf, lowClass, classOf}
-use Rattle.pieces.specs.Pieces.{pieces, placeAt}
+use Rattle.pieces.specs.Pieces.{pieces, placeAt, ends, starts}
 use Rattle.pieces.proofs.Cuts.{places}
 use Rattle.segment.specs.Message.{carries, carriedLength, messageLength, packetsOf}
 use Rattle.segment.specs.Next.{psnsOf, nextPsn}
-use Rattle.segment.specs.Cut.{ends, starts, withImmediate, lowFor, sendExtension, rethFor, writeExtension, writeEnd, writeImmediateExtension, fetchAddEth, extensionFor, bthAt, headerAt}
+use Rattle.segment.specs.Cut.{withImmediate, lowFor, sendExtension, rethFor, writeExtension, writeEnd, writeImmediateExtension, fetchAddEth, extensionFor, bthAt, headerAt}
 use Rattle.segment.specs.Claims.{Carrier, CutMarked, CutOpcodes, CutExtended}
 use Rattle.segment.specs.Numbers.{PsnsTaken, PsnAt, PsnFirst, PsnNext, NextMessage, NextIs}
 use Rattle.segment.specs.declared.Request.{Request}

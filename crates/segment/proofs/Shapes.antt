@@ -10,9 +10,9 @@ use borrow.Author.Tests.{lt-ltb}
 use Rattle.opcode.specs.Opcode.{serviceOf, lowOf, kindOf, placeIn, placeOf, sendWriteFollows, followsOf, lowClass, ucHas, classOf}
 use Rattle.header.specs.Write.{followsBy, extensionBytes, rethBytes}
 use Rattle.header.specs.Claims.{RethWidths, Widths}
-use Rattle.pieces.specs.Pieces.{pieces, placeAt}
+use Rattle.pieces.specs.Pieces.{pieces, placeAt, ends, starts}
 use Rattle.segment.specs.Message.{carries, carriedLength, packetsOf, messageLength, messageLimit}
-use Rattle.segment.specs.Cut.{ends, starts, withImmediate, lowFor, sendExtension, rethFor, writeExtension, writeEnd, writeImmediateExtension, fetchAddEth, extensionFor}
+use Rattle.segment.specs.Cut.{withImmediate, lowFor, sendExtension, rethFor, writeExtension, writeEnd, writeImmediateExtension, fetchAddEth, extensionFor}
 use Rattle.segment.specs.Claims.{Carrier, TargetWidths, RequestWidths, InLimit, CutMany, CutOne, kindNumber}
 use Rattle.segment.specs.declared.Target.{Target}
 use Rattle.segment.specs.declared.Request.{Request}

@@ -16,20 +16,12 @@ use Rattle.header.specs.declared.Extension.the-variants.{Bare, Remote, RemoteIm
 use Rattle.header.specs.declared.Header.{Header}
 use Rattle.header.specs.declared.Answer.{Answer}
 use Rattle.packet.specs.Packet.{padOf, packetBytes, packetLength, packetAnswer}
-use Rattle.pieces.specs.Pieces.{pmtuFits, placeAt, pieceAt, partAt}
+use Rattle.pieces.specs.Pieces.{pmtuFits, placeAt, starts, ends, pieceAt, partAt}
 use Rattle.segment.specs.Message.{carries, carried, carriedLength, messageLength, messageLimit, packetsOf}
 use Rattle.segment.specs.declared.Connection.{Connection}
 use Rattle.segment.specs.declared.Target.{Target}
 use Rattle.segment.specs.declared.Request.{Request}
 use Rattle.segment.specs.declared.Request.the-variants.{Send, SendImmediate, Write, WriteImmediate, Read, CmpSwap, FetchAdd}
-
--- First, 0, and Middle, 1, are followed by more; Last, 2, and Only, 4, end the message
-unfoldable pub ends : ℕ → Bool
-ends place = leb 2 place
-
--- First and Only begin it
-unfoldable pub starts : ℕ → Bool
-starts place = eqb place 0 || eqb place 4
 
 -- an Imm form is one more than the form without
 unfoldable pub withImmediate : ℕ → ℕ

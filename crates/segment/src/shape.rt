@@ -9,7 +9,8 @@ use header::Reth;
 use sequence::Psn;
 ghost use mathlib.Core.Path.{_≡_};
 ghost use Prim.Native.Nat.{_≤_, _<_};
-ghost use Rattle.segment.specs.Cut.{starts, withImmediate, lowFor, sendExtension, rethFor, writeExtension, writeEnd, writeImmediateExtension, fetchAddEth, extensionFor, bthAt};
+ghost use Rattle.pieces.specs.Pieces.{starts};
+ghost use Rattle.segment.specs.Cut.{withImmediate, lowFor, sendExtension, rethFor, writeExtension, writeEnd, writeImmediateExtension, fetchAddEth, extensionFor, bthAt};
 
 fn with_immediate(place: u8) -> u8
     requires { ⌜ place ≤ 4 ⌝ }

@@ -1,5 +1,6 @@
 use borrow.Author.Tests.{le-leb, le-ltb, lt-leb, lt-ltb}
-use Rattle.segment.specs.Cut.{sendExtension, ends}
+use Rattle.pieces.specs.Pieces.{ends}
+use Rattle.segment.specs.Cut.{sendExtension}
 use Rattle.segment.proofs.shape.send_extension.Statement.{statement}
 use Rattle.segment.proofs.shape.send_extension.Tie as tie
 

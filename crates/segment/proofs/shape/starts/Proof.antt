@@ -1,6 +1,6 @@
 use borrow.Author.Needs.{needs}
 use Rattle.laws.proofs.Auto.{tested}
-use Rattle.segment.specs.Cut.{starts}
+use Rattle.pieces.specs.Pieces.{starts}
 use Rattle.segment.proofs.shape.starts.Statement.{statement}
 use Rattle.segment.proofs.shape.starts.Tie as tie
 

@@ -1,5 +1,6 @@
 use borrow.Author.Tests.{le-leb, le-ltb, lt-leb, lt-ltb}
-use Rattle.segment.specs.Cut.{withImmediate, ends}
+use Rattle.pieces.specs.Pieces.{ends}
+use Rattle.segment.specs.Cut.{withImmediate}
 use borrow.Author.Needs.{needs}
 use Rattle.segment.proofs.shape.with_immediate.Statement.{statement}
 use Rattle.segment.proofs.shape.with_immediate.Tie as tie

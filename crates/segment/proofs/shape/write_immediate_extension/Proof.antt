@@ -1,5 +1,6 @@
 use borrow.Author.Tests.{le-leb, le-ltb, lt-leb, lt-ltb}
-use Rattle.segment.specs.Cut.{writeImmediateExtension, ends}
+use Rattle.pieces.specs.Pieces.{ends}
+use Rattle.segment.specs.Cut.{writeImmediateExtension}
 use borrow.Author.Needs.{needs}
 use Rattle.segment.proofs.shape.write_immediate_extension.Statement.{statement}
 use Rattle.segment.proofs.shape.write_immediate_extension.Tie as tie
