@@ -1,1 +1,5 @@
-
+pub mod Checked
+pub mod Leads
+pub mod Executes
+pub mod Decisions
+pub mod Kept

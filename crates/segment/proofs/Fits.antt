@@ -30,7 +30,7 @@ use Rattle.segment.proofs.Steps.{part-carried, span-inside}
 use Rattle.segment.proofs.Shapes.{shape, place-said, few, widths, carries-carrier, carrier-carries, in-limit, class-is}
 
 -- a request carries bytes, or it does not
-decide : (r : Request) → Carrier r ⊎ (Carrier r → ⊥)
+pub decide : (r : Request) → Carrier r ⊎ (Carrier r → ⊥)
 decide r = go (carries r) refl
   where
     go : (b : Bool) → carries r ≡ b → Carrier r ⊎ (Carrier r → ⊥)

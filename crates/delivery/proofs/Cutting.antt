@@ -1,0 +1,140 @@
+-- The packet of a slot, as the pair reads it.
+use Prim.Native.Nat.{ℕ, suc, _+_, _-_, _*_, _%_, _^_, _≤_, _<_}
+use mathlib.Core.Path.{_≡_, refl, sym, ap, subst, _∙_}
+use mathlib.Core.Bool.{Bool, true, false, cond}
+use mathlib.Core.List.{List, [], _∷_, _++_}
+use mathlib.Core.Logic.{_⊎_, inl, inr}
+use native.Mathlib.Omega.{arith}
+use lib.ListN.{length, take, drop}
+use Rattle.sequence.specs.Sequence.{psnAfter}
+use Rattle.sequence.proofs.Circle.{after-below}
+use Rattle.header.specs.Check.{admitted}
+use Rattle.header.specs.Read.{bthOf, headerOf, readHeader}
+use Rattle.header.specs.Write.{headerLength}
+use Rattle.header.specs.declared.Header.{Header}
+use Rattle.header.specs.declared.HeaderRead.the-variants.{Accepted}
+use Rattle.header.proofs.Reasons.{accepted}
+use Rattle.packet.specs.Packet.{padOf, packetBytes, packetLength, payloadOf}
+use Rattle.packet.proofs.Bytes.{length-packet}
+use Rattle.pieces.specs.Pieces.{placeAt}
+use Rattle.pieces.specs.Claims.{IsPmtu}
+use Rattle.pair.specs.declared.Setup.{Setup}
+use Rattle.pair.specs.Claims.{SetupFit}
+use Rattle.segment.specs.Message.{messageLength}
+use Rattle.segment.specs.Cut.{extensionFor, headerAt, payloadAt, cutBytes}
+use Rattle.segment.specs.Claims.{Carrier, Fit, Cuttable, kindNumber}
+use Rattle.segment.proofs.Numbers.{cut-marked, psn-at}
+use Rattle.segment.proofs.Fits.{header-fits}
+use Rattle.segment.proofs.Whole.{cut-reads, cut-pad, cut-full, cut-last, cut-admitted}
+use Rattle.request.specs.Packet.{operandsOf, packetOf}
+use Rattle.request.specs.declared.Packet.{Packet}
+use Rattle.delivery.specs.Stream.{packetCount, Slot, packetAt}
+use Rattle.delivery.proofs.Chain.{Stands}
+use Rattle.delivery.proofs.Places.{Sizes}
+
+abbrev pub headerFor : Slot → Header
+headerFor t = headerAt (t .message .connection) (t .message .request) (length (t .message .bytes)) (t .first) (t .index)
+
+abbrev pub payloadFor : Slot → List ℕ
+payloadFor t = payloadAt (t .message .connection) (t .message .request) (t .message .bytes) (t .index)
+
+abbrev pub netFor : Slot → ℕ
+netFor t = length (payloadFor t)
+
+abbrev pub placeFor : Slot → ℕ
+placeFor t = placeAt (packetCount (t .message)) (t .index)
+
+abbrev pub cutPacket : Slot → Packet
+cutPacket t =
+    record {
+      kind = kindNumber (t .message .request);
+      place = placeFor t;
+      ackreq = headerFor t .bth .ackreq;
+      pad = padOf (netFor t);
+      psn = psnAfter (t .first) (t .index);
+      start = headerLength (headerFor t);
+      raw = netFor t + padOf (netFor t);
+      operands = operandsOf (extensionFor (t .message .request) (messageLength (t .message .request) (length (t .message .bytes))) (placeFor t));
+    }
+
+module _ (s : Setup) (regions : List (List ℕ)) (f : SetupFit s) (t : Slot) (h : Stands s regions t) where
+  pub pmtu-is : IsPmtu (t .message .connection .pmtu)
+  pmtu-is = subst IsPmtu (sym (h .permitted .pmtu)) (f .pmtu)
+
+  fit : Fit (t .message .connection) (t .message .request) (t .first .0)
+  fit =
+      let e : t .message .connection .dest ≡ s .ours = h .permitted .dest in
+      let o : s .ours < 2 ^ 24 = f .ours in
+      record { pmtu = pmtu-is; service = inl (h .permitted .service); dest = omega arith; first = h .first }
+
+  pub cuttable : Cuttable (t .message .connection) (t .message .request) (length (t .message .bytes)) (t .first .0)
+  cuttable = record { fit = fit; limit = h .permitted .limit; pkey = h .permitted .pkey; widths = h .permitted .widths }
+
+  reads : readHeader (packetAt t) ≡ Accepted (headerFor t)
+  unfolding packetAt
+  reads = cut-reads (t .message .connection) (t .message .request) (t .message .bytes) (t .first) (t .index) cuttable (h .inside) .header
+
+  pub admits : s .service ≡ 0 → admitted (s .service) (s .ours) (s .pkey) true (packetAt t) ≡ Accepted (headerFor t)
+  unfolding packetAt
+  admits r =
+      subst (λ x. admitted x (s .ours) (s .pkey) true (packetAt t) ≡ Accepted (headerFor t)) (h .permitted .service ∙ sym r)
+      (subst (λ x. admitted (t .message .connection .service) x (s .pkey) true (packetAt t) ≡ Accepted (headerFor t)) (h .permitted .dest)
+      (cut-admitted (t .message .connection) (t .message .request) (t .message .bytes) (t .first) (t .index) (s .pkey) cuttable (h .inside) (h .permitted .match)))
+
+  psn-is : headerFor t .bth .psn ≡ psnAfter (t .first) (t .index)
+  psn-is = psn-at (t .message .connection) (t .message .request) (length (t .message .bytes)) (t .first) (t .index)
+
+  -- what reading finds as its PSN has 24 bits
+  pub psn-small : bthOf (packetAt t) .psn .0 < 2 ^ 24
+  unfolding headerOf
+  psn-small =
+      let e : bthOf (packetAt t) .psn .0 ≡ psnAfter (t .first) (t .index) .0 =
+      ap (λ x. x .bth .psn .0) (accepted (packetAt t) (headerFor t) reads .1) ∙ ap (λ x. x .0) psn-is in
+      omega (arith, after-below (t .first) (t .index))
+
+  payload-is : payloadOf (packetAt t) ≡ payloadFor t
+  unfolding packetAt
+  payload-is = cut-reads (t .message .connection) (t .message .request) (t .message .bytes) (t .first) (t .index) cuttable (h .inside) .payload
+
+  pad-is : headerFor t .bth .pad ≡ padOf (netFor t)
+  unfolding packetAt
+  pad-is = cut-pad (t .message .connection) (t .message .request) (t .message .bytes) (t .first) (t .index) cuttable ∙ ap (λ x. padOf (length x)) payload-is
+
+  raw-is : length (packetAt t) - headerLength (headerFor t) ≡ netFor t + padOf (netFor t)
+  unfolding packetAt cutBytes packetLength
+  raw-is =
+      let l = length-packet (headerFor t) (payloadFor t) (header-fits (t .message .connection) (t .message .request) (length (t .message .bytes)) (t .first) (t .index) cuttable) in
+      omega (arith, l)
+
+  pub is-packet : packetOf (headerFor t) (length (packetAt t)) ≡ cutPacket t
+  unfolding packetOf headerAt
+  is-packet =
+      let m = cut-marked (t .message .connection) (t .message .request) (length (t .message .bytes)) (t .first) (t .index) fit (h .inside) in
+      λ k.
+      record {
+        kind = m .kind k;
+        place = m .place k;
+        ackreq = headerFor t .bth .ackreq;
+        pad = pad-is k;
+        psn = psn-is k;
+        start = headerLength (headerFor t);
+        raw = raw-is k;
+        operands = operandsOf (extensionFor (t .message .request) (messageLength (t .message .request) (length (t .message .bytes))) (placeFor t));
+      }
+
+  -- the payload stands behind the headers
+  pub carried-is : take (netFor t) (drop (headerLength (headerFor t)) (packetAt t)) ≡ payloadFor t
+  unfolding packetAt
+  carried-is = cut-reads (t .message .connection) (t .message .request) (t .message .bytes) (t .first) (t .index) cuttable (h .inside) .bytes
+
+  pub sizes : Carrier (t .message .request) → Sizes (t .index) (packetCount (t .message)) (netFor t) (t .message .connection .pmtu) (length (t .message .bytes))
+  unfolding packetAt
+  sizes r =
+      record {
+        more = λ l.
+            let g = cut-full (t .message .connection) (t .message .request) (t .message .bytes) (t .first) (t .index) cuttable l in
+            (ap length (sym payload-is) ∙ g .0, g .1);
+        last = λ l.
+            let g = cut-last (t .message .connection) (t .message .request) (t .message .bytes) (t .first) (t .index) cuttable l in
+            (subst (λ x. length x ≤ t .message .connection .pmtu) payload-is (g .0), (λ o. subst (λ x. 0 < length x) payload-is (g .1 o)), subst (λ x. t .index * t .message .connection .pmtu + length x ≡ length (t .message .bytes)) payload-is (g .2 r));
+      }

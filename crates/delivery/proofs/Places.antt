@@ -1,0 +1,70 @@
+-- The place of packet i of count: what begins and ends there, and how many bytes it may carry.
+use Prim.Native.Nat.{ℕ, suc, _+_, _*_, _%_, _≤_, _<_}
+use mathlib.Core.Path.{_≡_, refl, sym, ap, _∙_}
+use mathlib.Core.Bool.{Bool, true, false, cond, not, _&&_, _||_, true≢false}
+use native.Mathlib.Omega.{arith}
+use lib.Dec.{eqb, leb, ltb}
+use borrow.Author.Tests.{eqb-true, eqb-false, eq-eqb, ne-eqb, le-ltb}
+use Rattle.laws.proofs.Auto.{tests}
+use Rattle.pieces.specs.Pieces.{placeAt, starts, ends}
+use Rattle.packet.specs.Packet.{padOf}
+use Rattle.request.specs.Verdict.{sizeOff, padEarly}
+
+-- the bytes of packet i: a full PMTU and some to come, or the rest
+pub record Sizes (i count net pmtu n : ℕ) : Type 0 where
+  pub more : suc i < count → (net ≡ pmtu) × (i * pmtu + pmtu < n)
+  pub last : suc i ≡ count → (net ≤ pmtu) × (0 < i → 0 < net) × (i * pmtu + net ≡ n)
+
+module _ (count i : ℕ) (h : i < count) where
+  pub starts-at : starts (placeAt count i) ≡ eqb i 0
+  unfolding placeAt starts
+  starts-at = go (eqb count 1) (eqb i 0) (eqb (i + 1) count) refl refl
+    where
+      go : (a b c : Bool) → eqb count 1 ≡ a → eqb i 0 ≡ b
+          → (eqb (cond a 4 (cond b 0 (cond c 2 1))) 0 || eqb (cond a 4 (cond b 0 (cond c 2 1))) 4) ≡ b
+      go true true c e f = refl
+      go true false c e f = absurd (omega (arith, tests))
+      go false true c e f = refl
+      go false false true e f = refl
+      go false false false e f = refl
+
+  pub ends-at : ends (placeAt count i) ≡ eqb (suc i) count
+  unfolding placeAt ends
+  ends-at = go (eqb count 1) (eqb i 0) (eqb (i + 1) count) refl refl refl
+    where
+      go : (a b c : Bool) → eqb count 1 ≡ a → eqb i 0 ≡ b → eqb (i + 1) count ≡ c
+          → leb 2 (cond a 4 (cond b 0 (cond c 2 1))) ≡ eqb (suc i) count
+      go true b c e f g = sym (eq-eqb (suc i) count (omega (arith, tests)))
+      go false true c e f g = sym (ne-eqb (suc i) count (λ z. absurd (omega (arith, tests))))
+      go false false true e f g = sym (eq-eqb (suc i) count (omega (arith, tests)))
+      go false false false e f g = sym (ne-eqb (suc i) count (λ z. absurd (omega (arith, tests))))
+
+  module _ (net pmtu n : ℕ) (z : Sizes i count net pmtu n) where
+    pub size-fits : sizeOff (placeAt count i) pmtu net ≡ false
+    unfolding placeAt ends sizeOff
+    size-fits = go (eqb count 1) (eqb i 0) (eqb (i + 1) count) refl refl refl
+      where
+        rest : suc i ≡ count → ltb pmtu net ≡ false
+        rest e = le-ltb pmtu net (z .last e .0)
+        some : suc i ≡ count → 0 < i → eqb net 0 ≡ false
+        some e o = ne-eqb net 0 (λ q. absurd (omega (arith, z .last e .1 o)))
+        go : (a b c : Bool) → eqb count 1 ≡ a → eqb i 0 ≡ b → eqb (i + 1) count ≡ c
+            → cond (leb 2 (cond a 4 (cond b 0 (cond c 2 1))))
+            ((eqb (cond a 4 (cond b 0 (cond c 2 1))) 2 && eqb net 0) || ltb pmtu net)
+            (not (eqb net pmtu))
+            ≡ false
+        go true b c e f g = rest (omega (arith, tests))
+        go false true c e f g = ap not (eq-eqb net pmtu (z .more (omega (arith, tests)) .0))
+        go false false true e f g = rw (some (omega (arith, tests)) (omega (arith, tests))) (rest (omega (arith, tests)))
+        go false false false e f g = ap not (eq-eqb net pmtu (z .more (omega (arith, tests)) .0))
+
+    pub pad-late : pmtu % 4 ≡ 0 → padEarly (placeAt count i) (padOf net) ≡ false
+    unfolding padEarly padOf
+    pad-late q = rw ends-at (go (eqb (suc i) count) refl)
+      where
+        go : (b : Bool) → eqb (suc i) count ≡ b → (not b && not (eqb (padOf net) 0)) ≡ false
+        go true e = refl
+        go false e =
+            let l : suc i < count = omega (arith, tests) in
+            let w : net ≡ pmtu = z .more l .0 in
+            ap not (eq-eqb (padOf net) 0 (omega arith))

@@ -1,0 +1,113 @@
+-- What holds between calls of the plain run and the pair's.
+use Prim.Native.Nat.{ℕ, suc, _+_, _*_, _≤_, _<_}
+use mathlib.Core.Path.{_≡_, refl, sym, ap, _∙_}
+use mathlib.Core.Bool.{Bool, true, false, cond}
+use mathlib.Core.List.{List, [], _∷_, _++_, append-nil, map}
+use lib.Dec.{eqb}
+use lib.ListN.{length}
+use Rattle.sequence.specs.Sequence.{after}
+use Rattle.table.specs.View.{inRing}
+use Rattle.table.specs.declared.Entry.{Entry}
+use Rattle.pair.specs.declared.OpenMessage.{OpenMessage}
+use Rattle.pair.specs.declared.ReadAnswer.{ReadAnswer}
+use Rattle.pair.specs.declared.Pair.{Pair}
+use Rattle.segment.specs.Claims.{kindNumber}
+use Rattle.segment.specs.declared.Request.{Request}
+use Rattle.segment.specs.declared.Request.the-variants.{Send, SendImmediate, Write, WriteImmediate, Read, CmpSwap, FetchAdd}
+use Rattle.responder.specs.Apply.{pairBy, memoryBy, savedBy, with}
+use Rattle.responder.specs.declared.Decision.{Decision}
+use Rattle.delivery.specs.Stream.{Message, Slot, slot, along}
+use Rattle.delivery.specs.Plain.{Plain, sending}
+use Rattle.delivery.specs.Demand.{Run, reports, AllLongEnough, entryOf}
+use Rattle.delivery.proofs.Operands.{addressOf, keyOf, namedOf}
+
+-- the message u is of the kind k, with so many bytes placed, and names the bytes
+pub record Is (k off at y n : ℕ) (u : OpenMessage) : Type 0 where
+  pub kind : u .kind ≡ k
+  pub placed : u .placed ≡ off
+  pub address : u .address ≡ at
+  pub key : u .key ≡ y
+  pub length : u .length ≡ n
+
+-- it is that of the packet t, before it
+abbrev pub IsOf : Slot → OpenMessage → Type 0
+IsOf t u =
+    Is (kindNumber (t .message .request)) (t .index * t .message .connection .pmtu) (addressOf (t .message .request)) (keyOf (t .message .request))
+    (namedOf (t .message .request) (length (t .message .bytes))) u
+
+-- a SEND under way holds an entry that takes it; nothing else holds one
+abbrev pub Holding : Request → ℕ → List Entry → Type 0
+Holding Send n held = (e : Entry) × (held ≡ e ∷ []) × (n ≤ e .length)
+Holding (SendImmediate v) n held = (e : Entry) × (held ≡ e ∷ []) × (n ≤ e .length)
+Holding (Write t) n held = held ≡ []
+Holding (WriteImmediate t v) n held = held ≡ []
+Holding (Read a) n held = held ≡ []
+Holding (CmpSwap a) n held = held ≡ []
+Holding (FetchAdd t v) n held = held ≡ []
+
+-- before the first packet of a message none is open, before all others it is the open one
+abbrev pub Under : Bool → Slot → OpenMessage → List Entry → Type 0
+Under true t u held = (u .kind ≡ 255) × (held ≡ [])
+Under false t u held = IsOf t u × Holding (t .message .request) (length (t .message .bytes)) held
+
+pub record Link (ms : List Message) (S : List Slot) (p : Plain) (x : Run) : Type 0 where
+  pub reliable : x .whole .pair .setup .service ≡ 0
+  pub ready : x .whole .pair .state ≡ 1
+  pub expected : x .whole .pair .expected ≡ p .expected
+  pub msn : x .whole .pair .msn ≡ p .msn
+  pub entries : map entryOf (inRing (x .whole .entries) (x .whole .pair .entries)) ≡ p .held ++ p .waiting
+  pub reads : x .whole .pair .read .remaining ≡ p .r
+  pub memory : x .memory ≡ p .memory
+  pub completions : x .completions ≡ p .completions
+  pub within : p .k ≤ length S
+  pub number : p .expected .0 ≡ after (x .whole .pair .setup .start .0) (along S (p .k))
+  pub long : AllLongEnough ms (p .waiting)
+  pub under : Under (eqb (slot S (p .k) .index) 0) (slot S (p .k)) (x .whole .pair .message) (p .held)
+
+-- what a decision d about the packet b leads to
+abbrev pub stepBy : Run → Decision → List ℕ → Run
+stepBy x d b =
+    record {
+      whole =
+          record {
+            pair = pairBy (x .whole .pair) d;
+            regions = x .whole .regions;
+            entries = x .whole .entries;
+            saved = savedBy (x .whole .pair .saved) d (x .whole .saved) (x .memory);
+          };
+      memory = memoryBy d (x .memory) b;
+      completions = x .completions ++ reports (d .completion);
+    }
+
+-- another mark, another READ being answered, and no completion
+abbrev pub eased : Run → Bool → ReadAnswer → Run
+eased x mark reads =
+    record {
+      whole =
+          record {
+            pair = with (x .whole .pair) (x .whole .pair .state) mark reads;
+            regions = x .whole .regions;
+            entries = x .whole .entries;
+            saved = x .whole .saved;
+          };
+      memory = x .memory;
+      completions = x .completions ++ [];
+    }
+
+pub eases : {ms : List Message} {S : List Slot} {p : Plain} {x : Run} → Link ms S p x → (mark : Bool) (a : ReadAnswer) (r : ℕ) → a .remaining ≡ r
+    → Link ms S (sending p r) (eased x mark a)
+eases {ms} {S} {p} {x} L mark a r e =
+    record {
+      reliable = L .reliable;
+      ready = L .ready;
+      expected = L .expected;
+      msn = L .msn;
+      entries = L .entries;
+      reads = e;
+      memory = L .memory;
+      completions = append-nil (x .completions) ∙ L .completions;
+      within = L .within;
+      number = L .number;
+      long = L .long;
+      under = L .under;
+    }

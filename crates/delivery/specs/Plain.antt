@@ -1,0 +1,171 @@
+-- The plain run: from the stream, the start and each call's arguments alone. It places from the message, and knows no
+-- packet, no header, no answer.
+use Prim.Native.Nat.{ℕ, zero, suc, _+_, _-_, _*_}
+use mathlib.Core.Bool.{Bool, true, false, cond, not, _&&_, _||_}
+use mathlib.Core.List.{List, [], _∷_, _++_, map}
+use lib.Dec.{leb, ltb, eqb}
+use lib.ListN.{length, getD, take, drop}
+use Rattle.sequence.specs.Sequence.{psnAfter, msnNext}
+use Rattle.sequence.specs.declared.Psn.{Psn}
+use Rattle.sequence.specs.declared.Msn.{Msn}
+use Rattle.memory.specs.Memory.{put}
+use Rattle.memory.specs.Word.{fetchAdded, swapped}
+use Rattle.pieces.specs.Pieces.{pieceAt}
+use Rattle.table.specs.View.{regionOf}
+use Rattle.table.specs.declared.Entry.{Entry}
+use Rattle.pair.specs.declared.Setup.{Setup}
+use Rattle.segment.specs.declared.Request.{Request}
+use Rattle.segment.specs.declared.Request.the-variants.{Send, SendImmediate, Write, WriteImmediate, Read, CmpSwap, FetchAdd}
+use Rattle.responder.specs.declared.Completion.{Completion}
+use Rattle.delivery.specs.Stream.{Message, packetCount, Slot, slot, span}
+
+-- k packets were executed; held is the entry of a SEND under way; r responses are still to send
+pub record Plain : Type 0 where
+  pub k : ℕ
+  pub memory : List ℕ
+  pub completions : List Completion
+  pub msn : Msn
+  pub expected : Psn
+  pub held : List Entry
+  pub waiting : List Entry
+  pub r : ℕ
+
+-- the calls: packet j of the stream is handed in, with this output; the next response is asked for; an entry is posted
+pub data Call : Type 0 where
+  Hand : ℕ → List ℕ → Call
+  Next : List ℕ → Call
+  Post : Entry → Call
+
+-- a packet that needs an entry, by its index and the count of its message: the first of a SEND, the last of a WRITE with
+-- immediate
+abbrev pub needs : Request → ℕ → ℕ → Bool
+needs Send i n = eqb i 0
+needs (SendImmediate v) i n = eqb i 0
+needs (Write t) i n = false
+needs (WriteImmediate t v) i n = eqb (suc i) n
+needs (Read a) i n = false
+needs (CmpSwap a) i n = false
+needs (FetchAdd t v) i n = false
+
+-- a message that takes an entry; its completion
+abbrev pub takes : Request → Bool
+takes Send = true
+takes (SendImmediate v) = true
+takes (Write t) = false
+takes (WriteImmediate t v) = true
+takes (Read a) = false
+takes (CmpSwap a) = false
+takes (FetchAdd t v) = false
+
+abbrev pub told : Entry → ℕ → Bool → ℕ → Completion
+told e n immediate value =
+    record { some = true; number = e .number; length = n; immediate = immediate; value = value }
+
+abbrev pub completionFor : Request → Entry → ℕ → Completion
+completionFor Send e n = told e n false 0
+completionFor (SendImmediate v) e n = told e n true v
+completionFor (Write t) e n = told e n false 0
+completionFor (WriteImmediate t v) e n = told e n true v
+completionFor (Read a) e n = told e n false 0
+completionFor (CmpSwap a) e n = told e n false 0
+completionFor (FetchAdd t v) e n = told e n false 0
+
+-- where in memory the address of a region lies; a region's row is key, address, length, offset and rights
+unfoldable pub lies : List (List ℕ) → ℕ → ℕ → ℕ
+lies regions key address = getD (regionOf key regions) 3 0 + (address - getD (regionOf key regions) 1 0)
+
+-- memory after packet i, of the entry e: piece i of the message at its place
+abbrev pub landed : Request → List (List ℕ) → ℕ → List ℕ → ℕ → Entry → List ℕ → List ℕ
+landed Send regions pmtu d i e m = put m (e .offset + i * pmtu) (pieceAt d pmtu i)
+landed (SendImmediate v) regions pmtu d i e m = put m (e .offset + i * pmtu) (pieceAt d pmtu i)
+landed (Write t) regions pmtu d i e m = put m (lies regions (t .key) (t .address) + i * pmtu) (pieceAt d pmtu i)
+landed (WriteImmediate t v) regions pmtu d i e m = put m (lies regions (t .key) (t .address) + i * pmtu) (pieceAt d pmtu i)
+landed (Read a) regions pmtu d i e m = m
+landed (CmpSwap a) regions pmtu d i e m = swapped m (lies regions (a .key) (a .address)) (a .compare) (a .swap)
+landed (FetchAdd t v) regions pmtu d i e m = fetchAdded m (lies regions (t .key) (t .address)) v
+
+-- the responses of a READ are to be sent
+abbrev pub isRead : Request → Bool
+isRead Send = false
+isRead (SendImmediate v) = false
+isRead (Write t) = false
+isRead (WriteImmediate t v) = false
+isRead (Read a) = true
+isRead (CmpSwap a) = false
+isRead (FetchAdd t v) = false
+
+abbrev pub none : List Entry → Bool
+none [] = true
+none (e ∷ es) = false
+
+-- of the entries in their order, the first
+abbrev pub firstOf : List Entry → Entry
+firstOf [] = record { number = 0; offset = 0; length = 0 }
+firstOf (e ∷ es) = e
+
+abbrev pub needing : Slot → Bool
+needing t = needs (t .message .request) (t .index) (packetCount (t .message))
+
+abbrev pub isLast : Slot → Bool
+isLast t = eqb (suc (t .index)) (packetCount (t .message))
+
+-- the same with other responses to send, other entries waiting
+abbrev pub sending : Plain → ℕ → Plain
+sending p r =
+    record { k = p .k; memory = p .memory; completions = p .completions; msn = p .msn; expected = p .expected; held = p .held; waiting = p .waiting; r = r }
+
+abbrev pub adding : Plain → List Entry → Plain
+adding p waiting =
+    record { k = p .k; memory = p .memory; completions = p .completions; msn = p .msn; expected = p .expected; held = p .held; waiting = waiting; r = p .r }
+
+-- packet k takes the first entry, if it needs one
+abbrev pub heldNow : Plain → Slot → List Entry
+heldNow p t = cond (needing t) (take 1 (p .waiting)) (p .held)
+
+abbrev pub waitingNow : Plain → Slot → List Entry
+waitingNow p t = cond (needing t) (drop 1 (p .waiting)) (p .waiting)
+
+-- packet k is executed, once, with its entry e
+unfoldable pub perform : List (List ℕ) → Plain → Slot → Entry → Plain
+perform regions p t e =
+    record {
+      k = suc (p .k);
+      memory = landed (t .message .request) regions (t .message .connection .pmtu) (t .message .bytes) (t .index) e (p .memory);
+      completions = p .completions ++ cond (isLast t && takes (t .message .request)) (completionFor (t .message .request) e (length (t .message .bytes)) ∷ []) [];
+      msn = cond (isLast t) (msnNext (p .msn)) (p .msn);
+      expected = psnAfter (p .expected) (span t);
+      held = cond (isLast t) [] (heldNow p t);
+      waiting = waitingNow p t;
+      r = cond (isRead (t .message .request)) (span t) (p .r);
+    }
+
+-- packet k has come: without the entry that it needs, nothing
+abbrev pub reached : List (List ℕ) → Plain → Slot → Plain
+reached regions p t = cond (needing t && none (p .waiting)) p (perform regions p t (firstOf (heldNow p t)))
+
+-- packet j is delivered: packet k is executed, a READ before it is answered again, all else changes nothing
+abbrev pub delivered : List (List ℕ) → List Slot → Plain → ℕ → Plain
+delivered regions S p j =
+    cond (eqb j (p .k)) (reached regions p (slot S j))
+    (cond (ltb j (p .k) && isRead (slot S j .message .request)) (sending p (span (slot S j))) p)
+
+-- a call that the order of checks refuses changes nothing
+abbrev pub account : Setup → List (List ℕ) → List Slot → Plain → Call → Plain
+account s regions S p (Hand j out) =
+    cond (ltb (length out) 24) p
+    (cond (not (eqb (length (p .memory)) (s .memory))) p (cond (not (eqb (p .r) 0)) p (delivered regions S p j)))
+account s regions S p (Next out) =
+    cond (eqb (p .r) 0) p
+    (cond (ltb (length out) (16 + s .pmtu)) p (cond (not (eqb (length (p .memory)) (s .memory))) p (sending p (p .r - 1))))
+account s regions S p (Post e) =
+    cond (ltb (s .memory) (e .offset + e .length)) p
+    (cond (leb 16 (length (p .held) + length (p .waiting))) p (adding p (p .waiting ++ (e ∷ []))))
+
+unfoldable pub plain : Setup → List (List ℕ) → List Slot → Plain → List Call → Plain
+plain s regions S p [] = p
+plain s regions S p (c ∷ cs) = plain s regions S (account s regions S p c) cs
+
+-- the start: memory, the number first expected, and the entries that wait
+abbrev pub start : Setup → List ℕ → List Entry → Plain
+start s m waiting =
+    record { k = 0; memory = m; completions = []; msn = record { 0 = 0 }; expected = s .start; held = []; waiting = waiting; r = 0 }
