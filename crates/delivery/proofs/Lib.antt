@@ -5,3 +5,11 @@ pub mod Operands
 pub mod Rel
 pub mod Verdicts
 pub mod Checks
+pub mod Entries
+pub mod Effects
+pub mod Requests
+pub mod Placing
+pub mod Sending
+pub mod Writing
+pub mod Singles
+pub mod Here

@@ -1,0 +1,197 @@
+-- Packet k of a SEND is executed.
+use Prim.Native.Nat.{ℕ, zero, suc, _+_, _-_, _*_, _≤_, _<_}
+use mathlib.Core.Path.{_≡_, refl, sym, ap, subst, _∙_}
+use mathlib.Core.Bool.{Bool, true, false, cond, not, _&&_, _||_, true≢false}
+use mathlib.Core.List.{List, [], _∷_, _++_, map}
+use native.Mathlib.Omega.{arith}
+use lib.Dec.{eqb}
+use lib.ListN.{length, getD, take, drop, take-append-drop}
+use borrow.Author.Tests.{eqb-true, eqb-false, eq-eqb, ne-eqb, ltb-false}
+use Rattle.laws.proofs.Auto.{tests}
+use Rattle.laws.proofs.Tests.{and-true}
+use Rattle.memory.specs.Memory.{put, placed}
+use Rattle.memory.proofs.Put.{placed-put}
+use Rattle.pieces.specs.Pieces.{ends, pieceAt}
+use Rattle.table.specs.Table.{outside, slotAt}
+use Rattle.table.specs.View.{inRing}
+use Rattle.table.specs.declared.Entry.{Entry}
+use Rattle.pair.specs.Answer.{statusNumber}
+use Rattle.pair.specs.Claims.{SetupFit}
+use Rattle.pair.specs.declared.OpenMessage.{OpenMessage}
+use Rattle.segment.specs.Claims.{kindNumber}
+use Rattle.segment.specs.declared.Request.{Request}
+use Rattle.request.specs.Verdict.{netOf, current}
+use Rattle.responder.specs.Kept.{Steady}
+use Rattle.responder.specs.Decide.{noCompletion, headEntry, regionFor, completes, completionOf, grown, placeOf, placing}
+use Rattle.responder.specs.Apply.{memoryBy, readBy, entriesBy}
+use Rattle.responder.specs.declared.Completion.{Completion}
+use Rattle.delivery.specs.Stream.{Message, packetCount, Slot, slot, packetAt}
+use Rattle.delivery.specs.Plain.{Plain, takes, completionFor, none, firstOf, needing, isLast, heldNow, waitingNow}
+use Rattle.delivery.specs.Demand.{Run, reports, AllLongEnough, LongEnough, entryOf}
+use Rattle.delivery.proofs.Chain.{Stands, Good, further}
+use Rattle.delivery.proofs.Places.{Sizes}
+use Rattle.delivery.proofs.Cutting.{payloadFor, netFor, placeFor, cutPacket, carried-is, sizes}
+use Rattle.delivery.proofs.Operands.{immediateOf, valueOf}
+use Rattle.delivery.proofs.Rel.{IsOf, Holding, Under, Link}
+use Rattle.delivery.proofs.Checks.{ends-is, says, now, net-total}
+use Rattle.delivery.proofs.Entries.{entries-by, count-is, head-is, taken-is, entry-fits}
+use Rattle.delivery.proofs.Effects.{Does, under-next}
+use Rattle.delivery.proofs.Requests.{Carries, Sends}
+use Rattle.delivery.proofs.Placing.{placing-told, placing-answers, placing-numbers, placing-ends, placing-reads, net-is, placing-bytes, length-piece, grown-last, grown-more}
+
+-- the first of the entries that wait, where some do
+first-waiting : (ms : List Message) (es : List Entry) → none es ≡ false → AllLongEnough ms es
+    → (take 1 es ≡ firstOf es ∷ []) × LongEnough ms (firstOf es) × (1 ≤ length es)
+first-waiting ms [] e h = absurd (true≢false e)
+first-waiting ms (x ∷ es) e h = (refl, h .0, omega arith)
+
+-- the entries after packet k of a SEND, by whether it is the first and the last
+taking : (a b : Bool) (held waiting : List Entry) → (a ≡ true → held ≡ []) → (a ≡ false → (e : Entry) × (held ≡ e ∷ []))
+    → cond b (drop 1 (held ++ waiting)) (held ++ waiting)
+    ≡ cond b [] (cond a (take 1 waiting) held) ++ cond a (drop 1 waiting) waiting
+taking true true held waiting f g = ap (λ h. drop 1 (h ++ waiting)) (f refl)
+taking true false held waiting f g = ap (λ h. h ++ waiting) (f refl) ∙ sym (take-append-drop 1 waiting)
+taking false true held waiting f g = let e = g refl in ap (λ h. drop 1 (h ++ waiting)) (e .1)
+taking false false held waiting f g = refl
+
+module _ (ms : List Message) (S : List Slot) (p : Plain) (x : Run) (L : Link ms S p x) (Y : Steady (x .whole))
+    (G : Good (x .whole .pair .setup) (x .whole .regions) ms S) (lt : p .k < length S)
+    (ml : length (p .memory) ≡ x .whole .pair .setup .memory)
+    (C : Carries (slot S (p .k) .message .request)) (Z : Sends (slot S (p .k) .message .request))
+    (free : (needing (slot S (p .k)) && none (p .waiting)) ≡ false) where
+  abbrev t : Slot
+  t = slot S (p .k)
+
+  abbrev entry : List ℕ
+  entry = headEntry (x .whole .pair) (x .whole .entries)
+
+  H : Stands (x .whole .pair .setup) (x .whole .regions) t
+  H = G .stands (p .k) lt
+
+  -- the entry: taken now, or held
+  pub record Entered : Type 0 where
+    pub some : 1 ≤ x .whole .pair .entries .count
+    pub is : heldNow p t ≡ entryOf entry ∷ []
+    pub large : length (t .message .bytes) ≤ getD entry 2 0
+
+  pub entered : Entered
+  entered = go (eqb (t .index) 0) refl (L .under)
+    where
+      needing-is : needing t ≡ eqb (t .index) 0
+      needing-is = Z .needs (t .index) (packetCount (t .message))
+      count : x .whole .pair .entries .count ≡ length (p .held ++ p .waiting)
+      count = count-is (x .whole .entries) (x .whole .pair .entries) (p .held ++ p .waiting) (L .entries)
+      head : 1 ≤ x .whole .pair .entries .count → entryOf entry ≡ firstOf (p .held ++ p .waiting)
+      head h = head-is (x .whole .entries) (x .whole .pair .entries) (p .held ++ p .waiting) (L .entries) h
+      go : (b : Bool) → eqb (t .index) 0 ≡ b → Under b t (x .whole .pair .message) (p .held) → Entered
+      go true e u =
+          let w = first-waiting ms (p .waiting) (subst (λ b. (b && none (p .waiting)) ≡ false) (needing-is ∙ e) free) (L .long) in
+          let c : 1 ≤ x .whole .pair .entries .count = omega (arith, count ∙ ap (λ h. length (h ++ p .waiting)) (u .1), w .2) in
+          let i : entryOf entry ≡ firstOf (p .waiting) = head c ∙ ap (λ h. firstOf (h ++ p .waiting)) (u .1) in
+          record {
+            some = c;
+            is = ap (λ b. cond b (take 1 (p .waiting)) (p .held)) (needing-is ∙ e) ∙ (w .0 ∙ ap (λ y. y ∷ []) (sym i));
+            large =
+                subst (λ y. length (t .message .bytes) ≤ y .length) (sym i)
+                (Z .least (length (t .message .bytes)) (firstOf (p .waiting) .length) (G .large (firstOf (p .waiting)) (w .1) (p .k) lt));
+          }
+      go false e u =
+          let w = Z .held (length (t .message .bytes)) (p .held) (u .1) in
+          let c : 1 ≤ x .whole .pair .entries .count = omega (arith, count ∙ ap (λ h. length (h ++ p .waiting)) (w .1)) in
+          let i : entryOf entry ≡ w .0 = head c ∙ ap (λ h. firstOf (h ++ p .waiting)) (w .1) in
+          record {
+            some = c;
+            is = ap (λ b. cond b (take 1 (p .waiting)) (p .held)) (needing-is ∙ e) ∙ (w .1 ∙ ap (λ y. y ∷ []) (sym i));
+            large = subst (λ y. length (t .message .bytes) ≤ y .length) (sym i) (w .2);
+          }
+
+  abbrev M : OpenMessage
+  M = current (x .whole .pair .message) (cutPacket t)
+
+  abbrev region : List ℕ
+  region = regionFor (kindNumber (t .message .request)) (M .key) (x .whole .regions)
+
+  fits : SetupFit (x .whole .pair .setup)
+  fits = Y .pair .setup .0
+
+  N : IsOf t M
+  N = now (x .whole .pair .setup) (x .whole .regions) fits t H (x .whole .pair .message) (p .held) (L .under)
+
+  first-is : firstOf (heldNow p t) ≡ entryOf entry
+  first-is = ap firstOf (entered .is)
+
+  inside : t .index * t .message .connection .pmtu + netFor t ≤ length (t .message .bytes)
+  inside =
+      net-total (t .index) (packetCount (t .message)) (netFor t) (t .message .connection .pmtu) (length (t .message .bytes)) (H .inside)
+      (sizes (x .whole .pair .setup) (x .whole .regions) fits t H (C .carrier))
+
+  lands : memoryBy (placing (cutPacket t) M entry region) (x .memory) (packetAt t)
+      ≡ put (p .memory) (firstOf (heldNow p t) .offset + t .index * t .message .connection .pmtu) (pieceAt (t .message .bytes) (t .message .connection .pmtu) (t .index))
+  unfolding placeOf outside
+  lands =
+      let d = pieceAt (t .message .bytes) (t .message .connection .pmtu) (t .index) in
+      let o : getD entry 1 0 + getD entry 2 0 ≤ x .whole .pair .setup .memory =
+      ltb-false (x .whole .pair .setup .memory) (getD entry 1 0 + getD entry 2 0) (entry-fits (x .whole .pair .setup .memory) (x .whole .entries) (x .whole .pair .entries) (Y .entries) (entered .some)) in
+      let a : getD entry 1 0 + M .placed ≡ firstOf (heldNow p t) .offset + t .index * t .message .connection .pmtu =
+      omega (arith, N .placed, ap (λ e. e .offset) first-is) in
+      let l : length d ≡ netFor t = length-piece (x .whole .pair .setup) (x .whole .regions) fits t H (x .whole .pair .message) (p .held) (L .under) C entry region in
+      placing-bytes (x .whole .pair .setup) (x .whole .regions) fits t H (x .whole .pair .message) (p .held) (L .under) C entry region (x .memory)
+      ∙ (ap (λ k. placed (x .memory) (placeOf k M entry region) d) (Z .kind)
+      ∙ (ap (λ m. placed m (getD entry 1 0 + M .placed) d) (L .memory)
+      ∙ (placed-put (p .memory) (getD entry 1 0 + M .placed) d (omega (arith, N .placed, l, inside, o, entered .large, ml)) ∙ ap (λ k. put (p .memory) k d) a)))
+
+  last-is : ends (placeFor t) ≡ isLast t
+  last-is = ends-is (x .whole .pair .setup) (x .whole .regions) fits t H (x .whole .pair .message) (p .held) (L .under)
+
+  completes-is : completes (kindNumber (t .message .request)) (placeFor t) (cutPacket t .operands .immediate) ≡ (isLast t && takes (t .message .request))
+  unfolding completes
+  completes-is = rw (Z .kind, last-is, Z .takes)
+
+  long-is : isLast t ≡ true → cond (eqb (kindNumber (t .message .request)) 0) (M .placed + netOf (cutPacket t)) (M .length) ≡ length (t .message .bytes)
+  long-is e =
+      let z = sizes (x .whole .pair .setup) (x .whole .regions) fits t H (C .carrier) .last (eqb-true (suc (t .index)) (packetCount (t .message)) e) in
+      let n = net-is (x .whole .pair .setup) (x .whole .regions) fits t H (x .whole .pair .message) (p .held) (L .under) C entry region in
+      ap (λ y. cond (eqb y 0) (M .placed + netOf (cutPacket t)) (M .length)) (Z .kind) ∙ omega (arith, N .placed, n, z .2)
+
+  ring-is : (a b : Bool) → needing t ≡ a → (isLast t && takes (t .message .request)) ≡ b → isLast t ≡ b
+      → map entryOf (inRing (x .whole .entries) (entriesBy b (x .whole .pair .entries)))
+      ≡ cond (isLast t) [] (heldNow p t) ++ waitingNow p t
+  ring-is a b e f g =
+      entries-by (x .whole .entries) (x .whole .pair .entries) (p .held ++ p .waiting) (L .entries) b (λ z. entered .some)
+      ∙ (taking a b (p .held) (p .waiting) (λ z. started z) (λ z. going z)
+      ∙ λ i. cond (sym g i) [] (cond (sym e i) (take 1 (p .waiting)) (p .held)) ++ cond (sym e i) (drop 1 (p .waiting)) (p .waiting))
+    where
+      started : a ≡ true → p .held ≡ []
+      started z = subst (λ y. Under y t (x .whole .pair .message) (p .held)) (sym (Z .needs (t .index) (packetCount (t .message))) ∙ (e ∙ z)) (L .under) .1
+      going : a ≡ false → (y : Entry) × (p .held ≡ y ∷ [])
+      going z =
+          let u = subst (λ y. Under y t (x .whole .pair .message) (p .held)) (sym (Z .needs (t .index) (packetCount (t .message))) ∙ (e ∙ z)) (L .under) in
+          let w = Z .held (length (t .message .bytes)) (p .held) (u .1) in
+          (w .0, w .1)
+
+  pub sends : Does ms S p x (placing (cutPacket t) M entry region) (packetAt t) (firstOf (heldNow p t))
+  unfolding placing
+  sends =
+      record {
+        status = placing-answers (x .whole .pair .setup) (x .whole .regions) fits t H (x .whole .pair .message) (p .held) (L .under) C entry region;
+        numbers = sym (C .span (t .message .connection .pmtu));
+        ends = last-is;
+        reads = placing-reads (x .whole .pair .setup) (x .whole .regions) fits t H (x .whole .pair .message) (p .held) (L .under) C entry region (x .whole .pair .read) _ (p .r) (L .reads);
+        memory = lands ∙ sym (Z .lands (x .whole .regions) (t .message .connection .pmtu) (t .message .bytes) (t .index) (firstOf (heldNow p t)) (p .memory));
+        completion = told .0;
+        entries =
+            ap (λ b. map entryOf (inRing (x .whole .entries) (entriesBy b (x .whole .pair .entries)))) (told .1)
+            ∙ ring-is (needing t) (isLast t && takes (t .message .request)) refl refl (sym (and-true (isLast t)) ∙ ap (λ b. isLast t && b) (sym (Z .takes)));
+        under =
+            under-next S (p .k) (grown (placeFor t) M (netOf (cutPacket t))) (cond (isLast t) [] (heldNow p t)) (G .turn (p .k) lt) (H .inside)
+            (λ e. (grown-last (x .whole .pair .setup) (x .whole .regions) fits t H (x .whole .pair .message) (p .held) (L .under) C entry region e, ap (λ b. cond b [] (heldNow p t)) e))
+            (λ e.
+              (grown-more (x .whole .pair .setup) (x .whole .regions) fits t H (x .whole .pair .message) (p .held) (L .under) C entry region e,
+              Z .holding (length (t .message .bytes)) (cond (isLast t) [] (heldNow p t)) (entryOf entry) (ap (λ b. cond b [] (heldNow p t)) e ∙ entered .is) (entered .large)));
+      }
+    where
+      told : (reports (completionOf (cutPacket t) M (getD entry 0 0)) ≡ cond (isLast t && takes (t .message .request)) (completionFor (t .message .request) (firstOf (heldNow p t)) (length (t .message .bytes)) ∷ []) [])
+          × (completionOf (cutPacket t) M (getD entry 0 0) .some ≡ (isLast t && takes (t .message .request)))
+      told =
+          placing-told (x .whole .pair .setup) (x .whole .regions) fits t H (x .whole .pair .message) (p .held) (L .under) C entry region
+          (firstOf (heldNow p t)) completes-is (λ e. ap (λ y. y .number) (sym first-is)) long-is

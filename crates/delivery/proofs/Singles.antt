@@ -1,0 +1,149 @@
+-- Packet k is a READ or an atomic: a message of one packet.
+use Prim.Native.Nat.{ℕ, zero, suc, _+_, _-_, _*_, _≤_, _<_}
+use mathlib.Core.Path.{_≡_, refl, sym, ap, subst, _∙_}
+use mathlib.Core.Bool.{Bool, true, false, cond, not, _&&_, _||_, true≢false}
+use mathlib.Core.List.{List, [], _∷_, _++_, map}
+use native.Mathlib.Omega.{arith}
+use lib.Dec.{leb, eqb}
+use lib.ListN.{length, getD, take, drop}
+use borrow.Author.Tests.{eqb-true, eqb-false, eq-eqb, ne-eqb}
+use Rattle.pieces.specs.Pieces.{pieces}
+use Rattle.pieces.proofs.Counting.{counts, bounds}
+use Rattle.table.specs.Table.{noRegion}
+use Rattle.table.specs.View.{inRing, regionOf}
+use Rattle.pair.specs.Answer.{statusNumber}
+use Rattle.pair.specs.Claims.{SetupFit}
+use Rattle.pair.specs.declared.OpenMessage.{OpenMessage}
+use Rattle.segment.specs.Message.{messageLength}
+use Rattle.segment.specs.Claims.{kindNumber}
+use Rattle.segment.proofs.Shapes.{cut-one}
+use Rattle.request.specs.Verdict.{keySpan, spot, current}
+use Rattle.responder.specs.Kept.{Steady}
+use Rattle.responder.specs.Decide.{noCompletion, regionFor, accepting, swapping}
+use Rattle.responder.specs.Apply.{memoryBy, readBy, entriesBy}
+use Rattle.delivery.specs.Stream.{Message, packetCount, Slot, slot, span, packetAt}
+use Rattle.delivery.specs.Plain.{Plain, lies, takes, completionFor, isRead, firstOf, needing, isLast, heldNow, waitingNow}
+use Rattle.delivery.specs.Demand.{Run, Lies, reports, entryOf}
+use Rattle.delivery.proofs.Chain.{Stands, Good, further}
+use Rattle.delivery.proofs.Cutting.{placeFor, cutPacket}
+use Rattle.delivery.proofs.Operands.{addressOf, keyOf, namedOf}
+use Rattle.delivery.proofs.Rel.{IsOf, Under, Link}
+use Rattle.delivery.proofs.Verdicts.{spot-is}
+use Rattle.delivery.proofs.Checks.{now}
+use Rattle.delivery.proofs.Entries.{entries-by}
+use Rattle.delivery.proofs.Effects.{Does, under-next}
+use Rattle.delivery.proofs.Requests.{Single, Reads, Swaps}
+
+module _ (ms : List Message) (S : List Slot) (p : Plain) (x : Run) (L : Link ms S p x) (Y : Steady (x .whole))
+    (G : Good (x .whole .pair .setup) (x .whole .regions) ms S) (lt : p .k < length S)
+    (O : Single (slot S (p .k) .message .request)) where
+  abbrev t : Slot
+  t = slot S (p .k)
+
+  H : Stands (x .whole .pair .setup) (x .whole .regions) t
+  H = G .stands (p .k) lt
+
+  abbrev M : OpenMessage
+  M = current (x .whole .pair .message) (cutPacket t)
+
+  abbrev region : List ℕ
+  region = regionFor (kindNumber (t .message .request)) (M .key) (x .whole .regions)
+
+  N : IsOf t M
+  N = now (x .whole .pair .setup) (x .whole .regions) (Y .pair .setup .0) t H (x .whole .pair .message) (p .held) (L .under)
+
+  one-packet : packetCount (t .message) ≡ 1
+  one-packet = cut-one (t .message .request) (length (t .message .bytes)) (t .message .connection .pmtu) (O .bare)
+
+  zeroth : t .index ≡ 0
+  zeroth = omega (arith, one-packet, H .inside)
+
+  last-is : isLast t ≡ true
+  last-is = eq-eqb (suc (t .index)) (packetCount (t .message)) (omega (arith, zeroth, one-packet))
+
+  idle : (x .whole .pair .message .kind ≡ 255) × (p .held ≡ [])
+  idle = subst (λ b. Under b t (x .whole .pair .message) (p .held)) (eq-eqb (t .index) 0 zeroth) (L .under)
+
+  placed-none : M .placed ≡ 0
+  placed-none = N .placed ∙ omega (arith, ap (λ i. i * t .message .connection .pmtu) zeroth)
+
+  needing-is : needing t ≡ false
+  needing-is = O .needs (t .index) (packetCount (t .message))
+
+  ring-is : map entryOf (inRing (x .whole .entries) (entriesBy false (x .whole .pair .entries))) ≡ cond (isLast t) [] (heldNow p t) ++ waitingNow p t
+  ring-is =
+      entries-by (x .whole .entries) (x .whole .pair .entries) (p .held ++ p .waiting) (L .entries) false (λ z. absurd (true≢false (sym z)))
+      ∙ (ap (λ h. h ++ p .waiting) (idle .1) ∙ λ i. cond (sym last-is i) [] (heldNow p t) ++ cond (sym needing-is i) (drop 1 (p .waiting)) (p .waiting))
+
+  under-is : Under (eqb (slot S (suc (p .k)) .index) 0) (slot S (suc (p .k))) (x .whole .pair .message) (cond (isLast t) [] (heldNow p t))
+  under-is =
+      under-next S (p .k) (x .whole .pair .message) (cond (isLast t) [] (heldNow p t)) (G .turn (p .k) lt) (H .inside)
+      (λ e. (idle .0, ap (λ b. cond b [] (heldNow p t)) e))
+      (λ e. absurd (true≢false (sym last-is ∙ e)))
+
+  nothing-told : (b : Bool) → takes (t .message .request) ≡ false → (b && takes (t .message .request)) ≡ false
+  nothing-told true e = e
+  nothing-told false e = refl
+
+  untold : reports noCompletion
+      ≡ cond (isLast t && takes (t .message .request)) (completionFor (t .message .request) (firstOf (heldNow p t)) (length (t .message .bytes)) ∷ []) []
+  untold =
+      ap (λ b. cond b (completionFor (t .message .request) (firstOf (heldNow p t)) (length (t .message .bytes)) ∷ []) [])
+      (sym (nothing-told (isLast t) (O .takes)))
+
+  pub reads : Reads (t .message .request)
+      → Does ms S p x (accepting (cutPacket t) M (x .whole .pair .message) region (x .whole .pair .setup .pmtu)) (packetAt t) (firstOf (heldNow p t))
+  unfolding accepting statusNumber readBy memoryBy
+  reads R =
+      let n : pieces (M .length) (x .whole .pair .setup .pmtu) ≡ span t =
+      (λ i. pieces (N .length i) (sym (H .permitted .pmtu) i)) ∙ sym (R .span (length (t .message .bytes)) (t .message .connection .pmtu)) in
+      let some : 1 ≤ pieces (M .length) (x .whole .pair .setup .pmtu) =
+      counts (M .length) (x .whole .pair .setup .pmtu) (omega (arith, bounds (x .whole .pair .setup .pmtu) (Y .pair .setup .0 .pmtu) .0)) .some in
+      record {
+        status = omega arith;
+        numbers = n;
+        ends = sym last-is;
+        reads = rw (ne-eqb (pieces (M .length) (x .whole .pair .setup .pmtu)) 0 (λ z. absurd (omega arith)), R .read) n;
+        memory = L .memory ∙ sym (R .lands (x .whole .regions) (t .message .connection .pmtu) (t .message .bytes) (t .index) (firstOf (heldNow p t)) (p .memory));
+        completion = untold;
+        entries = ring-is;
+        under = under-is;
+      }
+
+  -- an atomic's word is where the address lies
+  at-is : (k act : ℕ) (does : List ℕ → ℕ → ℕ → ℕ → List ℕ) → Swaps (t .message .request) k act does → (eqb k 0 ≡ false)
+      → spot region (M .address) (M .length) ≡ lies (x .whole .regions) (keyOf (t .message .request)) (addressOf (t .message .request))
+  unfolding regionFor keySpan
+  at-is k act does W z =
+      let eight : M .length ≡ 8 = N .length ∙ W .named (length (t .message .bytes)) in
+      let r : region ≡ regionOf (keyOf (t .message .request)) (x .whole .regions) =
+      ap (λ j. cond (eqb j 0) noRegion (regionOf (M .key) (x .whole .regions))) (W .kind) ∙ (ap (λ b. cond b noRegion (regionOf (M .key) (x .whole .regions))) z ∙ ap (λ j. regionOf j (x .whole .regions)) (N .key)) in
+      let w =
+      spot-is (x .whole .pair .setup .memory) k (keyOf (t .message .request)) (addressOf (t .message .request)) 8 0
+      (x .whole .regions) (λ y. y .atomic) M (Y .regions) (W .rights) (N .address) placed-none eight (omega arith)
+      (W .right (x .whole .pair .setup) (x .whole .regions) (length (t .message .bytes)) (H .permitted .allowed)) (omega arith) in
+      let a : M .address ≡ M .address + M .placed = omega (arith, placed-none) in
+      let l : M .length ≡ M .length - M .placed = omega (arith, placed-none) in
+      let none : lies (x .whole .regions) (keyOf (t .message .request)) (addressOf (t .message .request)) + 0 ≡ lies (x .whole .regions) (keyOf (t .message .request)) (addressOf (t .message .request)) = omega arith in
+      (λ i. spot (r i) (a i) (l i)) ∙ (w .0 ∙ none)
+
+  pub swaps : (k act : ℕ) (does : List ℕ → ℕ → ℕ → ℕ → List ℕ) → Swaps (t .message .request) k act does → (eqb k 0 ≡ false)
+      → Does ms S p x (swapping (cutPacket t) M (x .whole .pair .message) region) (packetAt t) (firstOf (heldNow p t))
+  unfolding swapping statusNumber readBy
+  swaps k act does W z =
+      let n = messageLength (t .message .request) (length (t .message .bytes)) in
+      let D = swapping (cutPacket t) M (x .whole .pair .message) region in
+      let a : D .act ≡ act = ap (λ j. cond (eqb j 20) 2 3) (W .kind) ∙ W .act-is in
+      record {
+        status = omega arith;
+        numbers = sym (W .span (t .message .connection .pmtu));
+        ends = sym last-is;
+        reads = L .reads ∙ ap (λ b. cond b (span t) (p .r)) (sym (W .read));
+        memory =
+            W .acts D (x .memory) (packetAt t) a
+            ∙ ((λ i. does (L .memory i) (at-is k act does W z i) (cutPacket t .operands .compare) (cutPacket t .operands .swap))
+            ∙ sym (W .lands n (placeFor t) (x .whole .regions) (t .message .connection .pmtu) (t .message .bytes) (t .index) (firstOf (heldNow p t)) (p .memory)));
+        completion = untold;
+        entries = ring-is;
+        under = under-is;
+      }

@@ -1,0 +1,238 @@
+-- Packet k of a WRITE is executed.
+use Prim.Native.Nat.{ℕ, zero, suc, _+_, _-_, _*_, _≤_, _<_}
+use mathlib.Core.Path.{_≡_, refl, sym, ap, subst, _∙_}
+use mathlib.Core.Bool.{Bool, true, false, cond, not, _&&_, _||_, true≢false}
+use mathlib.Core.List.{List, [], _∷_, _++_, map}
+use native.Mathlib.Omega.{arith}
+use lib.Dec.{leb, eqb}
+use lib.ListN.{length, getD, take, drop, take-append-drop}
+use borrow.Author.Tests.{eqb-true, eqb-false, eq-eqb, ne-eqb, ltb-false}
+use Rattle.laws.proofs.Auto.{tests}
+use Rattle.laws.proofs.Tests.{and-true}
+use Rattle.memory.specs.Memory.{put, placed}
+use Rattle.memory.proofs.Put.{placed-put}
+use Rattle.pieces.specs.Pieces.{ends, pieceAt}
+use Rattle.table.specs.Table.{slotAt}
+use Rattle.table.specs.View.{inRing, regionOf}
+use Rattle.table.specs.declared.Entry.{Entry}
+use Rattle.pair.specs.Answer.{statusNumber}
+use Rattle.pair.specs.Claims.{SetupFit}
+use Rattle.pair.specs.declared.OpenMessage.{OpenMessage}
+use Rattle.segment.specs.Claims.{kindNumber}
+use Rattle.segment.specs.declared.Request.{Request}
+use Rattle.request.specs.Verdict.{keySpan, spot, netOf, current}
+use Rattle.responder.specs.Kept.{Steady}
+use Rattle.responder.specs.Decide.{noCompletion, headEntry, regionFor, completes, completionOf, grown, placeOf, placing}
+use Rattle.responder.specs.Apply.{memoryBy, readBy, entriesBy}
+use Rattle.responder.specs.declared.Completion.{Completion}
+use Rattle.delivery.specs.Stream.{Message, packetCount, Slot, slot, packetAt}
+use Rattle.delivery.specs.Plain.{Plain, lies, takes, completionFor, none, firstOf, needing, isLast, heldNow, waitingNow}
+use Rattle.delivery.specs.Demand.{Run, Lies, reports, AllLongEnough, LongEnough, entryOf}
+use Rattle.delivery.proofs.Chain.{Stands, Good, further}
+use Rattle.delivery.proofs.Places.{Sizes}
+use Rattle.delivery.proofs.Cutting.{payloadFor, netFor, placeFor, cutPacket, carried-is, sizes}
+use Rattle.delivery.proofs.Operands.{addressOf, keyOf, immediateOf}
+use Rattle.delivery.proofs.Rel.{IsOf, Holding, Under, Link}
+use Rattle.delivery.proofs.Checks.{ends-is, says, now, net-total, write-right}
+use Rattle.delivery.proofs.Verdicts.{spot-is}
+use Rattle.delivery.proofs.Entries.{entries-by, count-is, head-is, taken-is, entry-fits}
+use Rattle.delivery.proofs.Effects.{Does, under-next}
+use Rattle.delivery.proofs.Requests.{Carries, Writes}
+use Rattle.delivery.proofs.Placing.{placing-told, placing-answers, placing-numbers, placing-ends, placing-reads, net-is, placing-bytes, length-piece, grown-last, grown-more}
+
+-- no bytes change nothing, wherever they go
+no-bytes : (d : List ℕ) → length d ≡ 0 → d ≡ []
+no-bytes [] e = refl
+no-bytes (b ∷ d) e = absurd (omega arith)
+
+put-none : (m : List ℕ) (at : ℕ) → put m at [] ≡ m
+unfolding put
+put-none m at =
+    let e : at + 0 ≡ at = omega arith in
+    ap (λ k. take at m ++ drop k m) e ∙ take-append-drop at m
+
+placed-none : (m : List ℕ) (at : ℕ) → placed m at [] ≡ m
+unfolding placed
+placed-none m at = go (leb (at + 0) (length m))
+  where
+    go : (b : Bool) → cond b (put m at []) m ≡ m
+    go true = put-none m at
+    go false = refl
+
+none-placed : (m : List ℕ) (at to : ℕ) (d : List ℕ) → length d ≡ 0 → placed m at d ≡ put m to d
+none-placed m at to d e = rw (no-bytes d e) (placed-none m at ∙ sym (put-none m to))
+
+-- a message that took the entry at the head
+head-taken : (es : List Entry) → none es ≡ false → (firstOf (take 1 es) ≡ firstOf es) × (1 ≤ length es)
+head-taken [] e = absurd (true≢false e)
+head-taken (y ∷ es) e = (refl, omega arith)
+
+-- the entries after packet k of a WRITE, by whether it is the last and takes one
+giving : (b c : Bool) (waiting : List Entry)
+    → cond (b && c) (drop 1 waiting) waiting ≡ cond b [] (cond (b && c) (take 1 waiting) []) ++ cond (b && c) (drop 1 waiting) waiting
+giving true true waiting = refl
+giving true false waiting = refl
+giving false c waiting = refl
+
+twice : (b c : Bool) → (b && (b && c)) ≡ (b && c)
+twice true c = refl
+twice false c = refl
+
+module _ (ms : List Message) (S : List Slot) (p : Plain) (x : Run) (L : Link ms S p x) (Y : Steady (x .whole))
+    (G : Good (x .whole .pair .setup) (x .whole .regions) ms S) (lt : p .k < length S)
+    (ml : length (p .memory) ≡ x .whole .pair .setup .memory)
+    (C : Carries (slot S (p .k) .message .request)) (Z : Writes (slot S (p .k) .message .request))
+    (free : (needing (slot S (p .k)) && none (p .waiting)) ≡ false) where
+  abbrev t : Slot
+  t = slot S (p .k)
+
+  abbrev entry : List ℕ
+  entry = headEntry (x .whole .pair) (x .whole .entries)
+
+  H : Stands (x .whole .pair .setup) (x .whole .regions) t
+  H = G .stands (p .k) lt
+
+  abbrev M : OpenMessage
+  M = current (x .whole .pair .message) (cutPacket t)
+
+  abbrev region : List ℕ
+  region = regionFor (kindNumber (t .message .request)) (M .key) (x .whole .regions)
+
+  fits : SetupFit (x .whole .pair .setup)
+  fits = Y .pair .setup .0
+
+  N : IsOf t M
+  N = now (x .whole .pair .setup) (x .whole .regions) fits t H (x .whole .pair .message) (p .held) (L .under)
+
+  none-held : p .held ≡ []
+  none-held = go (eqb (t .index) 0) (L .under)
+    where
+      go : (b : Bool) → Under b t (x .whole .pair .message) (p .held) → p .held ≡ []
+      go true u = u .1
+      go false u = Z .held (length (t .message .bytes)) (p .held) (u .1)
+
+  last-is : ends (placeFor t) ≡ isLast t
+  last-is = ends-is (x .whole .pair .setup) (x .whole .regions) fits t H (x .whole .pair .message) (p .held) (L .under)
+
+  needing-is : needing t ≡ (isLast t && takes (t .message .request))
+  needing-is = Z .needs (t .index) (packetCount (t .message)) ∙ ap (λ b. isLast t && b) (sym (Z .takes))
+
+  -- where an entry is taken, there is one
+  pub taken : needing t ≡ true → (1 ≤ x .whole .pair .entries .count) × (entryOf entry ≡ firstOf (heldNow p t))
+  taken e =
+      let w = head-taken (p .waiting) (subst (λ b. (b && none (p .waiting)) ≡ false) e free) in
+      let c : 1 ≤ x .whole .pair .entries .count =
+      omega (arith, count-is (x .whole .entries) (x .whole .pair .entries) (p .held ++ p .waiting) (L .entries) ∙ ap (λ h. length (h ++ p .waiting)) none-held, w .1) in
+      (c,
+      head-is (x .whole .entries) (x .whole .pair .entries) (p .held ++ p .waiting) (L .entries) c
+      ∙ (ap (λ h. firstOf (h ++ p .waiting)) none-held ∙ (sym (w .0) ∙ ap (λ b. firstOf (cond b (take 1 (p .waiting)) (p .held))) (sym e))))
+
+  completes-is : completes (kindNumber (t .message .request)) (placeFor t) (cutPacket t .operands .immediate) ≡ (isLast t && takes (t .message .request))
+  unfolding completes
+  completes-is =
+      rw (Z .kind, says (x .whole .pair .setup) (x .whole .regions) fits t H (x .whole .pair .message) .immediate, last-is, Z .takes)
+      (twice (isLast t) (immediateOf (t .message .request)))
+
+  long-is : cond (eqb (kindNumber (t .message .request)) 0) (M .placed + netOf (cutPacket t)) (M .length) ≡ length (t .message .bytes)
+  long-is = ap (λ y. cond (eqb y 0) (M .placed + netOf (cutPacket t)) (M .length)) (Z .kind) ∙ (N .length ∙ Z .named (length (t .message .bytes)))
+
+  sized : Sizes (t .index) (packetCount (t .message)) (netFor t) (t .message .connection .pmtu) (length (t .message .bytes))
+  sized = sizes (x .whole .pair .setup) (x .whole .regions) fits t H (C .carrier)
+
+  inside : t .index * t .message .connection .pmtu + netFor t ≤ length (t .message .bytes)
+  inside = net-total (t .index) (packetCount (t .message)) (netFor t) (t .message .connection .pmtu) (length (t .message .bytes)) (H .inside) sized
+
+  -- where bytes are to come, this packet has its place among them
+  short : 0 < length (t .message .bytes) → t .index * t .message .connection .pmtu < length (t .message .bytes)
+  short o = go (isLast t) refl
+    where
+      zeroth : (i : ℕ) → i ≡ 0 → i * t .message .connection .pmtu ≡ 0
+      zeroth i e = omega (arith, ap (λ k. k * t .message .connection .pmtu) e)
+      go : (b : Bool) → isLast t ≡ b → t .index * t .message .connection .pmtu < length (t .message .bytes)
+      go false e = omega (arith, sized .more (omega (arith, tests, H .inside)) .1)
+      go true e = first (eqb (t .index) 0) refl
+        where
+          first : (c : Bool) → eqb (t .index) 0 ≡ c → t .index * t .message .connection .pmtu < length (t .message .bytes)
+          first true z = omega (arith, zeroth (t .index) (eqb-true (t .index) 0 z))
+          first false z =
+              let l = sized .last (eqb-true (suc (t .index)) (packetCount (t .message)) e) in
+              let g : 0 < netFor t = l .1 (omega (arith, tests)) in
+              omega (arith, l .2)
+
+  abbrev piece : List ℕ
+  piece = pieceAt (t .message .bytes) (t .message .connection .pmtu) (t .index)
+
+  abbrev target : ℕ
+  target = lies (x .whole .regions) (keyOf (t .message .request)) (addressOf (t .message .request)) + t .index * t .message .connection .pmtu
+
+  region-is : region ≡ regionOf (keyOf (t .message .request)) (x .whole .regions)
+  unfolding regionFor
+  region-is = ap (λ k. regionFor k (M .key) (x .whole .regions)) (Z .kind) ∙ ap (λ k. regionOf k (x .whole .regions)) (N .key)
+
+  piece-long : length piece ≡ netFor t
+  piece-long = length-piece (x .whole .pair .setup) (x .whole .regions) fits t H (x .whole .pair .message) (p .held) (L .under) C entry region
+
+  -- what is named lies in the region
+  right : Lies (x .whole .regions) (λ r. r .write) (keyOf (t .message .request)) (addressOf (t .message .request)) (length (t .message .bytes))
+  right = Z .right (x .whole .pair .setup) (x .whole .regions) (length (t .message .bytes)) (H .permitted .allowed)
+
+  in-place : 0 < length (t .message .bytes) → (placeOf 6 M entry (regionOf (keyOf (t .message .request)) (x .whole .regions)) ≡ target) × (target + netFor t ≤ length (p .memory))
+  unfolding placeOf
+  in-place o =
+      let w =
+      spot-is (x .whole .pair .setup .memory) 6 (keyOf (t .message .request)) (addressOf (t .message .request)) (length (t .message .bytes)) (t .index * t .message .connection .pmtu)
+      (x .whole .regions) (λ r. r .write) M (Y .regions) write-right (N .address) (N .placed) (N .length ∙ Z .named (length (t .message .bytes))) (omega (arith, inside)) right (short o) in
+      (w .0, omega (arith, w .1, inside, ml))
+
+  placed-here : placed (p .memory) (placeOf 6 M entry (regionOf (keyOf (t .message .request)) (x .whole .regions))) piece ≡ put (p .memory) target piece
+  placed-here = go (eqb (length (t .message .bytes)) 0) refl
+    where
+      go : (b : Bool) → eqb (length (t .message .bytes)) 0 ≡ b
+          → placed (p .memory) (placeOf 6 M entry (regionOf (keyOf (t .message .request)) (x .whole .regions))) piece ≡ put (p .memory) target piece
+      go true e = none-placed (p .memory) _ target piece (omega (arith, tests, piece-long, inside))
+      go false e =
+          let w = in-place (omega (arith, eqb-false (length (t .message .bytes)) 0 e)) in
+          ap (λ k. placed (p .memory) k piece) (w .0) ∙ placed-put (p .memory) target piece (omega (arith, piece-long, w .1))
+
+  lands : memoryBy (placing (cutPacket t) M entry region) (x .memory) (packetAt t) ≡ put (p .memory) target piece
+  lands =
+      placing-bytes (x .whole .pair .setup) (x .whole .regions) fits t H (x .whole .pair .message) (p .held) (L .under) C entry region (x .memory)
+      ∙ ((λ i. placed (L .memory i) (placeOf (Z .kind i) M entry (region-is i)) piece) ∙ placed-here)
+
+  ring-is : map entryOf (inRing (x .whole .entries) (entriesBy (isLast t && takes (t .message .request)) (x .whole .pair .entries)))
+      ≡ cond (isLast t) [] (heldNow p t) ++ waitingNow p t
+  ring-is =
+      entries-by (x .whole .entries) (x .whole .pair .entries) (p .held ++ p .waiting) (L .entries) (isLast t && takes (t .message .request)) (λ z. taken (needing-is ∙ z) .0)
+      ∙ (ap (λ h. cond (isLast t && takes (t .message .request)) (drop 1 (h ++ p .waiting)) (h ++ p .waiting)) none-held
+      ∙ (giving (isLast t) (takes (t .message .request)) (p .waiting)
+      ∙ λ i. cond (isLast t) [] (cond (sym needing-is i) (take 1 (p .waiting)) (sym none-held i)) ++ cond (sym needing-is i) (drop 1 (p .waiting)) (p .waiting)))
+
+  more-held : isLast t ≡ false → cond (isLast t) [] (heldNow p t) ≡ []
+  more-held e =
+      ap (λ b. cond b [] (heldNow p t)) e
+      ∙ (ap (λ b. cond b (take 1 (p .waiting)) (p .held)) (needing-is ∙ ap (λ b. b && takes (t .message .request)) e) ∙ none-held)
+
+  pub writes : Does ms S p x (placing (cutPacket t) M entry region) (packetAt t) (firstOf (heldNow p t))
+  unfolding placing
+  writes =
+      record {
+        status = placing-answers (x .whole .pair .setup) (x .whole .regions) fits t H (x .whole .pair .message) (p .held) (L .under) C entry region;
+        numbers = sym (C .span (t .message .connection .pmtu));
+        ends = last-is;
+        reads = placing-reads (x .whole .pair .setup) (x .whole .regions) fits t H (x .whole .pair .message) (p .held) (L .under) C entry region (x .whole .pair .read) _ (p .r) (L .reads);
+        memory = lands ∙ sym (Z .lands (x .whole .regions) (t .message .connection .pmtu) (t .message .bytes) (t .index) (firstOf (heldNow p t)) (p .memory));
+        completion = told .0;
+        entries = ap (λ b. map entryOf (inRing (x .whole .entries) (entriesBy b (x .whole .pair .entries)))) (told .1) ∙ ring-is;
+        under =
+            under-next S (p .k) (grown (placeFor t) M (netOf (cutPacket t))) (cond (isLast t) [] (heldNow p t)) (G .turn (p .k) lt) (H .inside)
+            (λ e. (grown-last (x .whole .pair .setup) (x .whole .regions) fits t H (x .whole .pair .message) (p .held) (L .under) C entry region e, ap (λ b. cond b [] (heldNow p t)) e))
+            (λ e.
+              (grown-more (x .whole .pair .setup) (x .whole .regions) fits t H (x .whole .pair .message) (p .held) (L .under) C entry region e,
+              Z .holding (length (t .message .bytes)) (cond (isLast t) [] (heldNow p t)) (more-held e)));
+      }
+    where
+      told : (reports (completionOf (cutPacket t) M (getD entry 0 0)) ≡ cond (isLast t && takes (t .message .request)) (completionFor (t .message .request) (firstOf (heldNow p t)) (length (t .message .bytes)) ∷ []) [])
+          × (completionOf (cutPacket t) M (getD entry 0 0) .some ≡ (isLast t && takes (t .message .request)))
+      told =
+          placing-told (x .whole .pair .setup) (x .whole .regions) fits t H (x .whole .pair .message) (p .held) (L .under) C entry region
+          (firstOf (heldNow p t)) completes-is (λ e. ap (λ y. y .number) (taken (needing-is ∙ e) .1)) (λ e. long-is)
