@@ -53,7 +53,7 @@ named-is (Read a) n = refl
 named-is (CmpSwap a) n = refl
 named-is (FetchAdd t v) n = refl
 
-named-limit : (r : Request) (n : ℕ) → InLimit r n → namedOf r n ≤ 1048576
+pub named-limit : (r : Request) (n : ℕ) → InLimit r n → namedOf r n ≤ 1048576
 named-limit Send n h = omega arith
 named-limit (SendImmediate v) n h = omega arith
 named-limit (Write t) n h = h
@@ -62,7 +62,7 @@ named-limit (Read a) n h = h
 named-limit (CmpSwap a) n h = omega arith
 named-limit (FetchAdd t v) n h = omega arith
 
-enabled-is : (s : Setup) (regions : List (List ℕ)) (r : Request) (n : ℕ) → Allowed s regions r n → notEnabled s (kindNumber r) ≡ false
+pub enabled-is : (s : Setup) (regions : List (List ℕ)) (r : Request) (n : ℕ) → Allowed s regions r n → notEnabled s (kindNumber r) ≡ false
 unfolding notEnabled
 enabled-is s regions Send n h = ap not h
 enabled-is s regions (SendImmediate v) n h = ap not h
@@ -88,7 +88,7 @@ needs-is (CmpSwap a) place i count b e f g = rw g (and-false (ends place))
 needs-is (FetchAdd t v) place i count b e f g = rw g (and-false (ends place))
 
 -- what the key must hold is not less than what was placed
-abbrev Room : Request → ℕ → ℕ → Type 0
+abbrev pub Room : Request → ℕ → ℕ → Type 0
 Room Send off n = Unit {0}
 Room (SendImmediate v) off n = Unit {0}
 Room (Write t) off n = off ≤ n
@@ -113,7 +113,7 @@ pub add-right : (r : Region) → rightOf 20 (regionRow r) ≡ cond (r .atomic) 1
 unfolding rightOf regionRow
 add-right r = refl
 
-key-good : (r : Request) (s : Setup) (regions : List (List ℕ)) (n off : ℕ) (m : OpenMessage) → RegionsSound (s .memory) regions
+pub key-good : (r : Request) (s : Setup) (regions : List (List ℕ)) (n off : ℕ) (m : OpenMessage) → RegionsSound (s .memory) regions
     → Allowed s regions r n
     → Is (kindNumber r) off (addressOf r) (keyOf r) (namedOf r n) m
     → Room r off n
@@ -256,7 +256,7 @@ idle (Read a) c d first i under held q u = absurd (true≢false (sym q))
 idle (CmpSwap a) c d first i under held q u = absurd (true≢false (sym q))
 idle (FetchAdd y x) c d first i under held q u = absurd (true≢false (sym q))
 
-none-pad : padOf 0 ≡ 0
+pub none-pad : padOf 0 ≡ 0
 unfolding padOf
 none-pad = refl
 

@@ -13,3 +13,5 @@ pub mod Sending
 pub mod Writing
 pub mod Singles
 pub mod Here
+pub mod Deliver
+pub mod Calls

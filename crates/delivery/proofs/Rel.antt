@@ -15,6 +15,7 @@ use Rattle.segment.specs.Claims.{kindNumber}
 use Rattle.segment.specs.declared.Request.{Request}
 use Rattle.segment.specs.declared.Request.the-variants.{Send, SendImmediate, Write, WriteImmediate, Read, CmpSwap, FetchAdd}
 use Rattle.responder.specs.Apply.{pairBy, memoryBy, savedBy, with}
+use Rattle.responder.specs.declared.Completion.{Completion}
 use Rattle.responder.specs.declared.Decision.{Decision}
 use Rattle.delivery.specs.Stream.{Message, Slot, slot, along}
 use Rattle.delivery.specs.Plain.{Plain, sending}
@@ -79,9 +80,9 @@ stepBy x d b =
       completions = x .completions ++ reports (d .completion);
     }
 
--- another mark, another READ being answered, and no completion
-abbrev pub eased : Run → Bool → ReadAnswer → Run
-eased x mark reads =
+-- another mark and another READ being answered
+abbrev pub eased : Run → Bool → ReadAnswer → List Completion → Run
+eased x mark reads completions =
     record {
       whole =
           record {
@@ -91,23 +92,27 @@ eased x mark reads =
             saved = x .whole .saved;
           };
       memory = x .memory;
-      completions = x .completions ++ [];
+      completions = completions;
     }
 
-pub eases : {ms : List Message} {S : List Slot} {p : Plain} {x : Run} → Link ms S p x → (mark : Bool) (a : ReadAnswer) (r : ℕ) → a .remaining ≡ r
-    → Link ms S (sending p r) (eased x mark a)
-eases {ms} {S} {p} {x} L mark a r e =
-    record {
-      reliable = L .reliable;
-      ready = L .ready;
-      expected = L .expected;
-      msn = L .msn;
-      entries = L .entries;
-      reads = e;
-      memory = L .memory;
-      completions = append-nil (x .completions) ∙ L .completions;
-      within = L .within;
-      number = L .number;
-      long = L .long;
-      under = L .under;
-    }
+module _ {ms : List Message} {S : List Slot} {p : Plain} {x : Run} (L : Link ms S p x) (mark : Bool) (a : ReadAnswer) (r : ℕ) (e : a .remaining ≡ r) where
+  pub reads-on : (cs : List Completion) → cs ≡ p .completions → Link ms S (sending p r) (eased x mark a cs)
+  reads-on cs c =
+      record {
+        reliable = L .reliable;
+        ready = L .ready;
+        expected = L .expected;
+        msn = L .msn;
+        entries = L .entries;
+        reads = e;
+        memory = L .memory;
+        completions = c;
+        within = L .within;
+        number = L .number;
+        long = L .long;
+        under = L .under;
+      }
+
+  -- a decision that tells of no completion
+  pub eases : Link ms S (sending p r) (eased x mark a (x .completions ++ []))
+  eases = reads-on (x .completions ++ []) (append-nil (x .completions) ∙ L .completions)

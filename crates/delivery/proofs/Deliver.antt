@@ -1,0 +1,242 @@
+-- A packet of the stream is delivered: the one expected, one ahead, or one that was executed before.
+use Prim.Native.Nat.{ℕ, zero, suc, _+_, _-_, _*_, _%_, _≤_, _<_}
+use mathlib.Core.Path.{_≡_, refl, sym, ap, subst, _∙_}
+use mathlib.Core.Bool.{Bool, true, false, cond, not, _&&_, _||_, true≢false}
+use mathlib.Core.List.{List, [], _∷_, _++_}
+use native.Mathlib.Omega.{arith}
+use lib.Dec.{leb, ltb, eqb}
+use lib.ListN.{length}
+use borrow.Author.Tests.{eqb-true, eqb-false, eq-eqb, ne-eqb, lt-ltb, le-ltb, ltb-true, ltb-false}
+use Rattle.laws.proofs.Auto.{tests}
+use Rattle.sequence.specs.Sequence.{space, distance, after, psnAfter, psnClass}
+use Rattle.sequence.specs.Claims.{order}
+use Rattle.sequence.specs.declared.Psn.{Psn}
+use Rattle.sequence.specs.declared.Class.{Class}
+use Rattle.sequence.specs.declared.Class.the-variants as class
+use Rattle.sequence.proofs.Circle.{class-is-order, distance-after, along-stream}
+use Rattle.header.specs.declared.Reth.{Reth}
+use Rattle.packet.specs.Packet.{padOf}
+use Rattle.pieces.specs.Pieces.{pieces}
+use Rattle.table.specs.View.{newestSaved}
+use Rattle.table.specs.declared.Saved.{Saved}
+use Rattle.table.specs.declared.Saved.the-variants.{Value, Nothing}
+use Rattle.pair.specs.Answer.{statusNumber}
+use Rattle.pair.specs.Pair.{noMessage}
+use Rattle.pair.specs.Claims.{SetupFit}
+use Rattle.pair.specs.declared.OpenMessage.{OpenMessage}
+use Rattle.pair.specs.declared.Status.the-variants as status
+use Rattle.segment.specs.Claims.{Carrier, kindNumber}
+use Rattle.segment.specs.declared.Request.{Request}
+use Rattle.segment.specs.declared.Request.the-variants.{Send, SendImmediate, Write, WriteImmediate, Read, CmpSwap, FetchAdd}
+use Rattle.segment.proofs.Fits.{none-carried}
+use Rattle.segment.proofs.Shapes.{cut-one}
+use Rattle.request.specs.Verdict.{carrying, notEnabled, overLimit, keyFails, current}
+use Rattle.responder.specs.Kept.{Steady}
+use Rattle.responder.specs.Decide.{ackSyndrome, quietly, acknowledging, reading, psnBefore, aheadDecision, againFails, readAgain, atomicAgain, isAtomic, duplicateDecision, headEntry, regionFor, expectedDecision, classed, packetDecision}
+use Rattle.responder.specs.Apply.{memoryBy, actsAtomic, savedBy, pairBy, readBy}
+use Rattle.responder.specs.Apply as apply
+use Rattle.responder.specs.declared.Decision.{Decision}
+use Rattle.delivery.specs.Stream.{Message, packetCount, Slot, slot, span, along, packetAt}
+use Rattle.delivery.specs.Plain.{Plain, isRead, sending, reached, delivered}
+use Rattle.delivery.specs.Demand.{Run, Near}
+use Rattle.delivery.proofs.Chain.{Stands, Good, along-less}
+use Rattle.delivery.proofs.Cutting.{netFor, cutPacket}
+use Rattle.delivery.proofs.Operands.{addressOf, keyOf, namedOf}
+use Rattle.delivery.proofs.Rel.{Is, IsOf, Link, stepBy, eases}
+use Rattle.delivery.proofs.Checks.{Room, named-limit, enabled-is, key-good, none-pad, begun}
+use Rattle.delivery.proofs.Here.{here}
+use Rattle.delivery.proofs.Requests.{Single, Reads, read-single, reads-reads}
+
+-- between two places of a stream, the numbers are as far apart as the places
+distance-is : (start x y : ℕ) → y ≤ x → x ≤ y + 8388607 → distance (after start x) (after start y) ≡ x - y
+distance-is start x y l h =
+    let e : y + (x - y) ≡ x = omega arith in
+    let b : Psn = record { 0 = after start y } in
+    ap (λ z. distance (z .0) (after start y)) (sym (along-stream (record { 0 = start }) y (x - y) ∙ ap (λ k. record { 0 = after start k }) e))
+    ∙ (distance-after b (x - y) ∙ omega arith)
+
+over-no : (n : ℕ) → n ≤ 1048576 → overLimit n ≡ false
+unfolding overLimit
+over-no n h = le-ltb 1048576 n h
+
+module _ (ms : List Message) (S : List Slot) (p : Plain) (x : Run) (L : Link ms S p x) (Y : Steady (x .whole))
+    (G : Good (x .whole .pair .setup) (x .whole .regions) ms S) where
+  fits : SetupFit (x .whole .pair .setup)
+  fits = Y .pair .setup .0
+
+  -- nothing is sent, an ACK or NAK is sent, a saved value is sent: no more than the mark changes
+  pub dropped : (b : List ℕ) → Link ms S p (stepBy x (quietly status.Dropped) b)
+  unfolding quietly statusNumber pairBy apply.after savedBy memoryBy actsAtomic
+  dropped b = eases L (x .whole .pair .mark) (x .whole .pair .read) (p .r) (L .reads)
+
+  nak : (b : List ℕ) → Link ms S p (stepBy x (acknowledging status.SequenceNak (x .whole .pair .expected) 96) b)
+  unfolding acknowledging statusNumber pairBy apply.after savedBy memoryBy actsAtomic
+  nak b = eases L true (x .whole .pair .read) (p .r) (L .reads)
+
+  acked : (psn : Psn) (n : ℕ) (b : List ℕ) → Link ms S p (stepBy x (acknowledging status.DuplicateAnswered psn n) b)
+  unfolding acknowledging statusNumber pairBy apply.after savedBy memoryBy actsAtomic readBy
+  acked psn n b = eases L (x .whole .pair .mark) (x .whole .pair .read) (p .r) (L .reads)
+
+  saved : (v : Saved) (psn : Psn) (b : List ℕ) → Link ms S p (stepBy x (atomicAgain v psn) b)
+  unfolding statusNumber pairBy apply.after savedBy memoryBy actsAtomic readBy
+  saved (Value v) psn b = eases L (x .whole .pair .mark) (x .whole .pair .read) (p .r) (L .reads)
+  saved Nothing psn b = dropped b
+
+  -- ahead: nothing, or the mark
+  early : (b : List ℕ) → Link ms S p (stepBy x (aheadDecision (x .whole .pair .mark) (x .whole .pair .expected)) b)
+  unfolding aheadDecision
+  early b = go (x .whole .pair .mark)
+    where
+      go : (k : Bool) → Link ms S p (stepBy x (cond k (quietly status.Dropped) (acknowledging status.SequenceNak (x .whole .pair .expected) 96)) b)
+      go true = dropped b
+      go false = nak b
+
+  -- a READ's answer begins
+  remaining-is : (at n r : ℕ) (psn : Psn) (len : ℕ) → 1 ≤ r → r ≡ n
+      → readBy (reading status.DuplicateAnswered noMessage at len 0 false r psn) (x .whole .pair .read) (x .whole .pair .msn) .remaining ≡ n
+  unfolding readBy
+  remaining-is at n r psn len h e = rw (ne-eqb r 0 (λ z. absurd (omega arith))) e
+
+  begins : (at n r : ℕ) (psn : Psn) (len : ℕ) (b : List ℕ) → 1 ≤ r → r ≡ n
+      → Link ms S (sending p n) (stepBy x (reading status.DuplicateAnswered noMessage at len 0 false r psn) b)
+  unfolding statusNumber pairBy apply.after savedBy memoryBy actsAtomic
+  begins at n r psn len b h e =
+      eases L (x .whole .pair .mark) (readBy (reading status.DuplicateAnswered noMessage at len 0 false r psn) (x .whole .pair .read) (x .whole .pair .msn)) n (remaining-is at n r psn len h e)
+
+  module _ (j : ℕ) (i : j < length S) where
+    abbrev t : Slot
+    t = slot S j
+
+    H : Stands (x .whole .pair .setup) (x .whole .regions) t
+    H = G .stands j i
+
+    abbrev M : OpenMessage
+    M = current (x .whole .pair .message) (cutPacket t)
+
+    abbrev region : List ℕ
+    region = regionFor (kindNumber (t .message .request)) (M .key) (x .whole .regions)
+
+    -- a READ that was executed before is answered again
+    module _ (O : Single (t .message .request)) (R : Reads (t .message .request)) (a : Reth) (ea : t .message .request ≡ Read a)
+        (back : along S j + span t ≤ along S (p .k)) (near : along S (p .k) ≤ along S j + 8388607) where
+      zeroth : t .index ≡ 0
+      zeroth =
+          omega (arith, cut-one (t .message .request) (length (t .message .bytes)) (t .message .connection .pmtu) (O .bare), H .inside)
+
+      N : IsOf t M
+      N = begun (x .whole .pair .setup) (x .whole .regions) fits t H (x .whole .pair .message) (eq-eqb (t .index) 0 zeroth)
+
+      none : netFor t ≡ 0
+      none = none-carried (t .message .connection) (t .message .request) (t .message .bytes) (t .index) (O .bare)
+
+      raw-none : netFor t + padOf (netFor t) ≡ 0
+      raw-none = omega (arith, none, ap padOf none, none-pad)
+
+      key-holds : keyFails (x .whole .pair .setup .memory) 12 M region ≡ false
+      key-holds =
+          subst (λ k. keyFails (x .whole .pair .setup .memory) k M region ≡ false) (R .kind)
+          (key-good (t .message .request) (x .whole .pair .setup) (x .whole .regions) (length (t .message .bytes)) (t .index * t .message .connection .pmtu) M (Y .regions) (H .permitted .allowed) N
+          (subst (λ r. Room r (t .index * t .message .connection .pmtu) (length (t .message .bytes))) (sym ea) (omega (arith, ap (λ k. k * t .message .connection .pmtu) zeroth))))
+
+      count-is : pieces (M .length) (x .whole .pair .setup .pmtu) ≡ span t
+      count-is = (λ k. pieces (N .length k) (sym (H .permitted .pmtu) k)) ∙ sym (R .span (length (t .message .bytes)) (t .message .connection .pmtu))
+
+      far : distance (x .whole .pair .expected .0) (cutPacket t .psn .0) ≡ along S (p .k) - along S j
+      far =
+          (λ k. distance ((ap (λ e. e .0) (L .expected) ∙ L .number) k) (G .number j i k))
+          ∙ distance-is (x .whole .pair .setup .start .0) (along S (p .k)) (along S j) (omega (arith, back)) near
+
+      again-passes : againFails (cutPacket t) (x .whole .pair .setup) M (x .whole .pair .expected) region ≡ false
+      unfolding againFails
+      again-passes =
+          let en : notEnabled (x .whole .pair .setup) 12 ≡ false =
+          subst (λ k. notEnabled (x .whole .pair .setup) k ≡ false) (R .kind) (enabled-is (x .whole .pair .setup) (x .whole .regions) (t .message .request) (length (t .message .bytes)) (H .permitted .allowed)) in
+          let lim : overLimit (M .length) ≡ false =
+          over-no (M .length) (subst (λ k. k ≤ 1048576) (sym (N .length)) (named-limit (t .message .request) (length (t .message .bytes)) (H .permitted .limit))) in
+          let w : eqb (netFor t + padOf (netFor t)) 0 ≡ true = eq-eqb (netFor t + padOf (netFor t)) 0 raw-none in
+          let z : eqb (padOf (netFor t)) 0 ≡ true = eq-eqb (padOf (netFor t)) 0 (omega (arith, raw-none)) in
+          rw (en, lim, w, z, key-holds, far) (le-ltb (along S (p .k) - along S j) (pieces (M .length) (x .whole .pair .setup .pmtu)) (omega (arith, count-is, back)))
+
+      again : (b : List ℕ) → Link ms S (sending p (span t)) (stepBy x (readAgain (cutPacket t) (x .whole .pair .setup) M (x .whole .pair .expected) region) b)
+      unfolding readAgain
+      again b = rw again-passes (begins _ (span t) _ _ _ b (subst (λ k. 1 ≤ k) (sym count-is) (G .some j i)) count-is)
+
+    -- a packet that was executed before: an ACK, a READ's answer, a saved value
+    abbrev Late : Saved → List ℕ → Type 0
+    Late v b =
+        Link ms S (cond (isRead (t .message .request)) (sending p (span t)) p)
+        (stepBy x (duplicateDecision (cutPacket t) (x .whole .pair .setup) (x .whole .pair .expected) M region v) b)
+
+    late-carried : (v : Saved) (b : List ℕ) → carrying (kindNumber (t .message .request)) ≡ true → isRead (t .message .request) ≡ false → Late v b
+    unfolding duplicateDecision
+    late-carried v b c r = rw (c, r) (acked (psnBefore (x .whole .pair .expected)) ackSyndrome b)
+
+    late-atomic : (v : Saved) (b : List ℕ) → carrying (kindNumber (t .message .request)) ≡ false → eqb (kindNumber (t .message .request)) 12 ≡ false
+        → isAtomic (kindNumber (t .message .request)) ≡ true → isRead (t .message .request) ≡ false → Late v b
+    unfolding duplicateDecision
+    late-atomic v b c k a r = rw (c, k, a, r) (saved v (cutPacket t .psn) b)
+
+    late-read : (v : Saved) (b : List ℕ) (a : Reth) → t .message .request ≡ Read a
+        → along S j + span t ≤ along S (p .k)
+        → along S (p .k) ≤ along S j + 8388607
+        → Late v b
+    unfolding duplicateDecision carrying
+    late-read v b a e back near =
+        let k : kindNumber (t .message .request) ≡ 12 = ap kindNumber e in
+        let r : isRead (t .message .request) ≡ true = ap isRead e in
+        subst (λ z. Link ms S (cond z (sending p (span t)) p) (stepBy x (duplicateDecision (cutPacket t) (x .whole .pair .setup) (x .whole .pair .expected) M region v) b)) (sym r)
+        (rw (ap (λ z. ltb z 12) k, ap (λ z. eqb z 12) k)
+        (again (subst Single (sym e) (read-single a)) (subst Reads (sym e) (reads-reads a)) a e back near b))
+
+    late : along S j + span t ≤ along S (p .k) → along S (p .k) ≤ along S j + 8388607 → (v : Saved) (b : List ℕ) → Late v b
+    unfolding carrying isAtomic
+    late back near v b = go (t .message .request) refl
+      where
+        go : (r : Request) → t .message .request ≡ r → Late v b
+        go Send e = late-carried v b (ap (λ r. carrying (kindNumber r)) e) (ap isRead e)
+        go (SendImmediate n) e = late-carried v b (ap (λ r. carrying (kindNumber r)) e) (ap isRead e)
+        go (Write y) e = late-carried v b (ap (λ r. carrying (kindNumber r)) e) (ap isRead e)
+        go (WriteImmediate y n) e = late-carried v b (ap (λ r. carrying (kindNumber r)) e) (ap isRead e)
+        go (Read a) e = late-read v b a e back near
+        go (CmpSwap a) e = late-atomic v b (ap (λ r. carrying (kindNumber r)) e) (ap (λ r. eqb (kindNumber r) 12) e) (ap (λ r. isAtomic (kindNumber r)) e) (ap isRead e)
+        go (FetchAdd y n) e = late-atomic v b (ap (λ r. carrying (kindNumber r)) e) (ap (λ r. eqb (kindNumber r) 12) e) (ap (λ r. isAtomic (kindNumber r)) e) (ap isRead e)
+
+    abbrev decides : Decision
+    decides = packetDecision (x .whole .pair) (x .whole .regions) (x .whole .entries) (x .whole .saved) (cutPacket t)
+
+    -- by the class of its number
+    class-is : Near (along S j) (along S (p .k)) → psnClass (cutPacket t .psn .0) (x .whole .pair .expected .0) ≡ order (along S j) (along S (p .k))
+    class-is D =
+        (λ k. psnClass (G .number j i k) ((ap (λ e. e .0) (L .expected) ∙ L .number) k))
+        ∙ class-is-order (x .whole .pair .setup .start .0) (along S j) (along S (p .k)) (D .ahead) (D .behind)
+
+    abbrev v : Saved
+    v = newestSaved (cutPacket t .psn .0) (x .whole .saved) (x .whole .pair .saved)
+
+    abbrev by : Class → Decision
+    by c = classed c (x .whole .pair) (cutPacket t) (headEntry (x .whole .pair) (x .whole .entries)) region v
+
+    pub arrives : length (p .memory) ≡ x .whole .pair .setup .memory → Near (along S j) (along S (p .k))
+        → Link ms S (delivered (x .whole .regions) S p j) (stepBy x decides (packetAt t))
+    unfolding packetDecision order
+    arrives ml D = subst (λ c. Link ms S (delivered (x .whole .regions) S p j) (stepBy x (by c) (packetAt t))) (sym (class-is D)) (go (eqb j (p .k)) (ltb j (p .k)) refl refl)
+      where
+        go : (a b : Bool) → eqb j (p .k) ≡ a → ltb j (p .k) ≡ b
+            → Link ms S (cond a (reached (x .whole .regions) p t) (cond (b && isRead (t .message .request)) (sending p (span t)) p)) (stepBy x (by (order (along S j) (along S (p .k)))) (packetAt t))
+        go true b e f =
+            let q : j ≡ p .k = eqb-true j (p .k) e in
+            rw (eq-eqb (along S j) (along S (p .k)) (ap (along S) q))
+            (subst
+            (λ n. Link ms S (reached (x .whole .regions) p (slot S n)) (stepBy x (expectedDecision (cutPacket (slot S n)) (x .whole .pair .setup) (x .whole .pair .message) (x .whole .pair .entries .count) (headEntry (x .whole .pair) (x .whole .entries)) (regionFor (kindNumber (slot S n .message .request)) (current (x .whole .pair .message) (cutPacket (slot S n)) .key) (x .whole .regions))) (packetAt (slot S n))))
+            (sym q) (here ms S p x L Y G (omega arith) ml))
+        go false true e f =
+            let l = along-less S j (p .k) (ltb-true j (p .k) f) (L .within) in
+            let s = G .some j i in
+            rw (ne-eqb (along S j) (along S (p .k)) (λ z. absurd (omega arith)), le-ltb (along S (p .k)) (along S j) (omega arith))
+            (late l (D .behind) v (packetAt t))
+        go false false e f =
+            let h : p .k < j = omega (arith, tests, eqb-false j (p .k) e) in
+            let l = along-less S (p .k) j h (omega (arith, i)) in
+            let s = G .some (p .k) (omega arith) in
+            rw (ne-eqb (along S j) (along S (p .k)) (λ z. absurd (omega arith)), lt-ltb (along S (p .k)) (along S j) (omega arith))
+            (early (packetAt t))
