@@ -15,3 +15,4 @@ pub mod Singles
 pub mod Here
 pub mod Deliver
 pub mod Calls
+pub mod Whole

@@ -8,9 +8,9 @@ use native.Mathlib.Omega.{arith}
 use lib.Dec.{eqb}
 use lib.ListN.{length, getD, set, getD-replicate}
 use borrow.Author.Tests.{eqb-true, eqb-false}
-use Rattle.table.specs.Table.{entryRow, noRegion, keyRow}
+use Rattle.table.specs.Table.{entryRow, noRegion, keyRow, slotAt}
 use Rattle.table.specs.View.{oneMore}
-use Rattle.table.specs.Claims.{HasKey, RegionsSound}
+use Rattle.table.specs.Claims.{EntryFits, HasKey, RegionsSound}
 use Rattle.table.proofs.Rings.{in-use-kept, posted-sound}
 use Rattle.table.proofs.Regions.{added-sound, removed-sound, no-key}
 use Rattle.table.specs.declared.Region.{Region}
@@ -126,7 +126,7 @@ remove-kept w key W = with-regions w (removeRegions (w .regions) key) W (go (exe
     go false = W .regions
 
 -- a sound pair with an entry more
-one-more-sound : (q : Pair) → Sound q → q .entries .count < 16 → Sound (moved q (q .state) (oneMore (q .entries)))
+pub one-more-sound : (q : Pair) → Sound q → q .entries .count < 16 → Sound (moved q (q .state) (oneMore (q .entries)))
 one-more-sound q S n =
     record {
       setup = S .setup;
@@ -144,27 +144,35 @@ one-more-sound q S n =
     go (inr (inl (e, some, placed))) = inr (inl (e, omega arith, placed))
     go (inr (inr e)) = inr (inr e)
 
+-- post entry leaves pair and entries as they were, or with one entry more: what holds of both holds afterwards
+pub post-cases : (q : Pair) (rows : List (List ℕ)) (e : Entry) (P : Pair → List (List ℕ) → Type 0) → Sound q → P q rows
+    → (EntryFits (q .setup .memory) e → q .entries .count < 16 → P (moved q (q .state) (oneMore (q .entries))) (set rows (slotAt (q .entries .head) (q .entries .count)) (entryRow e)))
+    → P (posted q e .pair) (postEntries q rows e)
+post-cases q rows e P S same more = go (post-either q rows e S)
+  where
+    go : PostEither q rows e → P (posted q e .pair) (postEntries q rows e)
+    go (inl (a, b)) = subst (λ x. P x (postEntries q rows e)) (sym a) (subst (P q) (sym b) same)
+    go (inr (f, n, a, b)) = subst (λ x. P x (postEntries q rows e)) (sym a) (subst (P (moved q (q .state) (oneMore (q .entries)))) (sym b) (more f n))
+
+-- the entry held stays the same row
+pub held-kept : (q : Pair) (rows : List (List ℕ)) (e : Entry) → Sound q → q .entries .count < 16 → q .message .kind ≡ 0
+    → q .message .placed ≤ getD (getD rows (slotAt (q .entries .head) 0) []) 2 0
+    → q .message .placed ≤ getD (getD (set rows (slotAt (q .entries .head) (q .entries .count)) (entryRow e)) (slotAt (q .entries .head) 0) []) 2 0
+held-kept q rows e S n k h =
+    subst (λ x. q .message .placed ≤ getD x 2 0) (sym (in-use-kept rows (q .entries) (entryRow e) 0 n (held-some q S k))) h
+
 post-kept : (w : Whole) (e : Entry) → WholeSound w → WholeSound (called w (PostEntry e))
 unfolding called
-post-kept w e W = go (post-either (w .pair) (w .entries) e (W .pair))
-  where
-    go : PostEither (w .pair) (w .entries) e
-        → WholeSound (changed w (posted (w .pair) e .pair) (w .regions) (postEntries (w .pair) (w .entries) e))
-    go (inl (a, b)) =
-        subst (λ q. WholeSound (changed w q (w .regions) (postEntries (w .pair) (w .entries) e))) (sym a) (subst (λ x. WholeSound (changed w (w .pair) (w .regions) x)) (sym b) W)
-    go (inr (f, n, a, b)) =
-        subst (λ q. WholeSound (changed w q (w .regions) (postEntries (w .pair) (w .entries) e))) (sym a)
-        (subst (λ x. WholeSound (changed w (moved (w .pair) (w .pair .state) (oneMore (w .pair .entries))) (w .regions) x)) (sym b)
-        (record {
-          pair = one-more-sound (w .pair) (W .pair) n;
-          regions = W .regions;
-          entries = posted-sound (w .pair .setup .memory) (w .entries) (w .pair .entries) e (W .entries) n f;
-          saved = W .saved;
-          held =
-              λ k.
-              subst (λ x. w .pair .message .placed ≤ getD x 2 0)
-              (sym (in-use-kept (w .entries) (w .pair .entries) (entryRow e) 0 n (held-some (w .pair) (W .pair) k))) (W .held k);
-        }))
+post-kept w e W =
+    post-cases (w .pair) (w .entries) e (λ q rows. WholeSound (changed w q (w .regions) rows)) (W .pair) W
+    (λ f n.
+      record {
+        pair = one-more-sound (w .pair) (W .pair) n;
+        regions = W .regions;
+        entries = posted-sound (w .pair .setup .memory) (w .entries) (w .pair .entries) e (W .entries) n f;
+        saved = W .saved;
+        held = λ k. held-kept (w .pair) (w .entries) e (W .pair) n k (W .held k);
+      })
 
 called-sound : (w : Whole) (c : HostCall) → Accepted c → WholeSound w → WholeSound (called w c)
 unfolding called

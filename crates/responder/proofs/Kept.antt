@@ -12,10 +12,13 @@ use Rattle.memory.specs.Word.{wordAt}
 use Rattle.memory.proofs.Words.{word-below}
 use Rattle.table.specs.View.{savedRing, savedRows}
 use Rattle.table.specs.Claims.{SavedSound}
-use Rattle.table.proofs.Rings.{saves-sound}
+use Rattle.table.proofs.Rings.{saves-sound, posted-sound}
+use Rattle.table.specs.declared.Entry.{Entry}
 use Rattle.pair.specs.Answer.{executed}
-use Rattle.pair.specs.Calls.{Whole}
+use Rattle.pair.specs.Calls.HostCall.{PostEntry}
+use Rattle.pair.specs.Calls.{Whole, changed, called}
 use Rattle.pair.specs.Claims.{ReadSound, WholeSound}
+use Rattle.pair.proofs.Kept.{one-more-sound, post-cases, held-kept}
 use Rattle.responder.specs.Inbound.{decision, inbound, inboundSaved, outcomeBy}
 use Rattle.responder.specs.declared.Decision.{Decision}
 use Rattle.responder.specs.Apply.{actsAtomic, savedBy, savedRingBy, pairBy}
@@ -51,7 +54,7 @@ unfolding drained
 next-steady w m out W = drained-lasting w m out W .steady
 
 -- with the saved atomics
-steady : (w : Whole) → WholeSound w → Steady w
+pub steady : (w : Whole) → WholeSound w → Steady w
 steady w W = record { pair = W .pair; regions = W .regions; entries = W .entries; held = W .held }
 
 pub next-sound : NextSound
@@ -85,3 +88,16 @@ inbound-sound w m p out B P W =
     let L = decided-leads w (steady w W) (length m) p (length out) (psn-below p P) in
     let S = L .steady in
     record { pair = S .pair; regions = S .regions; entries = S .entries; saved = saved-sound w _ m B W L; held = S .held }
+
+-- post entry keeps all but the saved atomics too
+pub post-steady : (w : Whole) (e : Entry) → Steady w → Steady (called w (PostEntry e))
+unfolding called
+post-steady w e W =
+    post-cases (w .pair) (w .entries) e (λ q rows. Steady (changed w q (w .regions) rows)) (W .pair) W
+    (λ f n.
+      record {
+        pair = one-more-sound (w .pair) (W .pair) n;
+        regions = W .regions;
+        entries = posted-sound (w .pair .setup .memory) (w .entries) (w .pair .entries) e (W .entries) n f;
+        held = λ k. held-kept (w .pair) (w .entries) e (W .pair) n k (W .held k);
+      })
