@@ -16,3 +16,4 @@ pub mod Here
 pub mod Deliver
 pub mod Calls
 pub mod Whole
+pub mod Witness

@@ -30,8 +30,8 @@ use Rattle.delivery.proofs.Rel.{Link, Under}
 use Rattle.delivery.proofs.Calls.{hand, next, post}
 
 -- no call moves the set-up
-record Same (s : Setup) (q : Pair) : Type 0 where
-  is : q .setup ≡ s
+pub record Same (s : Setup) (q : Pair) : Type 0 where
+  pub is : q .setup ≡ s
 
 either : {s : Setup} {q r : Pair} (b : Bool) → Same s q → Same s r → Same s (cond b q r)
 either true e f = e
@@ -44,13 +44,13 @@ after-setup q d n =
     (either (eqb n 4) (record { is = refl })
     (either (eqb n 16 || eqb n 19) (record { is = refl }) (either (eqb n 17 || eqb n 18) (record { is = refl }) (record { is = refl }))))
 
-setup-kept : (S : List Slot) (x : Run) (c : Call) → Same (x .whole .pair .setup) (step S x c .whole .pair)
+pub setup-kept : (S : List Slot) (x : Run) (c : Call) → Same (x .whole .pair .setup) (step S x c .whole .pair)
 unfolding step received inbound outcomeBy pairBy drained nextResponse called posted
 setup-kept S x (Hand j out) = after-setup (x .whole .pair) _ _
 setup-kept S x (Next out) = either (executed (nextStatus (x .whole .pair) (length (x .memory)) (length out))) (record { is = refl }) (record { is = refl })
 setup-kept S x (Post e) = either (executed (postStatus (x .whole .pair) e)) (record { is = refl }) (record { is = refl })
 
-regions-kept : (S : List Slot) (x : Run) (c : Call) → step S x c .whole .regions ≡ x .whole .regions
+pub regions-kept : (S : List Slot) (x : Run) (c : Call) → step S x c .whole .regions ≡ x .whole .regions
 unfolding step received drained called
 regions-kept S x (Hand j out) = refl
 regions-kept S x (Next out) = refl
@@ -60,7 +60,7 @@ module _ (ms : List Message) (S : List Slot) where
   abbrev Going : Setup → List (List ℕ) → Type 0
   Going s regions = Good s regions ms S
 
-  steady-next : (p : Plain) (x : Run) → Steady (x .whole) → Going (x .whole .pair .setup) (x .whole .regions) → (c : Call) → Meets (x .whole .pair .setup) ms S p c
+  pub steady-next : (p : Plain) (x : Run) → Steady (x .whole) → Going (x .whole .pair .setup) (x .whole .regions) → (c : Call) → Meets (x .whole .pair .setup) ms S p c
       → Steady (step S x c .whole)
   unfolding step
   steady-next p x Y G (Hand j out) m =
@@ -69,7 +69,7 @@ module _ (ms : List Message) (S : List Slot) where
   steady-next p x Y G (Next out) m = next-steady (x .whole) (x .memory) out Y
   steady-next p x Y G (Post e) m = post-steady (x .whole) e Y
 
-  linked : (p : Plain) (x : Run) → Link ms S p x → Steady (x .whole) → Going (x .whole .pair .setup) (x .whole .regions) → (c : Call) → Meets (x .whole .pair .setup) ms S p c
+  pub linked : (p : Plain) (x : Run) → Link ms S p x → Steady (x .whole) → Going (x .whole .pair .setup) (x .whole .regions) → (c : Call) → Meets (x .whole .pair .setup) ms S p c
       → Link ms S (account (x .whole .pair .setup) (x .whole .regions) S p c) (step S x c)
   linked p x L Y G (Hand j out) m = hand ms S p x L Y G j out m
   linked p x L Y G (Next out) m = next ms S p x L Y G out
@@ -92,7 +92,7 @@ module _ (ms : List Message) (S : List Slot) where
       all s regions G cs (account s regions S p c) (step S x c) (setup-kept S x c .is ∙ es) (regions-kept S x c ∙ er) L1 (steady-next p x Y H c n) (m .1)
 
 -- a fresh pair stands where the plain run starts
-fresh-link : (w : Whole) (ms : List Message) (m : List ℕ) → Fresh w → AllLongEnough ms (waitingAt w)
+pub fresh-link : (w : Whole) (ms : List Message) (m : List ℕ) → Fresh w → AllLongEnough ms (waitingAt w)
     → Good (w .pair .setup) (w .regions) ms (stream (w .pair .setup .start) ms)
     → Link ms (stream (w .pair .setup .start) ms) (start (w .pair .setup) m (waitingAt w)) (record { whole = w; memory = m; completions = [] })
 fresh-link w ms m F l G =

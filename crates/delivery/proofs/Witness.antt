@@ -1,0 +1,183 @@
+-- Every packet is executed in turn.
+use Prim.Native.Nat.{ℕ, zero, suc, _+_, _-_, _≤_, _<_}
+use mathlib.Core.Path.{_≡_, refl, sym, ap, subst, _∙_}
+use mathlib.Core.Bool.{Bool, true, false, cond, not, _&&_, true≢false}
+use mathlib.Core.List.{List, [], _∷_, _++_}
+use native.Mathlib.Omega.{arith}
+use lib.Dec.{leb, ltb, eqb}
+use lib.ListN.{length, take, drop}
+use borrow.Author.Tests.{eqb-true, eq-eqb, le-ltb, le-leb, leb-true, leb-false}
+use Rattle.laws.proofs.Auto.{tests}
+use Rattle.pieces.proofs.Counting.{bounds}
+use Rattle.memory.proofs.Put.{length-placed}
+use Rattle.memory.proofs.Words.{fetch-within, swap-within}
+use Rattle.table.specs.declared.Entry.{Entry}
+use Rattle.pair.specs.Claims.{SetupFit}
+use Rattle.pair.specs.declared.Setup.{Setup}
+use Rattle.responder.specs.Apply.{memoryBy}
+use Rattle.responder.specs.Inbound.{inboundMemory}
+use Rattle.responder.specs.Kept.{Steady}
+use Rattle.responder.specs.declared.Decision.{Decision}
+use Rattle.responder.proofs.Kept.{steady}
+use Rattle.delivery.specs.Stream.{Message, Slot, slot, stream, span, along}
+use Rattle.delivery.specs.Plain.{Plain, Call, none, firstOf, isRead, needing, isLast, heldNow, sending, adding, perform, reached, delivered, account, plain, start}
+use Rattle.delivery.specs.Plain.Call.{Hand, Next, Post}
+use Rattle.delivery.specs.Demand.{Run, step, LongEnough, Meets, AllMeet, Near, Handed, Posted, waitingAt}
+use Rattle.delivery.specs.Witness.{wholeEntry, draining, inTurn, Witness}
+use Rattle.delivery.proofs.Chain.{Good, good}
+use Rattle.delivery.proofs.Rel.{Link}
+use Rattle.delivery.proofs.Whole.{setup-kept, regions-kept, steady-next, linked, fresh-link}
+
+-- no call changes the length of memory
+long-either : (b : Bool) (x y : List ℕ) (n : ℕ) → length x ≡ n → length y ≡ n → length (cond b x y) ≡ n
+long-either true x y n e f = e
+long-either false x y n e f = f
+
+memory-long : (d : Decision) (m b : List ℕ) → length (memoryBy d m b) ≡ length m
+unfolding memoryBy
+memory-long d m b =
+    long-either (eqb (d .act) 1) _ _ (length m) (length-placed m (d .at) _)
+    (long-either (eqb (d .act) 2) _ _ (length m) (fetch-within m (d .at) (d .swap) .kept)
+    (long-either (eqb (d .act) 3) _ _ (length m) (swap-within m (d .at) (d .compare) (d .swap) .kept) refl))
+
+step-long : (S : List Slot) (x : Run) (c : Call) → length (step S x c .memory) ≡ length (x .memory)
+unfolding step inboundMemory
+step-long S x (Hand j out) = memory-long _ (x .memory) _
+step-long S x (Next out) = refl
+step-long S x (Post e) = refl
+
+-- an entry is there after it was posted, or there were 16
+pub record Supplied (p q : Plain) : Type 0 where
+  pub k : q .k ≡ p .k
+  pub r : q .r ≡ p .r
+  pub held : q .held ≡ p .held
+  pub memory : q .memory ≡ p .memory
+  pub some : none (q .waiting) ≡ false
+
+some-more : (es : List Entry) (e : Entry) → none (es ++ (e ∷ [])) ≡ false
+some-more [] e = refl
+some-more (x ∷ es) e = refl
+
+some-there : (es : List Entry) → 1 ≤ length es → none es ≡ false
+some-there [] h = absurd (omega arith)
+some-there (x ∷ es) h = refl
+
+few : (b : Bool) (held waiting : List Entry) → length held ≤ 1 → length (cond b (take 1 waiting) held) ≤ 1
+few true held [] h = omega arith
+few true held (e ∷ es) h = omega arith
+few false held waiting h = h
+
+none-few : (b : Bool) (held : List Entry) → length held ≤ 1 → length (cond b [] held) ≤ 1
+none-few true held h = omega arith
+none-few false held h = h
+
+and-false : (b : Bool) → (b && false) ≡ false
+and-false true = refl
+and-false false = refl
+
+-- no more responses than the packet spans
+answers : (b : Bool) (n r : ℕ) → r ≡ 0 → cond b n r ≤ n
+answers true n r e = omega arith
+answers false n r e = omega arith
+
+module _ (s : Setup) (regions : List (List ℕ)) (ms : List Message) (S : List Slot) (G : Good s regions ms S) (f : SetupFit s)
+    (out : List ℕ) (room : 4112 ≤ length out) (long : LongEnough ms (wholeEntry s)) where
+  -- the plain run and the pair's stand together, with memory of the length set up
+  record Together (p : Plain) (x : Run) : Type 0 where
+    setup : x .whole .pair .setup ≡ s
+    tables : x .whole .regions ≡ regions
+    link : Link ms S p x
+    sound : Steady (x .whole)
+    bytes : length (x .memory) ≡ s .memory
+
+  on : (p : Plain) (x : Run) → Together p x → (c : Call) → Meets s ms S p c → Together (account s regions S p c) (step S x c)
+  on p x T c m =
+      let H = subst (λ r. Good (x .whole .pair .setup) r ms S) (sym (T .tables)) (subst (λ z. Good z regions ms S) (sym (T .setup)) G) in
+      let n = subst (λ z. Meets z ms S p c) (sym (T .setup)) m in
+      record {
+        setup = setup-kept S x c .is ∙ T .setup;
+        tables = regions-kept S x c ∙ T .tables;
+        link = subst (λ r. Link ms S (account s r S p c) (step S x c)) (T .tables) (subst (λ z. Link ms S (account z (x .whole .regions) S p c) (step S x c)) (T .setup) (linked ms S p x (T .link) (T .sound) H c n));
+        sound = steady-next ms S p x (T .sound) H c n;
+        bytes = step-long S x c ∙ T .bytes;
+      }
+
+  bytes-are : (p : Plain) (x : Run) → Together p x → length (p .memory) ≡ s .memory
+  bytes-are p x T = ap length (sym (T .link .memory)) ∙ T .bytes
+
+  supplies : (p : Plain) → length (p .held) ≤ 1 → Supplied p (account s regions S p (Post (wholeEntry s)))
+  supplies p h = rw (le-ltb (s .memory) (0 + s .memory) (omega arith)) (go (leb 16 (length (p .held) + length (p .waiting))) refl)
+    where
+      go : (b : Bool) → leb 16 (length (p .held) + length (p .waiting)) ≡ b → Supplied p (cond b p (adding p (p .waiting ++ (wholeEntry s ∷ []))))
+      go true e = record { k = refl; r = refl; held = refl; memory = refl; some = some-there (p .waiting) (omega (arith, tests)) }
+      go false e = record { k = refl; r = refl; held = refl; memory = refl; some = some-more (p .waiting) (wholeEntry s) }
+
+  -- packet k is executed as soon as it is handed in
+  taken : (p : Plain) (j : ℕ) → j ≡ p .k → p .r ≡ 0 → length (p .memory) ≡ s .memory → none (p .waiting) ≡ false
+      → account s regions S p (Hand j out) ≡ perform regions p (slot S j) (firstOf (heldNow p (slot S j)))
+  taken p j e r m w =
+      rw (le-ltb (length out) 24 (omega arith), eq-eqb (length (p .memory)) (s .memory) m, eq-eqb (p .r) 0 r, eq-eqb j (p .k) e, w)
+      (ap (λ b. cond b p (perform regions p (slot S j) (firstOf (heldNow p (slot S j))))) (and-false (needing (slot S j))))
+
+  -- asking for a response takes one away, if there is one
+  fewer : (p : Plain) → length (p .memory) ≡ s .memory → account s regions S p (Next out) ≡ sending p (p .r - 1)
+  fewer p m =
+      let b : s .pmtu ≤ 4096 = bounds (s .pmtu) (f .pmtu) .1 in
+      rw (le-ltb (length out) (16 + s .pmtu) (omega arith), eq-eqb (length (p .memory)) (s .memory) m) (go (eqb (p .r) 0) refl)
+    where
+      go : (b : Bool) → eqb (p .r) 0 ≡ b → cond b p (sending p (p .r - 1)) ≡ sending p (p .r - 1)
+      go true e = let z : p .r ≡ p .r - 1 = omega (arith, tests) in λ i. sending p (z i)
+      go false e = refl
+
+  abbrev Goal : Plain → List Call → Type 0
+  Goal p calls = AllMeet s regions ms S p calls × (plain s regions S p calls .k ≡ length S)
+
+  drains : (n : ℕ) (p : Plain) (x : Run) (rest : List Call) → Together p x → p .r ≤ n
+      → ((y : Run) → Together (sending p 0) y → Goal (sending p 0) rest)
+      → Goal p (draining out n rest)
+  unfolding draining plain
+  drains zero p x rest T h k =
+      let z : p .r ≡ 0 = omega arith in
+      let e : p ≡ sending p 0 = λ i. sending p (z i) in
+      subst (λ q. Goal q rest) (sym e) (k x (subst (λ q. Together q x) e T))
+  drains (suc n) p x rest T h k =
+      let e = fewer p (bytes-are p x T) in
+      let U = on p x T (Next out) tt in
+      let g = drains n (sending p (p .r - 1)) (step S x (Next out)) rest (subst (λ q. Together q (step S x (Next out))) e U) (omega arith) k in
+      let a = subst (λ q. Goal q (draining out n rest)) (sym e) g in
+      ((tt, a .0), a .1)
+
+  turns : (n j : ℕ) (p : Plain) (x : Run) → Together p x → p .k ≡ j → j + n ≡ length S → p .r ≡ 0 → length (p .held) ≤ 1
+      → Goal p (inTurn s out S j n)
+  unfolding inTurn plain perform
+  turns zero j p x T k l r h = (tt, omega (arith, k))
+  turns (suc n) j p x T k l r h =
+      let p1 = account s regions S p (Post (wholeEntry s)) in
+      let A = supplies p h in
+      let m1 : Posted s ms p (wholeEntry s) = record { long = λ a b. long } in
+      let T1 = on p x T (Post (wholeEntry s)) m1 in
+      let same : j ≡ p1 .k = sym (A .k ∙ k) in
+      let m2 : Handed s S p1 j out =
+      record { inside = omega (arith, l); near = λ a b c. record { behind = omega (arith, ap (along S) same); ahead = omega (arith, ap (along S) same) } } in
+      let T2 = on p1 (step S x (Post (wholeEntry s))) T1 (Hand j out) m2 in
+      let e = taken p1 j same (A .r ∙ r) (bytes-are p1 (step S x (Post (wholeEntry s))) T1) (A .some) in
+      let p2 = perform regions p1 (slot S j) (firstOf (heldNow p1 (slot S j))) in
+      let g : Goal p2 (draining out (span (slot S j)) (inTurn s out S (suc j) n)) =
+      drains (span (slot S j)) p2 _ (inTurn s out S (suc j) n) (subst (λ q. Together q (step S (step S x (Post (wholeEntry s))) (Hand j out))) e T2)
+      (answers (isRead (slot S j .message .request)) (span (slot S j)) (p1 .r) (A .r ∙ r))
+      (λ y U. turns n (suc j) (sending p2 0) y U (ap suc (A .k ∙ k)) (omega (arith, l)) refl
+        (none-few (isLast (slot S j)) (heldNow p1 (slot S j)) (few (needing (slot S j)) (p1 .held) (p1 .waiting) (subst (λ es. length es ≤ 1) (sym (A .held)) h)))) in
+      let a = subst (λ q. Goal q (draining out (span (slot S j)) (inTurn s out S (suc j) n))) (sym e) g in
+      ((m1, (m2, a .0)), a .1)
+
+pub witness : Witness
+witness w ms m out F p l h b room =
+    let s = w .pair .setup in
+    let f = F .sound .pair .setup .0 in
+    let S = stream (s .start) ms in
+    let G = good s (w .regions) ms f p in
+    let g =
+    turns s (w .regions) ms S G f out room h (length S) 0 (start s m (waitingAt w)) (record { whole = w; memory = m; completions = [] })
+    (record { setup = refl; tables = refl; link = fresh-link w ms m F l G; sound = steady w (F .sound); bytes = b })
+    refl (omega arith) refl (omega arith) in
+    (inTurn s out S 0 (length S), g .0, g .1)
