@@ -3,3 +3,12 @@ pub mod Leads
 pub mod Executes
 pub mod Decisions
 pub mod Kept
+pub mod Codes
+pub mod Inside
+pub mod Rows
+pub mod Effects
+pub mod Sizes
+pub mod Refusals
+pub mod Replies
+pub mod Responses
+pub mod Draining

@@ -5,3 +5,6 @@ pub mod Inbound
 pub mod Response
 pub mod Calls
 pub mod Kept
+pub mod Effects
+pub mod Reads
+pub mod Replies
