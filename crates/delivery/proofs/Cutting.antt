@@ -68,7 +68,7 @@ module _ (s : Setup) (regions : List (List ℕ)) (f : SetupFit s) (t : Slot) (h 
       record { pmtu = pmtu-is; service = inl (h .permitted .service); dest = omega arith; first = h .first }
 
   pub cuttable : Cuttable (t .message .connection) (t .message .request) (length (t .message .bytes)) (t .first .0)
-  cuttable = record { fit = fit; limit = h .permitted .limit; pkey = h .permitted .pkey; widths = h .permitted .widths }
+  cuttable = record { fit = fit; limit = h .permitted .limit; pkey = omega (arith, h .permitted .pkey); widths = h .permitted .widths }
 
   reads : readHeader (packetAt t) ≡ Accepted (headerFor t)
   unfolding packetAt

@@ -15,5 +15,8 @@ pub mod Singles
 pub mod Here
 pub mod Deliver
 pub mod Calls
+pub mod Runs
 pub mod Whole
 pub mod Witness
+pub mod InOrder
+pub mod Made

@@ -18,7 +18,7 @@ use Rattle.responder.specs.Apply.{memoryBy}
 use Rattle.responder.specs.Inbound.{inboundMemory}
 use Rattle.responder.specs.Kept.{Steady}
 use Rattle.responder.specs.declared.Decision.{Decision}
-use Rattle.responder.proofs.Kept.{steady}
+use Rattle.responder.proofs.Kept.{inbound-steady, next-steady, post-steady}
 use Rattle.delivery.specs.Stream.{Message, Slot, slot, stream, span, along}
 use Rattle.delivery.specs.Plain.{Plain, Call, none, firstOf, isRead, needing, isLast, heldNow, sending, adding, perform, reached, delivered, account, plain, start}
 use Rattle.delivery.specs.Plain.Call.{Hand, Next, Post}
@@ -26,7 +26,7 @@ use Rattle.delivery.specs.Demand.{Run, step, LongEnough, Meets, AllMeet,
 use Rattle.delivery.specs.Witness.{wholeEntry, draining, inTurn, Witness}
 use Rattle.delivery.proofs.Chain.{Good, good}
 use Rattle.delivery.proofs.Rel.{Link}
-use Rattle.delivery.proofs.Whole.{setup-kept, regions-kept, steady-next, linked, fresh-link}
+use Rattle.delivery.proofs.Runs.{setup-kept, regions-kept, steady-next, linked, fresh-link, steady}
 
 -- no call changes the length of memory
 long-either : (b : Bool) (x y : List ℕ) (n : ℕ) → length x ≡ n → length y ≡ n → length (cond b x y) ≡ n
@@ -97,8 +97,8 @@ module _ (s : Setup) (regions : List (List ℕ)) (ms : List Message) (S : List S
       record {
         setup = setup-kept S x c .is ∙ T .setup;
         tables = regions-kept S x c ∙ T .tables;
-        link = subst (λ r. Link ms S (account s r S p c) (step S x c)) (T .tables) (subst (λ z. Link ms S (account z (x .whole .regions) S p c) (step S x c)) (T .setup) (linked ms S p x (T .link) (T .sound) H c n));
-        sound = steady-next ms S p x (T .sound) H c n;
+        link = subst (λ r. Link ms S (account s r S p c) (step S x c)) (T .tables) (subst (λ z. Link ms S (account z (x .whole .regions) S p c) (step S x c)) (T .setup) (linked inbound-steady next-steady post-steady ms S p x (T .link) (T .sound) H c n));
+        sound = steady-next inbound-steady next-steady post-steady ms S p x (T .sound) H c n;
         bytes = step-long S x c ∙ T .bytes;
       }
 

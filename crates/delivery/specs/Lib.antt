@@ -2,3 +2,5 @@ pub mod Stream
 pub mod Plain
 pub mod Demand
 pub mod Witness
+pub mod InOrder
+pub mod Made

@@ -13,9 +13,7 @@ use Rattle.memory.proofs.Words.{word-below}
 use Rattle.table.specs.View.{savedRing, savedRows}
 use Rattle.table.specs.Claims.{SavedSound}
 use Rattle.table.proofs.Rings.{saves-sound, posted-sound}
-use Rattle.table.specs.declared.Entry.{Entry}
 use Rattle.pair.specs.Answer.{executed}
-use Rattle.pair.specs.Calls.HostCall.{PostEntry}
 use Rattle.pair.specs.Calls.{Whole, changed, called}
 use Rattle.pair.specs.Claims.{ReadSound, WholeSound}
 use Rattle.pair.proofs.Kept.{one-more-sound, post-cases, held-kept}
@@ -24,7 +22,7 @@ use Rattle.responder.specs.declared.Decision.{Decision}
 use Rattle.responder.specs.Apply.{actsAtomic, savedBy, savedRingBy, pairBy}
 use Rattle.responder.specs.Response.{nextStatus, oneFewer, nextResponse}
 use Rattle.responder.specs.Calls.{received, drained}
-use Rattle.responder.specs.Kept.{InboundSound, NextSound, Steady, InboundSteady, NextSteady}
+use Rattle.responder.specs.Kept.{InboundSound, NextSound, Steady, InboundSteady, NextSteady, PostSteady}
 use Rattle.responder.proofs.Leads.{Leads, Answering, Lasting, either, with-steady}
 use Rattle.responder.proofs.Decisions.{decided-leads}
 
@@ -90,7 +88,7 @@ inbound-sound w m p out B P W =
     record { pair = S .pair; regions = S .regions; entries = S .entries; saved = saved-sound w _ m B W L; held = S .held }
 
 -- post entry keeps all but the saved atomics too
-pub post-steady : (w : Whole) (e : Entry) → Steady w → Steady (called w (PostEntry e))
+pub post-steady : PostSteady
 unfolding called
 post-steady w e W =
     post-cases (w .pair) (w .entries) e (λ q rows. Steady (changed w q (w .regions) rows)) (W .pair) W

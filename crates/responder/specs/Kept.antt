@@ -7,7 +7,9 @@ use Rattle.header.specs.Read.{bthOf}
 use Rattle.header.specs.Bytes.{Bytes}
 use Rattle.table.specs.Table.{slotAt}
 use Rattle.table.specs.Claims.{RegionsSound, EntriesSound}
-use Rattle.pair.specs.Calls.{Whole}
+use Rattle.table.specs.declared.Entry.{Entry}
+use Rattle.pair.specs.Calls.HostCall.{PostEntry}
+use Rattle.pair.specs.Calls.{Whole, called}
 use Rattle.pair.specs.Claims.{Sound, WholeSound}
 use Rattle.responder.specs.Calls.{received, drained}
 
@@ -31,3 +33,6 @@ InboundSteady = (w : Whole) (m p out : List ℕ) → bthOf p .psn .0 < 2 ^ 24 �
 
 abbrev pub NextSteady : Type 0
 NextSteady = (w : Whole) (m out : List ℕ) → Steady w → Steady (drained w m out)
+
+abbrev pub PostSteady : Type 0
+PostSteady = (w : Whole) (e : Entry) → Steady w → Steady (called w (PostEntry e))
