@@ -155,7 +155,9 @@ module _ (ms : List Message) (S : List Slot) (p : Plain) (x : Run) (L : Link ms 
           over-no (M .length) (subst (λ k. k ≤ 1048576) (sym (N .length)) (named-limit (t .message .request) (length (t .message .bytes)) (H .permitted .limit))) in
           let w : eqb (netFor t + padOf (netFor t)) 0 ≡ true = eq-eqb (netFor t + padOf (netFor t)) 0 raw-none in
           let z : eqb (padOf (netFor t)) 0 ≡ true = eq-eqb (padOf (netFor t)) 0 (omega (arith, raw-none)) in
-          rw (en, lim, w, z, key-holds, far) (le-ltb (along S (p .k) - along S j) (pieces (M .length) (x .whole .pair .setup .pmtu)) (omega (arith, count-is, back)))
+          let all : ltb (distance (x .whole .pair .expected .0) (cutPacket t .psn .0)) (pieces (M .length) (x .whole .pair .setup .pmtu)) ≡ false =
+          le-ltb (distance (x .whole .pair .expected .0) (cutPacket t .psn .0)) (pieces (M .length) (x .whole .pair .setup .pmtu)) (omega (arith, far, count-is, back)) in
+          λ k. en k || (lim k || (not (w k) || (not (z k) || (key-holds k || all k))))
 
       again : (b : List ℕ) → Link ms S (sending p (span t)) (stepBy x (readAgain (cutPacket t) (x .whole .pair .setup) M (x .whole .pair .expected) region) b)
       unfolding readAgain

@@ -130,8 +130,8 @@ module _ (ms : List Message) (S : List Slot) (p : Plain) (x : Run) (L : Link ms 
   completes-is : completes (kindNumber (t .message .request)) (placeFor t) (cutPacket t .operands .immediate) ≡ (isLast t && takes (t .message .request))
   unfolding completes
   completes-is =
-      rw (Z .kind, says (x .whole .pair .setup) (x .whole .regions) fits t H (x .whole .pair .message) .immediate, last-is, Z .takes)
-      (twice (isLast t) (immediateOf (t .message .request)))
+      let m = says (x .whole .pair .setup) (x .whole .regions) fits t H (x .whole .pair .message) .immediate in
+      (λ i. last-is i && (eqb (Z .kind i) 0 || (m ∙ λ j. last-is j && sym (Z .takes) j) i)) ∙ twice (isLast t) (takes (t .message .request))
 
   long-is : cond (eqb (kindNumber (t .message .request)) 0) (M .placed + netOf (cutPacket t)) (M .length) ≡ length (t .message .bytes)
   long-is = ap (λ y. cond (eqb y 0) (M .placed + netOf (cutPacket t)) (M .length)) (Z .kind) ∙ (N .length ∙ Z .named (length (t .message .bytes)))
