@@ -1,13 +1,12 @@
 -- Each of the three calls keeps the two runs together.
-use Prim.Native.Nat.{ℕ, zero, suc, _+_, _-_, _≤_, _<_}
+use Prim.Native.Nat.{ℕ, _+_, _-_, _<_}
 use mathlib.Core.Path.{_≡_, refl, sym, ap, subst, _∙_}
-use mathlib.Core.Bool.{Bool, true, false, cond, not, _&&_, _||_, true≢false}
-use mathlib.Core.List.{List, [], _∷_, _++_, append-assoc, append-nil, map}
+use mathlib.Core.Bool.{Bool, true, false, cond, not}
+use mathlib.Core.List.{List, [], _∷_, _++_, append-assoc, map}
 use native.Mathlib.Omega.{arith}
 use lib.Dec.{leb, ltb, eqb}
 use lib.ListN.{length, set, length-append}
-use borrow.Author.Tests.{eqb-true, eqb-false, eq-eqb, ltb-true, ltb-false, le-ltb, le-leb, lt-leb, leb-true, leb-false}
-use Rattle.header.specs.declared.HeaderRead.the-variants as read
+use borrow.Author.Tests.{eqb-true, eq-eqb, ltb-false, leb-false}
 use Rattle.header.specs.Check.{admitted}
 use Rattle.table.specs.Table.{outside, entryRow, slotAt}
 use Rattle.table.specs.View.{inRing, oneMore}
@@ -17,9 +16,7 @@ use Rattle.pair.specs.Answer.{statusNumber, executed}
 use Rattle.pair.specs.Pair.{moved}
 use Rattle.pair.specs.Sound.{pairUnsound}
 use Rattle.pair.specs.Host.{postStatus, posted, postEntries}
-use Rattle.pair.specs.Calls.HostCall.{PostEntry}
-use Rattle.pair.specs.Calls.{Whole, called}
-use Rattle.pair.specs.Claims.{SetupFit}
+use Rattle.pair.specs.Calls.{called}
 use Rattle.pair.specs.declared.Status.{Status}
 use Rattle.pair.specs.declared.Status.the-variants as status
 use Rattle.pair.proofs.Known.{sound}
@@ -33,11 +30,11 @@ use Rattle.responder.specs.Response.{nextStatus, oneFewer, nextResponse}
 use Rattle.responder.specs.Calls.{received, drained}
 use Rattle.responder.specs.declared.Decision.{Decision}
 use Rattle.delivery.specs.Stream.{Message, Slot, slot, packetAt}
-use Rattle.delivery.specs.Plain.{Plain, Call, sending, adding, delivered, account}
+use Rattle.delivery.specs.Plain.{Plain, sending, adding, delivered, account}
 use Rattle.delivery.specs.Plain.Call.{Hand, Next, Post}
 use Rattle.delivery.specs.Demand.{Run, step, LongEnough, AllLongEnough, Handed, Posted, entryOf}
-use Rattle.delivery.proofs.Chain.{Stands, Good}
-use Rattle.delivery.proofs.Cutting.{headerFor, cutPacket, admits, is-packet}
+use Rattle.delivery.proofs.Chain.{Good}
+use Rattle.delivery.proofs.Cutting.{cutPacket, admits, is-packet}
 use Rattle.delivery.proofs.Rel.{Link, stepBy, eases, reads-on}
 use Rattle.delivery.proofs.Entries.{count-is}
 use Rattle.delivery.proofs.Deliver.{arrives}
@@ -116,6 +113,7 @@ module _ (ms : List Message) (S : List Slot) (p : Plain) (x : Run) (L : Link ms 
           (orDrop (admitted (x .whole .pair .setup .service) (x .whole .pair .setup .ours) (x .whole .pair .setup .pkey) (eqb (x .whole .pair .state) 1) (packetAt (slot S j)))
           (λ h. packetDecision (x .whole .pair) (x .whole .regions) (x .whole .entries) (x .whole .saved) (packetOf h (length (packetAt (slot S j))))))
           (quietly r)
+
       go : (a b c : Bool) → ltb (length out) 24 ≡ a → eqb (length (p .memory)) (x .whole .pair .setup .memory) ≡ b → eqb (p .r) 0 ≡ c
           → Link ms S (cond a p (cond (not b) p (cond (not c) p (delivered (x .whole .regions) S p j)))) (stepBy x (by (refusal a b c)) (packetAt (slot S j)))
       go true b c e f g = short (packetAt (slot S j))
@@ -159,6 +157,7 @@ module _ (ms : List Message) (S : List Slot) (p : Plain) (x : Run) (L : Link ms 
             memory = x .memory;
             completions = x .completions;
           }
+
       go : (a b c : Bool)
           → Link ms S (cond a p (cond b p (cond (not c) p (sending p (p .r - 1)))))
           (by (cond a status.WrongState (cond b status.OutputShort (cond (not c) status.OutOfRange status.Executed))))
@@ -235,6 +234,7 @@ module _ (ms : List Message) (S : List Slot) (p : Plain) (x : Run) (L : Link ms 
             memory = x .memory;
             completions = x .completions;
           }
+
       go : (a b : Bool) → ltb (x .whole .pair .setup .memory) (e .offset + e .length) ≡ a → leb 16 (length (p .held) + length (p .waiting)) ≡ b
           → Link ms S (cond a p (cond b p (adding p (p .waiting ++ (e ∷ []))))) (by (cond a status.OutOfRange (cond b status.TableFull status.Executed)))
       go true b f g = L

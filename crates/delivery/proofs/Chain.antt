@@ -1,25 +1,23 @@
 -- What is known of the packets of a stream, by index: each stands in a permitted message, how one follows the other, and
 -- which number it has.
-use Prim.Native.Nat.{ℕ, zero, suc, _+_, _*_, _%_, _^_, _≤_, _<_}
-use mathlib.Core.Path.{_≡_, refl, sym, ap, subst, _∙_}
-use mathlib.Core.Bool.{Bool, true, false, cond}
+use Prim.Native.Nat.{ℕ, zero, suc, _+_, _%_, _^_, _≤_, _<_}
+use mathlib.Core.Path.{_≡_, refl, sym, subst, _∙_}
 use mathlib.Core.List.{List, [], _∷_, _++_}
 use native.Mathlib.Omega.{arith}
-use lib.ListN.{length, getD}
+use lib.ListN.{length}
 use Rattle.sequence.specs.Sequence.{space, after, psnAfter}
 use Rattle.sequence.specs.declared.Psn.{Psn}
 use Rattle.pieces.specs.Pieces.{pieces}
 use Rattle.pieces.proofs.Counting.{counts, bounds}
 use Rattle.pair.specs.declared.Setup.{Setup}
 use Rattle.pair.specs.Claims.{SetupFit}
-use Rattle.pieces.specs.Claims.{IsPmtu}
 use Rattle.segment.specs.Message.{carries, carriedLength, messageLength, packetsOf}
 use Rattle.segment.specs.Next.{psnsOf, nextPsn}
 use Rattle.segment.specs.declared.Connection.{Connection}
 use Rattle.segment.specs.declared.Request.{Request}
 use Rattle.segment.specs.declared.Request.the-variants.{Send, SendImmediate, Write, WriteImmediate, Read, CmpSwap, FetchAdd}
 use Rattle.table.specs.declared.Entry.{Entry}
-use Rattle.delivery.specs.Stream.{Message, packetCount, Slot, slotsFrom, stream, past, slot, spanOf, span, along}
+use Rattle.delivery.specs.Stream.{Message, packetCount, Slot, slotsFrom, stream, slot, spanOf, span, along}
 use Rattle.delivery.specs.Demand.{Permitted, AllPermitted, AtLeast, LongEnough}
 
 -- a packet of a permitted message

@@ -1,27 +1,26 @@
 -- A packet of the stream, before a pair that stands where the packet follows, passes each request check.
-use Prim.Native.Nat.{ℕ, zero, suc, _+_, _-_, _*_, _%_, _≤_, _<_}
+use Prim.Native.Nat.{ℕ, suc, _+_, _-_, _*_, _%_, _≤_, _<_}
 use mathlib.Core.Path.{_≡_, refl, sym, ap, subst, _∙_}
-use mathlib.Core.Bool.{Bool, true, false, cond, not, _&&_, _||_, true≢false}
-use mathlib.Core.List.{List, [], _∷_, _++_, map}
+use mathlib.Core.Bool.{Bool, true, false, cond, not, _&&_, true≢false}
+use mathlib.Core.List.{List, [], _∷_, _++_}
 use mathlib.Core.Logic.{_⊎_, inl, inr}
 use native.Mathlib.Omega.{arith}
 use lib.Dec.{eqb, ltb}
 use lib.ListN.{length, getD}
-use borrow.Author.Tests.{eqb-true, eqb-false, eq-eqb, ne-eqb, le-ltb, lt-ltb}
+use borrow.Author.Tests.{eqb-true, eq-eqb, ne-eqb, le-ltb, lt-ltb}
 use Rattle.laws.proofs.Auto.{tests}
 use Rattle.laws.proofs.Tests.{and-true}
 use Rattle.packet.specs.Packet.{padOf}
-use Rattle.pieces.specs.Pieces.{placeAt, starts, ends}
+use Rattle.pieces.specs.Pieces.{starts, ends}
 use Rattle.pieces.proofs.Counting.{bounds}
 use Rattle.table.specs.Table.{outside, regionRow}
-use Rattle.table.specs.View.{regionOf}
 use Rattle.table.specs.Claims.{RegionsSound}
 use Rattle.table.specs.declared.Region.{Region}
 use Rattle.table.specs.declared.Entry.{Entry}
 use Rattle.pair.specs.declared.Setup.{Setup}
 use Rattle.pair.specs.declared.OpenMessage.{OpenMessage}
 use Rattle.pair.specs.Claims.{SetupFit}
-use Rattle.segment.specs.Message.{carries, carried, messageLength}
+use Rattle.segment.specs.Message.{messageLength}
 use Rattle.segment.specs.Claims.{Carrier, InLimit, kindNumber}
 use Rattle.segment.specs.declared.Connection.{Connection}
 use Rattle.segment.specs.declared.Request.{Request}
@@ -32,14 +31,14 @@ use Rattle.sequence.specs.declared.Psn.{Psn}
 use Rattle.request.specs.declared.Packet.{Packet}
 use Rattle.request.specs.Verdict.{carrying, outOfSequence, notEnabled, padEarly, needsEntry, entriesWaiting, noneWaiting, usesEntry, entryOutside, keyFails, keyLacking, rightOf, sizeOff, totalOff, bareOff, netOf, lengthsOff, current}
 use Rattle.responder.specs.Decide.{regionFor}
-use Rattle.delivery.specs.Stream.{Message, packetCount, Slot}
+use Rattle.delivery.specs.Stream.{packetCount, Slot}
 use Rattle.delivery.specs.Plain.{needs, none, needing}
-use Rattle.delivery.specs.Demand.{Lies, Allowed}
+use Rattle.delivery.specs.Demand.{Allowed}
 use Rattle.delivery.proofs.Chain.{Stands}
 use Rattle.delivery.proofs.Places.{Sizes, starts-at, ends-at, size-fits, pad-late}
-use Rattle.delivery.proofs.Cutting.{payloadFor, netFor, placeFor, cutPacket, pmtu-is, sizes}
-use Rattle.delivery.proofs.Operands.{addressOf, keyOf, namedOf, immediateOf, valueOf, Said, said}
-use Rattle.delivery.proofs.Rel.{Is, IsOf, Holding, Under}
+use Rattle.delivery.proofs.Cutting.{netFor, placeFor, cutPacket, pmtu-is, sizes}
+use Rattle.delivery.proofs.Operands.{addressOf, keyOf, namedOf, immediateOf, Said, said}
+use Rattle.delivery.proofs.Rel.{Is, IsOf, Under}
 use Rattle.delivery.proofs.Verdicts.{Before, Behind, key-passes}
 
 -- a request by its kind and bytes
@@ -365,10 +364,12 @@ module _ (s : Setup) (regions : List (List ℕ)) (f : SetupFit s) (t : Slot) (h 
     where
       within : Carrier (t .message .request) → t .index * s .pmtu ≤ length (t .message .bytes)
       within c = omega (arith, net-total (t .index) (packetCount (t .message)) (netFor t) (s .pmtu) (length (t .message .bytes)) (h .inside) (sizes-here c))
+
       zeroth : packetCount (t .message) ≡ 1 → t .index * s .pmtu ≡ 0
       zeroth e =
           let i : t .index ≡ 0 = omega (arith, h .inside) in
           omega (arith, ap (λ k. k * s .pmtu) i)
+
       go : (x : Request) → t .message .request ≡ x → Room x (t .index * s .pmtu) (length (t .message .bytes))
       go Send e = tt
       go (SendImmediate v) e = tt

@@ -1,9 +1,9 @@
 -- The packet of a slot, as the pair reads it.
-use Prim.Native.Nat.{ℕ, suc, _+_, _-_, _*_, _%_, _^_, _≤_, _<_}
-use mathlib.Core.Path.{_≡_, refl, sym, ap, subst, _∙_}
-use mathlib.Core.Bool.{Bool, true, false, cond}
-use mathlib.Core.List.{List, [], _∷_, _++_}
-use mathlib.Core.Logic.{_⊎_, inl, inr}
+use Prim.Native.Nat.{ℕ, _+_, _-_, _*_, _^_, _≤_, _<_}
+use mathlib.Core.Path.{_≡_, sym, ap, subst, _∙_}
+use mathlib.Core.Bool.{true}
+use mathlib.Core.List.{List}
+use mathlib.Core.Logic.{inl}
 use native.Mathlib.Omega.{arith}
 use lib.ListN.{length, take, drop}
 use Rattle.sequence.specs.Sequence.{psnAfter}
@@ -14,7 +14,7 @@ use Rattle.header.specs.Write.{headerLength}
 use Rattle.header.specs.declared.Header.{Header}
 use Rattle.header.specs.declared.HeaderRead.the-variants.{Accepted}
 use Rattle.header.proofs.Reasons.{accepted}
-use Rattle.packet.specs.Packet.{padOf, packetBytes, packetLength, payloadOf}
+use Rattle.packet.specs.Packet.{padOf, packetLength, payloadOf}
 use Rattle.packet.proofs.Bytes.{length-packet}
 use Rattle.pieces.specs.Pieces.{placeAt}
 use Rattle.pieces.specs.Claims.{IsPmtu}

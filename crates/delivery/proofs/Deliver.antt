@@ -1,18 +1,17 @@
 -- A packet of the stream is delivered: the one expected, one ahead, or one that was executed before.
-use Prim.Native.Nat.{ℕ, zero, suc, _+_, _-_, _*_, _%_, _≤_, _<_}
+use Prim.Native.Nat.{ℕ, _+_, _-_, _*_, _≤_, _<_}
 use mathlib.Core.Path.{_≡_, refl, sym, ap, subst, _∙_}
-use mathlib.Core.Bool.{Bool, true, false, cond, not, _&&_, _||_, true≢false}
-use mathlib.Core.List.{List, [], _∷_, _++_}
+use mathlib.Core.Bool.{Bool, true, false, cond, not, _&&_, _||_}
+use mathlib.Core.List.{List}
 use native.Mathlib.Omega.{arith}
-use lib.Dec.{leb, ltb, eqb}
+use lib.Dec.{ltb, eqb}
 use lib.ListN.{length}
-use borrow.Author.Tests.{eqb-true, eqb-false, eq-eqb, ne-eqb, lt-ltb, le-ltb, ltb-true, ltb-false}
+use borrow.Author.Tests.{eqb-true, eqb-false, eq-eqb, ne-eqb, lt-ltb, le-ltb, ltb-true}
 use Rattle.laws.proofs.Auto.{tests}
-use Rattle.sequence.specs.Sequence.{space, distance, after, psnAfter, psnClass}
+use Rattle.sequence.specs.Sequence.{distance, after, psnClass}
 use Rattle.sequence.specs.Claims.{order}
 use Rattle.sequence.specs.declared.Psn.{Psn}
 use Rattle.sequence.specs.declared.Class.{Class}
-use Rattle.sequence.specs.declared.Class.the-variants as class
 use Rattle.sequence.proofs.Circle.{class-is-order, distance-after, along-stream}
 use Rattle.header.specs.declared.Reth.{Reth}
 use Rattle.packet.specs.Packet.{padOf}
@@ -25,7 +24,7 @@ use Rattle.pair.specs.Pair.{noMessage}
 use Rattle.pair.specs.Claims.{SetupFit}
 use Rattle.pair.specs.declared.OpenMessage.{OpenMessage}
 use Rattle.pair.specs.declared.Status.the-variants as status
-use Rattle.segment.specs.Claims.{Carrier, kindNumber}
+use Rattle.segment.specs.Claims.{kindNumber}
 use Rattle.segment.specs.declared.Request.{Request}
 use Rattle.segment.specs.declared.Request.the-variants.{Send, SendImmediate, Write, WriteImmediate, Read, CmpSwap, FetchAdd}
 use Rattle.segment.proofs.Fits.{none-carried}
@@ -36,13 +35,12 @@ use Rattle.responder.specs.Decide.{ackSyndrome, quietly, acknowledging, reading
 use Rattle.responder.specs.Apply.{memoryBy, actsAtomic, savedBy, pairBy, readBy}
 use Rattle.responder.specs.Apply as apply
 use Rattle.responder.specs.declared.Decision.{Decision}
-use Rattle.delivery.specs.Stream.{Message, packetCount, Slot, slot, span, along, packetAt}
+use Rattle.delivery.specs.Stream.{Message, Slot, slot, span, along, packetAt}
 use Rattle.delivery.specs.Plain.{Plain, isRead, sending, reached, delivered}
 use Rattle.delivery.specs.Demand.{Run, Near}
 use Rattle.delivery.proofs.Chain.{Stands, Good, along-less}
 use Rattle.delivery.proofs.Cutting.{netFor, cutPacket}
-use Rattle.delivery.proofs.Operands.{addressOf, keyOf, namedOf}
-use Rattle.delivery.proofs.Rel.{Is, IsOf, Link, stepBy, eases}
+use Rattle.delivery.proofs.Rel.{IsOf, Link, stepBy, eases}
 use Rattle.delivery.proofs.Checks.{Room, named-limit, enabled-is, key-good, none-pad, begun}
 use Rattle.delivery.proofs.Here.{here}
 use Rattle.delivery.proofs.Requests.{Single, Reads, read-single, reads-reads}
@@ -210,7 +208,7 @@ module _ (ms : List Message) (S : List Slot) (p : Plain) (x : Run) (L : Link ms 
     class-is : Near (along S j) (along S (p .k)) → psnClass (cutPacket t .psn .0) (x .whole .pair .expected .0) ≡ order (along S j) (along S (p .k))
     class-is D =
         (λ k. psnClass (G .number j i k) ((ap (λ e. e .0) (L .expected) ∙ L .number) k))
-        ∙ class-is-order (x .whole .pair .setup .start .0) (along S j) (along S (p .k)) (D .ahead) (D .behind)
+        ∙ class-is-order (x .whole .pair .setup .start .0) (along S j) (along S (p .k)) (omega (arith, D .ahead)) (omega (arith, D .behind))
 
     abbrev v : Saved
     v = newestSaved (cutPacket t .psn .0) (x .whole .saved) (x .whole .pair .saved)

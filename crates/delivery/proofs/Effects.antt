@@ -1,12 +1,12 @@
 -- A decision that executes packet k keeps the two runs together, if it does what the plain run does.
-use Prim.Native.Nat.{ℕ, suc, _+_, _*_, _≤_, _<_}
-use mathlib.Core.Path.{_≡_, refl, sym, ap, subst, _∙_}
-use mathlib.Core.Bool.{Bool, true, false, cond, not, _&&_, _||_, true≢false}
+use Prim.Native.Nat.{ℕ, suc, _+_, _≤_, _<_}
+use mathlib.Core.Path.{_≡_, refl, sym, subst}
+use mathlib.Core.Bool.{Bool, true, false, cond, _&&_}
 use mathlib.Core.List.{List, [], _∷_, _++_, map}
 use native.Mathlib.Omega.{arith}
 use lib.Dec.{eqb}
-use lib.ListN.{length, drop, take}
-use borrow.Author.Tests.{eqb-true, eqb-false, eq-eqb, ne-eqb, le-leb}
+use lib.ListN.{length, drop}
+use borrow.Author.Tests.{eqb-true, eq-eqb, ne-eqb, le-leb}
 use Rattle.laws.proofs.Auto.{tests}
 use Rattle.sequence.specs.Sequence.{after, psnAfter, msnNext}
 use Rattle.table.specs.View.{inRing}
@@ -19,8 +19,8 @@ use Rattle.responder.specs.Apply as apply
 use Rattle.responder.specs.declared.Decision.{Decision}
 use Rattle.delivery.specs.Stream.{Message, packetCount, Slot, slot, span, along}
 use Rattle.delivery.specs.Plain.{Plain, takes, completionFor, landed, isRead, heldNow, waitingNow, isLast, needing, perform}
-use Rattle.delivery.specs.Demand.{Run, reports, AllLongEnough, LongEnough, entryOf}
-use Rattle.delivery.proofs.Chain.{Good, Turn, further, along-suc}
+use Rattle.delivery.specs.Demand.{Run, reports, AllLongEnough, entryOf}
+use Rattle.delivery.proofs.Chain.{Turn, further, along-suc}
 use Rattle.delivery.proofs.Rel.{IsOf, Holding, Under, Link, stepBy}
 
 -- an answer from 0 to 3 is that of an executed packet

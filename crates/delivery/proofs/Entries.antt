@@ -1,11 +1,11 @@
 -- The pair's ring of entries, and the plain run's list.
-use Prim.Native.Nat.{ℕ, zero, suc, _+_, _-_, _≤_, _<_}
-use mathlib.Core.Path.{_≡_, refl, sym, ap, subst, _∙_}
-use mathlib.Core.Bool.{Bool, true, false, cond, not, _&&_, _||_, true≢false}
-use mathlib.Core.List.{List, [], _∷_, _++_, map}
+use Prim.Native.Nat.{ℕ, zero, suc, _-_, _≤_}
+use mathlib.Core.Path.{_≡_, refl, sym, ap, _∙_}
+use mathlib.Core.Bool.{Bool, true, false, cond}
+use mathlib.Core.List.{List, [], map}
 use native.Mathlib.Omega.{arith}
-use lib.ListN.{length, getD, take, drop, take-append-drop}
-use Rattle.table.specs.Table.{outside, entryRow, slotAt}
+use lib.ListN.{length, getD, drop}
+use Rattle.table.specs.Table.{outside, slotAt}
 use Rattle.table.specs.View.{ringFrom, inRing}
 use Rattle.table.specs.Claims.{EntriesSound}
 use Rattle.table.specs.declared.Entry.{Entry}

@@ -1,18 +1,15 @@
 -- Packet k has come: it is executed, or it waits for its entry.
-use Prim.Native.Nat.{ℕ, zero, suc, _+_, _-_, _*_, _≤_, _<_}
+use Prim.Native.Nat.{ℕ, _+_, _-_, _≤_, _<_}
 use mathlib.Core.Path.{_≡_, refl, sym, ap, subst, _∙_}
-use mathlib.Core.Bool.{Bool, true, false, cond, not, _&&_, _||_, true≢false}
-use mathlib.Core.List.{List, [], _∷_, _++_, map}
-use native.Mathlib.Omega.{arith}
-use lib.Dec.{leb, ltb, eqb}
+use mathlib.Core.Bool.{Bool, true, false, cond, _&&_, _||_, true≢false}
+use mathlib.Core.List.{List, _++_}
+use lib.Dec.{ltb, eqb}
 use lib.ListN.{length, getD}
 use Rattle.memory.specs.Word.{fetchAdded, swapped}
-use Rattle.pieces.specs.Pieces.{ends}
 use Rattle.table.specs.Table.{outside}
 use Rattle.pair.specs.Answer.{statusNumber}
 use Rattle.pair.specs.Claims.{SetupFit}
 use Rattle.pair.specs.declared.OpenMessage.{OpenMessage}
-use Rattle.pair.specs.declared.Status.the-variants as status
 use Rattle.segment.specs.Claims.{kindNumber}
 use Rattle.segment.specs.declared.Request.{Request}
 use Rattle.segment.specs.declared.Request.the-variants.{Send, SendImmediate, Write, WriteImmediate, Read, CmpSwap, FetchAdd}
@@ -136,8 +133,8 @@ module _ (ms : List Message) (S : List Slot) (p : Plain) (x : Run) (L : Link ms 
         goes _ free
         (behinds
         (λ e.
-          taken ms S p x L Y G lt ml C Z free
-          (Z .needs (t .index) _ ∙ (sym immediate-is ∙ subst (λ k. (eqb k 0 || cutPacket t .operands .immediate) ≡ true) (Z .kind) e)) .0)
+        taken ms S p x L Y G lt ml C Z free
+        (Z .needs (t .index) _ ∙ (sym immediate-is ∙ subst (λ k. (eqb k 0 || cutPacket t .operands .immediate) ≡ true) (Z .kind) e)) .0)
         (Z .suits (length (t .message .bytes)) (getD entry 2 0)))
         (carries-here (ap (λ k. ltb k 12) (Z .kind)))
         (writes ms S p x L Y G lt ml C Z free)

@@ -20,3 +20,4 @@ pub mod Whole
 pub mod Witness
 pub mod InOrder
 pub mod Made
+pub mod Example

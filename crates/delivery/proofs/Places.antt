@@ -1,10 +1,10 @@
 -- The place of packet i of count: what begins and ends there, and how many bytes it may carry.
 use Prim.Native.Nat.{ℕ, suc, _+_, _*_, _%_, _≤_, _<_}
-use mathlib.Core.Path.{_≡_, refl, sym, ap, _∙_}
-use mathlib.Core.Bool.{Bool, true, false, cond, not, _&&_, _||_, true≢false}
+use mathlib.Core.Path.{_≡_, refl, sym, ap}
+use mathlib.Core.Bool.{Bool, true, false, cond, not, _&&_, _||_}
 use native.Mathlib.Omega.{arith}
 use lib.Dec.{eqb, leb, ltb}
-use borrow.Author.Tests.{eqb-true, eqb-false, eq-eqb, ne-eqb, le-ltb}
+use borrow.Author.Tests.{eq-eqb, ne-eqb, le-ltb}
 use Rattle.laws.proofs.Auto.{tests}
 use Rattle.pieces.specs.Pieces.{placeAt, starts, ends}
 use Rattle.packet.specs.Packet.{padOf}
@@ -46,8 +46,10 @@ module _ (count i : ℕ) (h : i < count) where
       where
         rest : suc i ≡ count → ltb pmtu net ≡ false
         rest e = le-ltb pmtu net (z .last e .0)
+
         some : suc i ≡ count → 0 < i → eqb net 0 ≡ false
         some e o = ne-eqb net 0 (λ q. absurd (omega (arith, z .last e .1 o)))
+
         go : (a b c : Bool) → eqb count 1 ≡ a → eqb i 0 ≡ b → eqb (i + 1) count ≡ c
             → cond (leb 2 (cond a 4 (cond b 0 (cond c 2 1))))
             ((eqb (cond a 4 (cond b 0 (cond c 2 1))) 2 && eqb net 0) || ltb pmtu net)

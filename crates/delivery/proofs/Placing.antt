@@ -1,17 +1,15 @@
 -- Packet k of a SEND or WRITE: what both do alike.
-use Prim.Native.Nat.{ℕ, zero, suc, _+_, _-_, _*_, _≤_, _<_}
-use mathlib.Core.Path.{_≡_, refl, sym, ap, subst, _∙_}
-use mathlib.Core.Bool.{Bool, true, false, cond, not, _&&_, _||_, true≢false}
-use mathlib.Core.List.{List, [], _∷_, _++_}
+use Prim.Native.Nat.{ℕ, _+_, _-_, _≤_}
+use mathlib.Core.Path.{_≡_, refl, sym, ap, _∙_}
+use mathlib.Core.Bool.{Bool, true, false, cond, _&&_}
+use mathlib.Core.List.{List, [], _∷_}
 use native.Mathlib.Omega.{arith}
 use lib.Dec.{eqb}
 use lib.ListN.{length, getD, take, drop}
-use borrow.Author.Tests.{eqb-true, eqb-false}
 use Rattle.laws.proofs.Auto.{tests}
 use Rattle.laws.proofs.Tests.{and-left}
 use Rattle.header.specs.Write.{headerLength}
 use Rattle.memory.specs.Memory.{placed}
-use Rattle.packet.specs.Packet.{padOf}
 use Rattle.pieces.specs.Pieces.{ends, pieceAt}
 use Rattle.sequence.specs.declared.Msn.{Msn}
 use Rattle.pair.specs.Answer.{statusNumber}
@@ -26,12 +24,12 @@ use Rattle.request.specs.Verdict.{netOf, current}
 use Rattle.responder.specs.Decide.{noCompletion, completes, completionOf, grown, placing, placeOf}
 use Rattle.responder.specs.Apply.{memoryBy, readBy}
 use Rattle.responder.specs.declared.Completion.{Completion}
-use Rattle.delivery.specs.Stream.{packetCount, Slot, span, packetAt}
+use Rattle.delivery.specs.Stream.{Slot, span, packetAt}
 use Rattle.delivery.specs.Plain.{takes, completionFor, isLast, isRead}
 use Rattle.delivery.specs.Demand.{reports}
 use Rattle.delivery.proofs.Chain.{Stands, further}
-use Rattle.delivery.proofs.Cutting.{headerFor, payloadFor, netFor, placeFor, cutPacket, carried-is, sizes}
-use Rattle.delivery.proofs.Rel.{Is, IsOf, Under}
+use Rattle.delivery.proofs.Cutting.{headerFor, netFor, placeFor, cutPacket, carried-is, sizes}
+use Rattle.delivery.proofs.Rel.{IsOf, Under}
 use Rattle.delivery.proofs.Checks.{ends-is, says, now}
 use Rattle.delivery.proofs.Operands.{immediateOf}
 use Rattle.delivery.proofs.Requests.{Carries}

@@ -1,11 +1,10 @@
 -- The requests by their kinds: what the plain run knows of each.
-use Prim.Native.Nat.{ℕ, suc, _+_, _*_, _≤_, _<_}
+use Prim.Native.Nat.{ℕ, suc, _+_, _*_, _≤_}
 use mathlib.Core.Path.{_≡_, refl}
 use mathlib.Core.Bool.{Bool, true, false, cond, _&&_}
 use mathlib.Core.List.{List, [], _∷_}
 use lib.Dec.{ltb, eqb}
 use lib.ListN.{length}
-use Rattle.laws.proofs.Tests.{and-true}
 use Rattle.memory.specs.Memory.{put}
 use Rattle.memory.specs.Word.{fetchAdded, swapped}
 use Rattle.pieces.specs.Pieces.{pieces, pieceAt}
@@ -89,15 +88,27 @@ write-imm-carries t v = record { carrier = tt; span = λ m. refl; read = refl; c
 pub send-sends : Sends Send
 send-sends =
     record {
-      kind = refl; takes = refl; needs = λ i n. refl; lands = λ g p d i e m. refl; holding = λ n h e q l. (e, q, l);
-      held = λ n h w. w; suits = λ n most l. l; least = λ n most l. l;
+      kind = refl;
+      takes = refl;
+      needs = λ i n. refl;
+      lands = λ g p d i e m. refl;
+      holding = λ n h e q l. (e, q, l);
+      held = λ n h w. w;
+      suits = λ n most l. l;
+      least = λ n most l. l;
     }
 
 pub send-imm-sends : (v : ℕ) → Sends (SendImmediate v)
 send-imm-sends v =
     record {
-      kind = refl; takes = refl; needs = λ i n. refl; lands = λ g p d i e m. refl; holding = λ n h e q l. (e, q, l);
-      held = λ n h w. w; suits = λ n most l. l; least = λ n most l. l;
+      kind = refl;
+      takes = refl;
+      needs = λ i n. refl;
+      lands = λ g p d i e m. refl;
+      holding = λ n h e q l. (e, q, l);
+      held = λ n h w. w;
+      suits = λ n most l. l;
+      least = λ n most l. l;
     }
 
 and-false : (b : Bool) → false ≡ (b && false)
@@ -111,15 +122,29 @@ true-and false = refl
 pub write-writes : (t : Target) → Writes (Write t)
 write-writes t =
     record {
-      kind = refl; takes = refl; needs = λ i n. and-false (eqb (suc i) n); lands = λ g p d i e m. refl; holding = λ n h q. q;
-      held = λ n h w. w; suits = λ n most. tt; right = λ s g n a. a .1; named = λ n. refl;
+      kind = refl;
+      takes = refl;
+      needs = λ i n. and-false (eqb (suc i) n);
+      lands = λ g p d i e m. refl;
+      holding = λ n h q. q;
+      held = λ n h w. w;
+      suits = λ n most. tt;
+      right = λ s g n a. a .1;
+      named = λ n. refl;
     }
 
 pub write-imm-writes : (t : Target) (v : ℕ) → Writes (WriteImmediate t v)
 write-imm-writes t v =
     record {
-      kind = refl; takes = refl; needs = λ i n. true-and (eqb (suc i) n); lands = λ g p d i e m. refl; holding = λ n h q. q;
-      held = λ n h w. w; suits = λ n most. tt; right = λ s g n a. a .1; named = λ n. refl;
+      kind = refl;
+      takes = refl;
+      needs = λ i n. true-and (eqb (suc i) n);
+      lands = λ g p d i e m. refl;
+      holding = λ n h q. q;
+      held = λ n h w. w;
+      suits = λ n most. tt;
+      right = λ s g n a. a .1;
+      named = λ n. refl;
     }
 
 pub read-single : (a : Reth) → Single (Read a)
@@ -157,14 +182,30 @@ pub adds-swaps : (t : Target) (v : ℕ) → Swaps (FetchAdd t v) 20 2 (λ m at c
 unfolding memoryBy operandsOf extensionFor fetchAddEth
 adds-swaps t v =
     record {
-      kind = refl; apart = (refl, refl); act-is = refl; acts = λ d m b e. rw e; read = refl; span = λ p. refl; named = λ n. refl;
-      right = λ s g n a. a .1; rights = add-right; lands = λ n place g p d i e m. refl;
+      kind = refl;
+      apart = (refl, refl);
+      act-is = refl;
+      acts = λ d m b e. rw e;
+      read = refl;
+      span = λ p. refl;
+      named = λ n. refl;
+      right = λ s g n a. a .1;
+      rights = add-right;
+      lands = λ n place g p d i e m. refl;
     }
 
 pub swaps-swaps : (a : AtomicEth) → Swaps (CmpSwap a) 19 3 (λ m at c w. swapped m at c w)
 unfolding memoryBy operandsOf extensionFor
 swaps-swaps a =
     record {
-      kind = refl; apart = (refl, refl); act-is = refl; acts = λ d m b e. rw e; read = refl; span = λ p. refl; named = λ n. refl;
-      right = λ s g n b. b .1; rights = swap-right; lands = λ n place g p d i e m. refl;
+      kind = refl;
+      apart = (refl, refl);
+      act-is = refl;
+      acts = λ d m b e. rw e;
+      read = refl;
+      span = λ p. refl;
+      named = λ n. refl;
+      right = λ s g n b. b .1;
+      rights = swap-right;
+      lands = λ n place g p d i e m. refl;
     }

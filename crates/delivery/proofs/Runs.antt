@@ -1,8 +1,8 @@
 -- The two runs agree after every list of calls, if the pair stays sound.
-use Prim.Native.Nat.{ℕ, _+_, _≤_, _<_}
-use mathlib.Core.Path.{_≡_, refl, sym, ap, subst, _∙_}
+use Prim.Native.Nat.{ℕ}
+use mathlib.Core.Path.{_≡_, refl, sym, subst, _∙_}
 use mathlib.Core.Bool.{Bool, true, false, cond, _||_}
-use mathlib.Core.List.{List, [], _∷_, _++_, map}
+use mathlib.Core.List.{List, [], _∷_}
 use native.Mathlib.Omega.{arith}
 use lib.Dec.{eqb, leb}
 use lib.ListN.{length}
@@ -15,15 +15,15 @@ use Rattle.pair.specs.declared.Setup.{Setup}
 use Rattle.pair.specs.declared.Pair.{Pair}
 use Rattle.responder.specs.Apply.{pairBy, executedPair}
 use Rattle.responder.specs.Apply as apply
-use Rattle.responder.specs.Inbound.{decision, outcomeBy, inbound}
+use Rattle.responder.specs.Inbound.{outcomeBy, inbound}
 use Rattle.responder.specs.Response.{nextStatus, nextResponse}
 use Rattle.responder.specs.Calls.{received, drained}
 use Rattle.responder.specs.Kept.{Steady, InboundSteady, NextSteady, PostSteady}
 use Rattle.responder.specs.declared.Decision.{Decision}
-use Rattle.delivery.specs.Stream.{Message, Slot, slot, stream, packetAt, along}
+use Rattle.delivery.specs.Stream.{Message, Slot, slot, stream, packetAt}
 use Rattle.delivery.specs.Plain.{Plain, Call, account, plain, start}
 use Rattle.delivery.specs.Plain.Call.{Hand, Next, Post}
-use Rattle.delivery.specs.Demand.{Run, step, run, Fresh, AllPermitted, AllLongEnough, Handed, Meets, AllMeet, waitingAt, Agree, Delivery}
+use Rattle.delivery.specs.Demand.{Run, step, run, Fresh, AllLongEnough, Meets, AllMeet, waitingAt, Agree, Delivery}
 use Rattle.delivery.proofs.Chain.{Good, good, along-zero}
 use Rattle.delivery.proofs.Cutting.{psn-small}
 use Rattle.delivery.proofs.Rel.{Link, Under}

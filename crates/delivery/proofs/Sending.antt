@@ -1,43 +1,37 @@
 -- Packet k of a SEND is executed.
-use Prim.Native.Nat.{ℕ, zero, suc, _+_, _-_, _*_, _≤_, _<_}
+use Prim.Native.Nat.{ℕ, suc, _+_, _-_, _*_, _≤_, _<_}
 use mathlib.Core.Path.{_≡_, refl, sym, ap, subst, _∙_}
-use mathlib.Core.Bool.{Bool, true, false, cond, not, _&&_, _||_, true≢false}
+use mathlib.Core.Bool.{Bool, true, false, cond, _&&_, true≢false}
 use mathlib.Core.List.{List, [], _∷_, _++_, map}
 use native.Mathlib.Omega.{arith}
 use lib.Dec.{eqb}
 use lib.ListN.{length, getD, take, drop, take-append-drop}
-use borrow.Author.Tests.{eqb-true, eqb-false, eq-eqb, ne-eqb, ltb-false}
-use Rattle.laws.proofs.Auto.{tests}
+use borrow.Author.Tests.{eqb-true, ltb-false}
 use Rattle.laws.proofs.Tests.{and-true}
 use Rattle.memory.specs.Memory.{put, placed}
 use Rattle.memory.proofs.Put.{placed-put}
 use Rattle.pieces.specs.Pieces.{ends, pieceAt}
-use Rattle.table.specs.Table.{outside, slotAt}
+use Rattle.table.specs.Table.{outside}
 use Rattle.table.specs.View.{inRing}
 use Rattle.table.specs.declared.Entry.{Entry}
-use Rattle.pair.specs.Answer.{statusNumber}
 use Rattle.pair.specs.Claims.{SetupFit}
 use Rattle.pair.specs.declared.OpenMessage.{OpenMessage}
 use Rattle.segment.specs.Claims.{kindNumber}
-use Rattle.segment.specs.declared.Request.{Request}
 use Rattle.request.specs.Verdict.{netOf, current}
 use Rattle.responder.specs.Kept.{Steady}
-use Rattle.responder.specs.Decide.{noCompletion, headEntry, regionFor, completes, completionOf, grown, placeOf, placing}
-use Rattle.responder.specs.Apply.{memoryBy, readBy, entriesBy}
-use Rattle.responder.specs.declared.Completion.{Completion}
+use Rattle.responder.specs.Decide.{headEntry, regionFor, completes, completionOf, grown, placeOf, placing}
+use Rattle.responder.specs.Apply.{memoryBy, entriesBy}
 use Rattle.delivery.specs.Stream.{Message, packetCount, Slot, slot, packetAt}
 use Rattle.delivery.specs.Plain.{Plain, takes, completionFor, none, firstOf, needing, isLast, heldNow, waitingNow}
 use Rattle.delivery.specs.Demand.{Run, reports, AllLongEnough, LongEnough, entryOf}
-use Rattle.delivery.proofs.Chain.{Stands, Good, further}
-use Rattle.delivery.proofs.Places.{Sizes}
-use Rattle.delivery.proofs.Cutting.{payloadFor, netFor, placeFor, cutPacket, carried-is, sizes}
-use Rattle.delivery.proofs.Operands.{immediateOf, valueOf}
-use Rattle.delivery.proofs.Rel.{IsOf, Holding, Under, Link}
-use Rattle.delivery.proofs.Checks.{ends-is, says, now, net-total}
-use Rattle.delivery.proofs.Entries.{entries-by, count-is, head-is, taken-is, entry-fits}
+use Rattle.delivery.proofs.Chain.{Stands, Good}
+use Rattle.delivery.proofs.Cutting.{netFor, placeFor, cutPacket, sizes}
+use Rattle.delivery.proofs.Rel.{IsOf, Under, Link}
+use Rattle.delivery.proofs.Checks.{ends-is, now, net-total}
+use Rattle.delivery.proofs.Entries.{entries-by, count-is, head-is, entry-fits}
 use Rattle.delivery.proofs.Effects.{Does, under-next}
 use Rattle.delivery.proofs.Requests.{Carries, Sends}
-use Rattle.delivery.proofs.Placing.{placing-told, placing-answers, placing-numbers, placing-ends, placing-reads, net-is, placing-bytes, length-piece, grown-last, grown-more}
+use Rattle.delivery.proofs.Placing.{placing-told, placing-answers, placing-reads, net-is, placing-bytes, length-piece, grown-last, grown-more}
 
 -- the first of the entries that wait, where some do
 first-waiting : (ms : List Message) (es : List Entry) → none es ≡ false → AllLongEnough ms es
@@ -79,10 +73,13 @@ module _ (ms : List Message) (S : List Slot) (p : Plain) (x : Run) (L : Link ms 
     where
       needing-is : needing t ≡ eqb (t .index) 0
       needing-is = Z .needs (t .index) (packetCount (t .message))
+
       count : x .whole .pair .entries .count ≡ length (p .held ++ p .waiting)
       count = count-is (x .whole .entries) (x .whole .pair .entries) (p .held ++ p .waiting) (L .entries)
+
       head : 1 ≤ x .whole .pair .entries .count → entryOf entry ≡ firstOf (p .held ++ p .waiting)
       head h = head-is (x .whole .entries) (x .whole .pair .entries) (p .held ++ p .waiting) (L .entries) h
+
       go : (b : Bool) → eqb (t .index) 0 ≡ b → Under b t (x .whole .pair .message) (p .held) → Entered
       go true e u =
           let w = first-waiting ms (p .waiting) (subst (λ b. (b && none (p .waiting)) ≡ false) (needing-is ∙ e) free) (L .long) in
@@ -163,6 +160,7 @@ module _ (ms : List Message) (S : List Slot) (p : Plain) (x : Run) (L : Link ms 
     where
       started : a ≡ true → p .held ≡ []
       started z = subst (λ y. Under y t (x .whole .pair .message) (p .held)) (sym (Z .needs (t .index) (packetCount (t .message))) ∙ (e ∙ z)) (L .under) .1
+
       going : a ≡ false → (y : Entry) × (p .held ≡ y ∷ [])
       going z =
           let u = subst (λ y. Under y t (x .whole .pair .message) (p .held)) (sym (Z .needs (t .index) (packetCount (t .message))) ∙ (e ∙ z)) (L .under) in
@@ -185,9 +183,10 @@ module _ (ms : List Message) (S : List Slot) (p : Plain) (x : Run) (L : Link ms 
         under =
             under-next S (p .k) (grown (placeFor t) M (netOf (cutPacket t))) (cond (isLast t) [] (heldNow p t)) (G .turn (p .k) lt) (H .inside)
             (λ e. (grown-last (x .whole .pair .setup) (x .whole .regions) fits t H (x .whole .pair .message) (p .held) (L .under) C entry region e, ap (λ b. cond b [] (heldNow p t)) e))
-            (λ e.
-              (grown-more (x .whole .pair .setup) (x .whole .regions) fits t H (x .whole .pair .message) (p .held) (L .under) C entry region e,
-              Z .holding (length (t .message .bytes)) (cond (isLast t) [] (heldNow p t)) (entryOf entry) (ap (λ b. cond b [] (heldNow p t)) e ∙ entered .is) (entered .large)));
+            (λ e. (
+              grown-more (x .whole .pair .setup) (x .whole .regions) fits t H (x .whole .pair .message) (p .held) (L .under) C entry region e,
+              Z .holding (length (t .message .bytes)) (cond (isLast t) [] (heldNow p t)) (entryOf entry) (ap (λ b. cond b [] (heldNow p t)) e ∙ entered .is) (entered .large),
+            ));
       }
     where
       told : (reports (completionOf (cutPacket t) M (getD entry 0 0)) ≡ cond (isLast t && takes (t .message .request)) (completionFor (t .message .request) (firstOf (heldNow p t)) (length (t .message .bytes)) ∷ []) [])

@@ -1,18 +1,17 @@
 -- Packet k is a READ or an atomic: a message of one packet.
-use Prim.Native.Nat.{ℕ, zero, suc, _+_, _-_, _*_, _≤_, _<_}
+use Prim.Native.Nat.{ℕ, suc, _+_, _-_, _*_, _≤_, _<_}
 use mathlib.Core.Path.{_≡_, refl, sym, ap, subst, _∙_}
-use mathlib.Core.Bool.{Bool, true, false, cond, not, _&&_, _||_, true≢false}
+use mathlib.Core.Bool.{Bool, true, false, cond, _&&_, true≢false}
 use mathlib.Core.List.{List, [], _∷_, _++_, map}
 use native.Mathlib.Omega.{arith}
-use lib.Dec.{leb, eqb}
-use lib.ListN.{length, getD, take, drop}
-use borrow.Author.Tests.{eqb-true, eqb-false, eq-eqb, ne-eqb}
+use lib.Dec.{eqb}
+use lib.ListN.{length, drop}
+use borrow.Author.Tests.{eq-eqb, ne-eqb}
 use Rattle.pieces.specs.Pieces.{pieces}
 use Rattle.pieces.proofs.Counting.{counts, bounds}
 use Rattle.table.specs.Table.{noRegion}
 use Rattle.table.specs.View.{inRing, regionOf}
 use Rattle.pair.specs.Answer.{statusNumber}
-use Rattle.pair.specs.Claims.{SetupFit}
 use Rattle.pair.specs.declared.OpenMessage.{OpenMessage}
 use Rattle.segment.specs.Message.{messageLength}
 use Rattle.segment.specs.Claims.{kindNumber}
@@ -22,11 +21,11 @@ use Rattle.responder.specs.Kept.{Steady}
 use Rattle.responder.specs.Decide.{noCompletion, regionFor, accepting, swapping}
 use Rattle.responder.specs.Apply.{memoryBy, readBy, entriesBy}
 use Rattle.delivery.specs.Stream.{Message, packetCount, Slot, slot, span, packetAt}
-use Rattle.delivery.specs.Plain.{Plain, lies, takes, completionFor, isRead, firstOf, needing, isLast, heldNow, waitingNow}
-use Rattle.delivery.specs.Demand.{Run, Lies, reports, entryOf}
-use Rattle.delivery.proofs.Chain.{Stands, Good, further}
+use Rattle.delivery.specs.Plain.{Plain, lies, takes, completionFor, firstOf, needing, isLast, heldNow, waitingNow}
+use Rattle.delivery.specs.Demand.{Run, reports, entryOf}
+use Rattle.delivery.proofs.Chain.{Stands, Good}
 use Rattle.delivery.proofs.Cutting.{placeFor, cutPacket}
-use Rattle.delivery.proofs.Operands.{addressOf, keyOf, namedOf}
+use Rattle.delivery.proofs.Operands.{addressOf, keyOf}
 use Rattle.delivery.proofs.Rel.{IsOf, Under, Link}
 use Rattle.delivery.proofs.Verdicts.{spot-is}
 use Rattle.delivery.proofs.Checks.{now}

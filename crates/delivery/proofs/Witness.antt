@@ -1,12 +1,12 @@
 -- Every packet is executed in turn.
-use Prim.Native.Nat.{ℕ, zero, suc, _+_, _-_, _≤_, _<_}
+use Prim.Native.Nat.{ℕ, zero, suc, _+_, _-_, _≤_}
 use mathlib.Core.Path.{_≡_, refl, sym, ap, subst, _∙_}
-use mathlib.Core.Bool.{Bool, true, false, cond, not, _&&_, true≢false}
+use mathlib.Core.Bool.{Bool, true, false, cond, _&&_}
 use mathlib.Core.List.{List, [], _∷_, _++_}
 use native.Mathlib.Omega.{arith}
-use lib.Dec.{leb, ltb, eqb}
-use lib.ListN.{length, take, drop}
-use borrow.Author.Tests.{eqb-true, eq-eqb, le-ltb, le-leb, leb-true, leb-false}
+use lib.Dec.{leb, eqb}
+use lib.ListN.{length, take}
+use borrow.Author.Tests.{eq-eqb, le-ltb}
 use Rattle.laws.proofs.Auto.{tests}
 use Rattle.pieces.proofs.Counting.{bounds}
 use Rattle.memory.proofs.Put.{length-placed}
@@ -20,9 +20,9 @@ use Rattle.responder.specs.Kept.{Steady}
 use Rattle.responder.specs.declared.Decision.{Decision}
 use Rattle.responder.proofs.Kept.{inbound-steady, next-steady, post-steady}
 use Rattle.delivery.specs.Stream.{Message, Slot, slot, stream, span, along}
-use Rattle.delivery.specs.Plain.{Plain, Call, none, firstOf, isRead, needing, isLast, heldNow, sending, adding, perform, reached, delivered, account, plain, start}
+use Rattle.delivery.specs.Plain.{Plain, Call, none, firstOf, isRead, needing, isLast, heldNow, sending, adding, perform, account, plain, start}
 use Rattle.delivery.specs.Plain.Call.{Hand, Next, Post}
-use Rattle.delivery.specs.Demand.{Run, step, LongEnough, Meets, AllMeet, Near, Handed, Posted, waitingAt}
+use Rattle.delivery.specs.Demand.{Run, step, LongEnough, Meets, AllMeet, Handed, Posted, waitingAt}
 use Rattle.delivery.specs.Witness.{wholeEntry, draining, inTurn, Witness}
 use Rattle.delivery.proofs.Chain.{Good, good}
 use Rattle.delivery.proofs.Rel.{Link}
@@ -166,7 +166,7 @@ module _ (s : Setup) (regions : List (List ℕ)) (ms : List Message) (S : List S
       drains (span (slot S j)) p2 _ (inTurn s out S (suc j) n) (subst (λ q. Together q (step S (step S x (Post (wholeEntry s))) (Hand j out))) e T2)
       (answers (isRead (slot S j .message .request)) (span (slot S j)) (p1 .r) (A .r ∙ r))
       (λ y U. turns n (suc j) (sending p2 0) y U (ap suc (A .k ∙ k)) (omega (arith, l)) refl
-        (none-few (isLast (slot S j)) (heldNow p1 (slot S j)) (few (needing (slot S j)) (p1 .held) (p1 .waiting) (subst (λ es. length es ≤ 1) (sym (A .held)) h)))) in
+      (none-few (isLast (slot S j)) (heldNow p1 (slot S j)) (few (needing (slot S j)) (p1 .held) (p1 .waiting) (subst (λ es. length es ≤ 1) (sym (A .held)) h)))) in
       let a = subst (λ q. Goal q (draining out (span (slot S j)) (inTurn s out S (suc j) n))) (sym e) g in
       ((m1, (m2, a .0)), a .1)
 

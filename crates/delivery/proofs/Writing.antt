@@ -1,44 +1,39 @@
 -- Packet k of a WRITE is executed.
-use Prim.Native.Nat.{ℕ, zero, suc, _+_, _-_, _*_, _≤_, _<_}
+use Prim.Native.Nat.{ℕ, suc, _+_, _-_, _*_, _≤_, _<_}
 use mathlib.Core.Path.{_≡_, refl, sym, ap, subst, _∙_}
-use mathlib.Core.Bool.{Bool, true, false, cond, not, _&&_, _||_, true≢false}
+use mathlib.Core.Bool.{Bool, true, false, cond, _&&_, _||_, true≢false}
 use mathlib.Core.List.{List, [], _∷_, _++_, map}
 use native.Mathlib.Omega.{arith}
 use lib.Dec.{leb, eqb}
 use lib.ListN.{length, getD, take, drop, take-append-drop}
-use borrow.Author.Tests.{eqb-true, eqb-false, eq-eqb, ne-eqb, ltb-false}
+use borrow.Author.Tests.{eqb-true, eqb-false}
 use Rattle.laws.proofs.Auto.{tests}
-use Rattle.laws.proofs.Tests.{and-true}
 use Rattle.memory.specs.Memory.{put, placed}
 use Rattle.memory.proofs.Put.{placed-put}
 use Rattle.pieces.specs.Pieces.{ends, pieceAt}
-use Rattle.table.specs.Table.{slotAt}
 use Rattle.table.specs.View.{inRing, regionOf}
 use Rattle.table.specs.declared.Entry.{Entry}
-use Rattle.pair.specs.Answer.{statusNumber}
 use Rattle.pair.specs.Claims.{SetupFit}
 use Rattle.pair.specs.declared.OpenMessage.{OpenMessage}
 use Rattle.segment.specs.Claims.{kindNumber}
-use Rattle.segment.specs.declared.Request.{Request}
-use Rattle.request.specs.Verdict.{keySpan, spot, netOf, current}
+use Rattle.request.specs.Verdict.{netOf, current}
 use Rattle.responder.specs.Kept.{Steady}
-use Rattle.responder.specs.Decide.{noCompletion, headEntry, regionFor, completes, completionOf, grown, placeOf, placing}
-use Rattle.responder.specs.Apply.{memoryBy, readBy, entriesBy}
-use Rattle.responder.specs.declared.Completion.{Completion}
+use Rattle.responder.specs.Decide.{headEntry, regionFor, completes, completionOf, grown, placeOf, placing}
+use Rattle.responder.specs.Apply.{memoryBy, entriesBy}
 use Rattle.delivery.specs.Stream.{Message, packetCount, Slot, slot, packetAt}
 use Rattle.delivery.specs.Plain.{Plain, lies, takes, completionFor, none, firstOf, needing, isLast, heldNow, waitingNow}
-use Rattle.delivery.specs.Demand.{Run, Lies, reports, AllLongEnough, LongEnough, entryOf}
-use Rattle.delivery.proofs.Chain.{Stands, Good, further}
+use Rattle.delivery.specs.Demand.{Run, Lies, reports, entryOf}
+use Rattle.delivery.proofs.Chain.{Stands, Good}
 use Rattle.delivery.proofs.Places.{Sizes}
-use Rattle.delivery.proofs.Cutting.{payloadFor, netFor, placeFor, cutPacket, carried-is, sizes}
-use Rattle.delivery.proofs.Operands.{addressOf, keyOf, immediateOf}
-use Rattle.delivery.proofs.Rel.{IsOf, Holding, Under, Link}
+use Rattle.delivery.proofs.Cutting.{netFor, placeFor, cutPacket, sizes}
+use Rattle.delivery.proofs.Operands.{addressOf, keyOf}
+use Rattle.delivery.proofs.Rel.{IsOf, Under, Link}
 use Rattle.delivery.proofs.Checks.{ends-is, says, now, net-total, write-right}
 use Rattle.delivery.proofs.Verdicts.{spot-is}
-use Rattle.delivery.proofs.Entries.{entries-by, count-is, head-is, taken-is, entry-fits}
+use Rattle.delivery.proofs.Entries.{entries-by, count-is, head-is}
 use Rattle.delivery.proofs.Effects.{Does, under-next}
 use Rattle.delivery.proofs.Requests.{Carries, Writes}
-use Rattle.delivery.proofs.Placing.{placing-told, placing-answers, placing-numbers, placing-ends, placing-reads, net-is, placing-bytes, length-piece, grown-last, grown-more}
+use Rattle.delivery.proofs.Placing.{placing-told, placing-answers, placing-reads, placing-bytes, length-piece, grown-last, grown-more}
 
 -- no bytes change nothing, wherever they go
 no-bytes : (d : List ℕ) → length d ≡ 0 → d ≡ []
@@ -122,10 +117,11 @@ module _ (ms : List Message) (S : List Slot) (p : Plain) (x : Run) (L : Link ms 
   taken e =
       let w = head-taken (p .waiting) (subst (λ b. (b && none (p .waiting)) ≡ false) e free) in
       let c : 1 ≤ x .whole .pair .entries .count =
-      omega (arith, count-is (x .whole .entries) (x .whole .pair .entries) (p .held ++ p .waiting) (L .entries) ∙ ap (λ h. length (h ++ p .waiting)) none-held, w .1) in
-      (c,
-      head-is (x .whole .entries) (x .whole .pair .entries) (p .held ++ p .waiting) (L .entries) c
-      ∙ (ap (λ h. firstOf (h ++ p .waiting)) none-held ∙ (sym (w .0) ∙ ap (λ b. firstOf (cond b (take 1 (p .waiting)) (p .held))) (sym e))))
+      omega (arith, count-is (x .whole .entries) (x .whole .pair .entries) (p .held ++ p .waiting) (L .entries) ∙ ap (λ h. length (h ++ p .waiting)) none-held, w .1) in (
+        c,
+        head-is (x .whole .entries) (x .whole .pair .entries) (p .held ++ p .waiting) (L .entries) c
+            ∙ (ap (λ h. firstOf (h ++ p .waiting)) none-held ∙ (sym (w .0) ∙ ap (λ b. firstOf (cond b (take 1 (p .waiting)) (p .held))) (sym e))),
+      )
 
   completes-is : completes (kindNumber (t .message .request)) (placeFor t) (cutPacket t .operands .immediate) ≡ (isLast t && takes (t .message .request))
   unfolding completes
@@ -148,6 +144,7 @@ module _ (ms : List Message) (S : List Slot) (p : Plain) (x : Run) (L : Link ms 
     where
       zeroth : (i : ℕ) → i ≡ 0 → i * t .message .connection .pmtu ≡ 0
       zeroth i e = omega (arith, ap (λ k. k * t .message .connection .pmtu) e)
+
       go : (b : Bool) → isLast t ≡ b → t .index * t .message .connection .pmtu < length (t .message .bytes)
       go false e = omega (arith, sized .more (omega (arith, tests, H .inside)) .1)
       go true e = first (eqb (t .index) 0) refl
@@ -226,9 +223,10 @@ module _ (ms : List Message) (S : List Slot) (p : Plain) (x : Run) (L : Link ms 
         under =
             under-next S (p .k) (grown (placeFor t) M (netOf (cutPacket t))) (cond (isLast t) [] (heldNow p t)) (G .turn (p .k) lt) (H .inside)
             (λ e. (grown-last (x .whole .pair .setup) (x .whole .regions) fits t H (x .whole .pair .message) (p .held) (L .under) C entry region e, ap (λ b. cond b [] (heldNow p t)) e))
-            (λ e.
-              (grown-more (x .whole .pair .setup) (x .whole .regions) fits t H (x .whole .pair .message) (p .held) (L .under) C entry region e,
-              Z .holding (length (t .message .bytes)) (cond (isLast t) [] (heldNow p t)) (more-held e)));
+            (λ e. (
+              grown-more (x .whole .pair .setup) (x .whole .regions) fits t H (x .whole .pair .message) (p .held) (L .under) C entry region e,
+              Z .holding (length (t .message .bytes)) (cond (isLast t) [] (heldNow p t)) (more-held e),
+            ));
       }
     where
       told : (reports (completionOf (cutPacket t) M (getD entry 0 0)) ≡ cond (isLast t && takes (t .message .request)) (completionFor (t .message .request) (firstOf (heldNow p t)) (length (t .message .bytes)) ∷ []) [])

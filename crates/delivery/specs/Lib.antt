@@ -4,3 +4,4 @@ pub mod Demand
 pub mod Witness
 pub mod InOrder
 pub mod Made
+pub mod Example

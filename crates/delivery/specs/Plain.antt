@@ -1,8 +1,8 @@
 -- The plain run: from the stream, the start and each call's arguments alone. It places from the message, and knows no
 -- packet, no header, no answer.
-use Prim.Native.Nat.{ℕ, zero, suc, _+_, _-_, _*_}
-use mathlib.Core.Bool.{Bool, true, false, cond, not, _&&_, _||_}
-use mathlib.Core.List.{List, [], _∷_, _++_, map}
+use Prim.Native.Nat.{ℕ, suc, _+_, _-_, _*_}
+use mathlib.Core.Bool.{Bool, true, false, cond, not, _&&_}
+use mathlib.Core.List.{List, [], _∷_, _++_}
 use lib.Dec.{leb, ltb, eqb}
 use lib.ListN.{length, getD, take, drop}
 use Rattle.sequence.specs.Sequence.{psnAfter, msnNext}
@@ -17,7 +17,7 @@ use Rattle.pair.specs.declared.Setup.{Setup}
 use Rattle.segment.specs.declared.Request.{Request}
 use Rattle.segment.specs.declared.Request.the-variants.{Send, SendImmediate, Write, WriteImmediate, Read, CmpSwap, FetchAdd}
 use Rattle.responder.specs.declared.Completion.{Completion}
-use Rattle.delivery.specs.Stream.{Message, packetCount, Slot, slot, span}
+use Rattle.delivery.specs.Stream.{packetCount, Slot, slot, span}
 
 -- k packets were executed; held is the entry of a SEND under way; r responses are still to send
 pub record Plain : Type 0 where

@@ -166,13 +166,13 @@ unfolding called
 post-kept w e W =
     post-cases (w .pair) (w .entries) e (λ q rows. WholeSound (changed w q (w .regions) rows)) (W .pair) W
     (λ f n.
-      record {
-        pair = one-more-sound (w .pair) (W .pair) n;
-        regions = W .regions;
-        entries = posted-sound (w .pair .setup .memory) (w .entries) (w .pair .entries) e (W .entries) n f;
-        saved = W .saved;
-        held = λ k. held-kept (w .pair) (w .entries) e (W .pair) n k (W .held k);
-      })
+    record {
+      pair = one-more-sound (w .pair) (W .pair) n;
+      regions = W .regions;
+      entries = posted-sound (w .pair .setup .memory) (w .entries) (w .pair .entries) e (W .entries) n f;
+      saved = W .saved;
+      held = λ k. held-kept (w .pair) (w .entries) e (W .pair) n k (W .held k);
+    })
 
 called-sound : (w : Whole) (c : HostCall) → Accepted c → WholeSound w → WholeSound (called w c)
 unfolding called

@@ -1,6 +1,6 @@
 -- The host's calls: each one's answer, the pair it leaves, and the table.
 use Prim.Native.Nat.{ℕ}
-use mathlib.Core.Bool.{cond, not}
+use mathlib.Core.Bool.{cond}
 use mathlib.Core.List.{List}
 use lib.Dec.{eqb, ltb, leb}
 use lib.ListN.{replicate, set}

@@ -93,9 +93,9 @@ unfolding called
 post-steady w e W =
     post-cases (w .pair) (w .entries) e (λ q rows. Steady (changed w q (w .regions) rows)) (W .pair) W
     (λ f n.
-      record {
-        pair = one-more-sound (w .pair) (W .pair) n;
-        regions = W .regions;
-        entries = posted-sound (w .pair .setup .memory) (w .entries) (w .pair .entries) e (W .entries) n f;
-        held = λ k. held-kept (w .pair) (w .entries) e (W .pair) n k (W .held k);
-      })
+    record {
+      pair = one-more-sound (w .pair) (W .pair) n;
+      regions = W .regions;
+      entries = posted-sound (w .pair .setup .memory) (w .entries) (w .pair .entries) e (W .entries) n f;
+      held = λ k. held-kept (w .pair) (w .entries) e (W .pair) n k (W .held k);
+    })

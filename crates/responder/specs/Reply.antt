@@ -7,9 +7,8 @@ use lib.ListN.{length, drop}
 use Rattle.sequence.specs.declared.Psn.{Psn}
 use Rattle.sequence.specs.declared.Msn.{Msn}
 use Rattle.header.specs.Write.{headerBytes}
-use Rattle.header.specs.declared.Bth.{Bth}
 use Rattle.header.specs.declared.Extension.{Extension}
-use Rattle.header.specs.declared.Extension.the-variants.{Bare, Acknowledge, AtomicAcknowledge}
+use Rattle.header.specs.declared.Extension.the-variants.{Acknowledge, AtomicAcknowledge}
 use Rattle.header.specs.declared.Header.{Header}
 use Rattle.memory.specs.Word.{wordAt}
 use Rattle.pair.specs.declared.Setup.{Setup}
