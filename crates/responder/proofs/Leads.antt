@@ -95,23 +95,14 @@ module _ (w : Whole) (W : Steady w) where
       → Leads w (still s sent psn syndrome value)
   unfolding pairBy after readBy savedRingBy actsAtomic
   still-leads s sent psn syndrome value h =
-      let L = go (leb (statusNumber s) 3) h in
       record { steady = L .steady; entry = λ e. absurd (true≢false (sym e)); saved = L .saved; psn = λ e. absurd (true≢false (sym e)) }
     where
-      same : Lasting w (w .pair)
-      same = lasts (w .pair .state) (w .pair .mark) (W .pair .state)
-
-      go : (a : Bool) → a ≡ false
-          → Lasting w
-          (cond a (executedPair (w .pair) (still s sent psn syndrome value))
-          (cond (eqb (statusNumber s) 4) (w .pair)
-          (cond (eqb (statusNumber s) 16 || eqb (statusNumber s) 19) (with (w .pair) (w .pair .state) true (w .pair .read))
-          (cond (eqb (statusNumber s) 17 || eqb (statusNumber s) 18) (with (w .pair) 2 (w .pair .mark) (w .pair .read)) (w .pair)))))
-      go true e = absurd (true≢false e)
-      go false e =
-          either w (eqb (statusNumber s) 4) _ _ same
-          (either w (eqb (statusNumber s) 16 || eqb (statusNumber s) 19) _ _ (lasts (w .pair .state) true (W .pair .state))
-          (either w (eqb (statusNumber s) 17 || eqb (statusNumber s) 18) _ _ (lasts 2 (w .pair .mark) (omega arith)) same))
+      L : Lasting w (pairBy (w .pair) (still s sent psn syndrome value))
+      L =
+          rw h
+          (either w (eqb (statusNumber s) 4) _ _ (lasts (w .pair .state) _ (W .pair .state))
+          (either w (eqb (statusNumber s) 16 || eqb (statusNumber s) 19) _ _ (lasts (w .pair .state) _ (W .pair .state))
+          (either w (eqb (statusNumber s) 17 || eqb (statusNumber s) 18) _ _ (lasts 2 _ (omega arith)) (lasts (w .pair .state) _ (W .pair .state)))))
 
   pub quiet-leads : (s : Status) → leb (statusNumber s) 3 ≡ false → Leads w (quietly s)
   unfolding quietly
@@ -128,7 +119,7 @@ module _ (w : Whole) (W : Steady w) where
   unfolding pairBy after readBy savedRingBy actsAtomic statusNumber
   again-leads at length responses psn a b c =
       record {
-        steady = with-steady w (w .pair .state) (w .pair .mark) _ W (W .pair .state) (go (eqb responses 0));
+        steady = with-steady w (w .pair .state) _ _ W (W .pair .state) (go (eqb responses 0));
         entry = λ e. absurd (true≢false (sym e));
         saved = refl;
         psn = λ e. absurd (true≢false (sym e));

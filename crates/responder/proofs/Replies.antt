@@ -254,7 +254,7 @@ module _ (q : Pair) (saved : List (List ℕ)) (m p out : List ℕ) where
         ack-sent q saved m p out S P (acknowledging status.NotReadyNak (bthOf p .psn) (32 + q .setup .timer)) refl (psn-small p B)
         (omega (arith, S .setup .0 .timer))
     reply regions d again =
-        inl (ack-sent q saved m p out S P (acknowledging status.DuplicateAnswered (psnBefore (q .expected)) 31) refl (after-below (q .expected) 16777215) (omega arith))
+        inl (ack-sent q saved m p out S P (acknowledging status.DuplicateAnswered (psnBefore (q .expected)) 31) refl (after-below (q .expected) _) (omega arith))
     reply regions d (reread at n a s) = inr (inr refl)
     reply regions d (reswap v e) =
         inr (inl (v, e, value-sent q saved m p out S P (still status.DuplicateAnswered 24 (bthOf p .psn) 31 v) v refl (psn-small p B) refl refl (subst Small e (saved-small (bthOf p .psn .0) saved (q .saved) W))))

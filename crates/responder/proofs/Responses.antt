@@ -117,7 +117,8 @@ module _ (q : Pair) (m : List ℕ) (A : Answering q m) (i : ℕ) where
   size =
       let H = shape (q .read) (pieces (q .read .length) (q .setup .pmtu)) i in
       let B = bounds (q .setup .pmtu) (A .sound .setup .0 .pmtu) in
-      omega (arith, H .size, padded (length payload) (q .setup .pmtu) (at-most (asked (q .read) m) (q .setup .pmtu) i) (B .2))
+      let l : length payload ≤ q .setup .pmtu = at-most _ _ _ in
+      omega (arith, H .size, padded (length payload) (q .setup .pmtu) l (B .2))
 
   short : packetLength h (length payload) ≤ 4128
   short = omega (arith, size, bounds (q .setup .pmtu) (A .sound .setup .0 .pmtu) .1)
