@@ -41,7 +41,8 @@ use Rattle.delivery.specs.Demand.{Run, Near}
 use Rattle.delivery.proofs.Chain.{Stands, Good, along-less}
 use Rattle.delivery.proofs.Cutting.{netFor, cutPacket}
 use Rattle.delivery.proofs.Rel.{IsOf, Link, stepBy, eases}
-use Rattle.delivery.proofs.Checks.{Room, named-limit, enabled-is, key-good, none-pad, begun}
+use Rattle.delivery.proofs.Fitting.{Room, named-limit, enabled-is, key-good}
+use Rattle.delivery.proofs.Checks.{none-pad, begun}
 use Rattle.delivery.proofs.Here.{here}
 use Rattle.delivery.proofs.Requests.{Single, Reads, read-single, reads-reads}
 

@@ -27,17 +27,14 @@ use Rattle.delivery.proofs.Cutting.{placeFor, cutPacket}
 use Rattle.delivery.proofs.Operands.{immediateOf}
 use Rattle.delivery.proofs.Rel.{Link, stepBy, eases}
 use Rattle.delivery.proofs.Verdicts.{Before, Behind, unready, passes}
-use Rattle.delivery.proofs.Checks.{Suits, ends-is, says, before, waiting-is, behind}
+use Rattle.delivery.proofs.Fitting.{and-false, Suits}
+use Rattle.delivery.proofs.Checks.{ends-is, says, before, waiting-is, behind}
 use Rattle.delivery.proofs.Entries.{count-is, entry-fits}
 use Rattle.delivery.proofs.Effects.{Does, executes}
 use Rattle.delivery.proofs.Requests.{Carries, Sends, Writes, Single, Reads, Swaps, send-carries, send-imm-carries, write-carries, write-imm-carries, send-sends, send-imm-sends, write-writes, write-imm-writes, read-single, swap-single, add-single, reads-reads, adds-swaps, swaps-swaps}
 use Rattle.delivery.proofs.Sending.{entered, sends}
 use Rattle.delivery.proofs.Writing.{taken, writes}
 use Rattle.delivery.proofs.Singles.{reads, swaps}
-
-and-false : (b : Bool) → (b && false) ≡ false
-and-false true = refl
-and-false false = refl
 
 module _ (ms : List Message) (S : List Slot) (p : Plain) (x : Run) (L : Link ms S p x) (Y : Steady (x .whole))
     (G : Good (x .whole .pair .setup) (x .whole .regions) ms S) (lt : p .k < length S)

@@ -4,6 +4,7 @@ pub mod Cutting
 pub mod Operands
 pub mod Rel
 pub mod Verdicts
+pub mod Fitting
 pub mod Checks
 pub mod Entries
 pub mod Effects

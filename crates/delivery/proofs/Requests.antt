@@ -30,7 +30,7 @@ use Rattle.delivery.specs.Plain.{needs, takes, told, completionFor, lies
 use Rattle.delivery.specs.Demand.{Lies, Allowed, AtLeast}
 use Rattle.delivery.proofs.Operands.{keyOf, addressOf, namedOf, immediateOf, valueOf}
 use Rattle.delivery.proofs.Rel.{Holding}
-use Rattle.delivery.proofs.Checks.{Suits, swap-right, add-right}
+use Rattle.delivery.proofs.Fitting.{Suits, swap-right, add-right}
 
 -- SENDs and WRITEs
 pub record Carries (r : Request) : Type 0 where

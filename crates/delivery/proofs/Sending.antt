@@ -27,7 +27,8 @@ use Rattle.delivery.specs.Demand.{Run, reports, AllLongEnough, LongEnoug
 use Rattle.delivery.proofs.Chain.{Stands, Good}
 use Rattle.delivery.proofs.Cutting.{netFor, placeFor, cutPacket, sizes}
 use Rattle.delivery.proofs.Rel.{IsOf, Under, Link}
-use Rattle.delivery.proofs.Checks.{ends-is, now, net-total}
+use Rattle.delivery.proofs.Fitting.{net-total}
+use Rattle.delivery.proofs.Checks.{ends-is, now}
 use Rattle.delivery.proofs.Entries.{entries-by, count-is, head-is, entry-fits}
 use Rattle.delivery.proofs.Effects.{Does, under-next}
 use Rattle.delivery.proofs.Requests.{Carries, Sends}

@@ -1,7 +1,7 @@
 -- Every packet is executed in turn.
 use Prim.Native.Nat.{ℕ, zero, suc, _+_, _-_, _≤_}
 use mathlib.Core.Path.{_≡_, refl, sym, ap, subst, _∙_}
-use mathlib.Core.Bool.{Bool, true, false, cond, _&&_}
+use mathlib.Core.Bool.{Bool, true, false, cond}
 use mathlib.Core.List.{List, [], _∷_, _++_}
 use native.Mathlib.Omega.{arith}
 use lib.Dec.{leb, eqb}
@@ -25,6 +25,7 @@ use Rattle.delivery.specs.Plain.Call.{Hand, Next, Post}
 use Rattle.delivery.specs.Demand.{Run, step, LongEnough, Meets, AllMeet, Handed, Posted, waitingAt}
 use Rattle.delivery.specs.Witness.{wholeEntry, draining, inTurn, Witness}
 use Rattle.delivery.proofs.Chain.{Good, good}
+use Rattle.delivery.proofs.Fitting.{and-false}
 use Rattle.delivery.proofs.Rel.{Link}
 use Rattle.delivery.proofs.Runs.{setup-kept, regions-kept, steady-next, linked, fresh-link, steady}
 
@@ -70,10 +71,6 @@ few false held waiting h = h
 none-few : (b : Bool) (held : List Entry) → length held ≤ 1 → length (cond b [] held) ≤ 1
 none-few true held h = omega arith
 none-few false held h = h
-
-and-false : (b : Bool) → (b && false) ≡ false
-and-false true = refl
-and-false false = refl
 
 -- no more responses than the packet spans
 answers : (b : Bool) (n r : ℕ) → r ≡ 0 → cond b n r ≤ n

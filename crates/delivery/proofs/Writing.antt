@@ -28,7 +28,8 @@ use Rattle.delivery.proofs.Places.{Sizes}
 use Rattle.delivery.proofs.Cutting.{netFor, placeFor, cutPacket, sizes}
 use Rattle.delivery.proofs.Operands.{addressOf, keyOf}
 use Rattle.delivery.proofs.Rel.{IsOf, Under, Link}
-use Rattle.delivery.proofs.Checks.{ends-is, says, now, net-total, write-right}
+use Rattle.delivery.proofs.Fitting.{net-total, write-right}
+use Rattle.delivery.proofs.Checks.{ends-is, says, now}
 use Rattle.delivery.proofs.Verdicts.{spot-is}
 use Rattle.delivery.proofs.Entries.{entries-by, count-is, head-is}
 use Rattle.delivery.proofs.Effects.{Does, under-next}
