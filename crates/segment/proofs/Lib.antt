@@ -6,4 +6,3 @@ pub mod Fits
 pub mod Whole
 pub mod Numbers
 pub mod Answers
-pub mod Worked

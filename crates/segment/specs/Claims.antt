@@ -2,9 +2,9 @@
 use Prim.Native.Nat.{ℕ, suc, _+_, _*_, _^_, _≤_, _<_}
 use mathlib.Core.Path.{_≡_}
 use mathlib.Core.Bool.{true, false}
-use mathlib.Core.List.{List, [], _∷_, _++_}
+use mathlib.Core.List.{List, [], _++_}
 use mathlib.Core.Logic.{_⊎_}
-use lib.ListN.{length, take, drop, replicate}
+use lib.ListN.{length, take, drop}
 use Rattle.sequence.specs.declared.Psn.{Psn}
 use Rattle.opcode.specs.Opcode.{classOf, serviceOf}
 use Rattle.header.specs.Check.{pkeysMatch, admitted}
@@ -251,23 +251,3 @@ abbrev pub CountNumbers : Type 0
 CountNumbers =
     (r : Request) (n pmtu : ℕ) → (answerNumber (packetsAnswer r n pmtu) ≡ lengthRefusal (messageLength r n) pmtu)
     × (answerNumber (responsesAnswer n pmtu) ≡ lengthRefusal n pmtu)
-
--- Worked examples: no bytes, one packet, an Only; 256 and 257 bytes at PMTU 256; a READ of 1,025 bytes; the longest message
--- at the smallest PMTU; and a packet, byte for byte.
-abbrev pub example : Connection
-example = record { service = 0; pmtu = 256; pkey = 65535; dest = 18 }
-
-abbrev pub at : ℕ → Psn
-at n = record { 0 = n }
-
-abbrev pub abc : List ℕ
-abc = 97 ∷ 98 ∷ 99 ∷ []
-
-pub record Worked : Type 0 where
-  pub empty : (packetsAnswer Send 0 256 ≡ Done 1) × (classOf (headerAt example Send 0 (at 0) 0 .bth .opcode) .place ≡ 4)
-  pub full : packetsAnswer Send 256 256 ≡ Done 1
-  pub one-more : (packetsAnswer Send 257 256 ≡ Done 2) × (length (payloadAt example Send (replicate 257 0) 1) ≡ 1) × (headerAt example Send 257 (at 0) 1 .bth .pad ≡ 3)
-  pub read : responsesAnswer 1025 256 ≡ Done 5
-  pub longest : packetsAnswer Send 1048576 256 ≡ Done 4096
-  pub packet : cutBytes example Send abc (at 7) 0 ≡ 4 ∷ 16 ∷ 255 ∷ 255 ∷ 0 ∷ 0 ∷ 0 ∷ 18 ∷ 128 ∷ 0 ∷ 0 ∷ 7 ∷ 97 ∷ 98 ∷ 99 ∷ 0 ∷ []
-  pub written : cutWritten example Send abc (at 7) 0 16 ≡ Done 16

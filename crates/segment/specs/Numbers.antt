@@ -62,7 +62,3 @@ abbrev pub NextNumbers : Type 0
 NextNumbers =
     (r : Request) (n pmtu : ℕ) (first : Psn)
     → followingNumber (nextAnswer r n pmtu first) ≡ nextRefusal (messageLength r n) pmtu (first .0)
-
--- A READ of 1,025 bytes at PMTU 256 and PSN 24: the next message has PSN 29.
-abbrev pub NextWorked : Type 0
-NextWorked = nextAnswer (Read (record { address = 0; key = 0; length = 1025 })) 0 256 (record { 0 = 24 }) ≡ Next (record { 0 = 29 })
