@@ -35,7 +35,7 @@ use Rattle.delivery.specs.Plain.Call.{Hand, Next, Post}
 use Rattle.delivery.specs.Demand.{Run, step, LongEnough, AllLongEnough, Handed, Posted, entryOf}
 use Rattle.delivery.proofs.Chain.{Good}
 use Rattle.delivery.proofs.Cutting.{cutPacket, admits, is-packet}
-use Rattle.delivery.proofs.Rel.{Link, stepBy, eases, reads-on}
+use Rattle.delivery.proofs.Rel.{Link, stepBy, eased, eases}
 use Rattle.delivery.proofs.Entries.{count-is}
 use Rattle.delivery.proofs.Deliver.{arrives}
 
@@ -155,17 +155,19 @@ module _ (ms : List Message) (S : List Slot) (p : Plain) (x : Run) (L : Link ms 
                   saved = x .whole .saved;
                 };
             memory = x .memory;
-            completions = x .completions;
+            completions = x .completions ++ [];
           }
 
+      same : Link ms S p (eased x (x .whole .pair .mark) (x .whole .pair .read) (x .completions ++ []))
+      same = eases L (x .whole .pair .mark) (x .whole .pair .read) (p .r) (L .reads)
       go : (a b c : Bool)
           → Link ms S (cond a p (cond b p (cond (not c) p (sending p (p .r - 1)))))
           (by (cond a status.WrongState (cond b status.OutputShort (cond (not c) status.OutOfRange status.Executed))))
-      go true b c = L
-      go false true c = L
-      go false false false = L
+      go true b c = same
+      go false true c = same
+      go false false false = same
       go false false true =
-          reads-on L (x .whole .pair .mark) (oneFewer (x .whole .pair .read)) (p .r - 1) (ap (λ n. n - 1) (L .reads)) (x .completions) (L .completions)
+          eases L (x .whole .pair .mark) (oneFewer (x .whole .pair .read)) (p .r - 1) (ap (λ n. n - 1) (L .reads))
 
   -- post entry
   post-is : (e : Entry)

@@ -19,6 +19,7 @@ use Rattle.segment.specs.Claims.{InLimit, RequestWidths}
 use Rattle.segment.specs.declared.Request.{Request}
 use Rattle.segment.specs.declared.Request.the-variants.{Send, SendImmediate, Write, WriteImmediate, Read, CmpSwap, FetchAdd}
 use Rattle.responder.specs.Inbound.{inbound, inboundMemory}
+use Rattle.responder.specs.Response.{nextResponse}
 use Rattle.responder.specs.Calls.{received, drained}
 use Rattle.responder.specs.declared.Completion.{Completion}
 use Rattle.delivery.specs.Stream.{Message, Slot, slot, stream, packetAt, along}
@@ -43,7 +44,11 @@ step S x (Hand j out) =
       completions = x .completions ++ reports (inbound (x .whole .pair) (x .whole .regions) (x .whole .entries) (x .whole .saved) (x .memory) (packetAt (slot S j)) out .completion);
     }
 step S x (Next out) =
-    record { whole = drained (x .whole) (x .memory) out; memory = x .memory; completions = x .completions }
+    record {
+      whole = drained (x .whole) (x .memory) out;
+      memory = x .memory;
+      completions = x .completions ++ reports (nextResponse (x .whole .pair) (x .memory) out .completion);
+    }
 step S x (Post e) =
     record { whole = called (x .whole) (PostEntry e); memory = x .memory; completions = x .completions }
 

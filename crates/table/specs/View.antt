@@ -1,6 +1,6 @@
 -- What a table holds, whichever rows it stands in.
 use Prim.Native.Nat.{ℕ, zero, suc, _+_}
-use mathlib.Core.Bool.{cond}
+use mathlib.Core.Bool.{Bool, cond}
 use mathlib.Core.List.{List, [], _∷_}
 use lib.Dec.{eqb, ltb}
 use lib.ListN.{getD, set}
@@ -30,10 +30,14 @@ abbrev pub later : Saved → Saved → Saved
 later (Value v) s = Value v
 later Nothing s = s
 
--- a saved atomic's row: PSN, value. Of those saved, oldest first, the value of the newest with this PSN
+-- a saved atomic's row: PSN, value. It is that of a repeated atomic if it has the packet's PSN
+abbrev pub savedMatch : ℕ → List ℕ → Bool
+savedMatch psn row = eqb (getD row 0 0) psn
+
+-- of those saved, oldest first, the value of the newest that matches
 unfoldable pub newest : ℕ → List (List ℕ) → Saved
 newest psn [] = Nothing
-newest psn (row ∷ rows) = later (newest psn rows) (cond (eqb (getD row 0 0) psn) (Value (getD row 1 0)) Nothing)
+newest psn (row ∷ rows) = later (newest psn rows) (cond (savedMatch psn row) (Value (getD row 1 0)) Nothing)
 
 -- how many atomics are saved
 abbrev pub savedLimit : ℕ
