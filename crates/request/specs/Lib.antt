@@ -1,2 +1,3 @@
 pub mod Packet
 pub mod Verdict
+pub mod Claims

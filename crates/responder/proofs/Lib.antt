@@ -12,3 +12,6 @@ pub mod Refusals
 pub mod Replies
 pub mod Responses
 pub mod Draining
+pub mod Answers
+pub mod Spans
+pub mod Reasons

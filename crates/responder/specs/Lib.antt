@@ -8,3 +8,4 @@ pub mod Kept
 pub mod Effects
 pub mod Reads
 pub mod Replies
+pub mod Answers
