@@ -160,6 +160,7 @@ module _ (ms : List Message) (S : List Slot) (p : Plain) (x : Run) (L : Link ms 
 
       same : Link ms S p (eased x (x .whole .pair .mark) (x .whole .pair .read) (x .completions ++ []))
       same = eases L (x .whole .pair .mark) (x .whole .pair .read) (p .r) (L .reads)
+
       go : (a b c : Bool)
           → Link ms S (cond a p (cond b p (cond (not c) p (sending p (p .r - 1)))))
           (by (cond a status.WrongState (cond b status.OutputShort (cond (not c) status.OutOfRange status.Executed))))

@@ -1,5 +1,5 @@
 -- The request checks pass a packet of the stream, but for an entry that is not there.
-use Prim.Native.Nat.{ℕ, _+_, _-_, _≤_, _<_}
+use Prim.Native.Nat.{ℕ, _+_, _-_, _≤_, _<_, _^_}
 use mathlib.Core.Path.{_≡_, refl, sym, ap, subst, _∙_}
 use mathlib.Core.Bool.{Bool, true, false, cond}
 use mathlib.Core.List.{List, []}
@@ -7,9 +7,9 @@ use mathlib.Core.Logic.{_⊎_, inl, inr}
 use native.Mathlib.Omega.{arith}
 use lib.Dec.{eqb, ltb}
 use lib.ListN.{length, getD}
-use borrow.Author.Tests.{eqb-false, ne-eqb, le-ltb}
+use borrow.Author.Tests.{lt-leb, eqb-false, ne-eqb, le-ltb}
 use Rattle.laws.proofs.Auto.{tests}
-use Rattle.table.specs.Table.{outside, regionRow, noRegion, keyRow}
+use Rattle.table.specs.Table.{addresses, pastTop, outside, regionRow, noRegion, keyRow}
 use Rattle.table.specs.View.{regionOf}
 use Rattle.table.specs.Claims.{RegionsSound, RegionFits}
 use Rattle.table.specs.declared.Region.{Region}
@@ -44,29 +44,32 @@ module _ (s : Setup) (under : OpenMessage) (p : Packet) (count : ℕ) (entry reg
   unfolding expectedCode requestCode
   passes e a = rw (b .sequence, b .enabled, b .pad, b .limit, e, a .entry-in, a .key, a .lengths)
 
--- the region of a key, which has some bytes, lies in memory
-columns : (r : Region) → (getD (regionRow r) 2 0 ≡ r .length) × (getD (regionRow r) 3 0 ≡ r .offset)
+-- the region of a key, which has some bytes, lies in memory and ends below 2^64
+columns : (r : Region) → (getD (regionRow r) 1 0 ≡ r .address) × (getD (regionRow r) 2 0 ≡ r .length) × (getD (regionRow r) 3 0 ≡ r .offset)
 unfolding regionRow
-columns r = (refl, refl)
+columns r = (refl, refl, refl)
+
+abbrev Inside : ℕ → Region → Type 0
+Inside memory r = (r .offset + r .length ≤ memory) × (r .address + r .length < 2 ^ 64)
 
 in-row : (memory : ℕ) (r : Region) (row : List ℕ) → row ≡ regionRow r → 1 ≤ r .length
     → (getD row 2 0 ≡ 0) ⊎ ((o : Region) × (row ≡ regionRow o) × RegionFits memory o)
-    → r .offset + r .length ≤ memory
+    → Inside memory r
 in-row memory r row e some (inl free) = absurd (omega (arith, ap (λ x. getD x 2 0) e, columns r))
 in-row memory r row e some (inr o) =
+    let t = ap (λ x. getD x 1 0) (sym e ∙ o .1) in
     let u = ap (λ x. getD x 2 0) (sym e ∙ o .1) in
     let v = ap (λ x. getD x 3 0) (sym e ∙ o .1) in
     let a = columns r in
     let c = columns (o .0) in
-    let w : o .0 .offset + o .0 .length ≤ memory = o .2 .within in
-    omega (arith, a .0, a .1, c .0, c .1, u, v, w)
+    (omega (arith, a .1, a .2, c .1, c .2, u, v, o .2 .within), omega (arith, a .0, a .1, c .0, c .1, t, u, o .2 .below))
 
 pub region-in : (memory key : ℕ) (rows : List (List ℕ)) (r : Region) → RegionsSound memory rows → regionOf key rows ≡ regionRow r → 1 ≤ r .length
-    → r .offset + r .length ≤ memory
+    → Inside memory r
 unfolding regionOf
 region-in memory key rows r sound e some = go (ltb (keyRow key rows) 16) refl e
   where
-    go : (b : Bool) → ltb (keyRow key rows) 16 ≡ b → cond b (getD rows (keyRow key rows) []) noRegion ≡ regionRow r → r .offset + r .length ≤ memory
+    go : (b : Bool) → ltb (keyRow key rows) 16 ≡ b → cond b (getD rows (keyRow key rows) []) noRegion ≡ regionRow r → Inside memory r
     go true q f = in-row memory r (getD rows (keyRow key rows) []) f some (sound .each (keyRow key rows) (omega (arith, tests)))
     go false q f = in-row memory r noRegion f some (inl refl)
 
@@ -76,11 +79,11 @@ module _ (memory kind key address n off : ℕ) (rows : List (List ℕ)) (right :
     (at : m .address ≡ address) (placed : m .placed ≡ off) (long : m .length ≡ n) (l : off ≤ n) where
   held-span : (r : Region) → regionOf key rows ≡ regionRow r → right r ≡ true → r .address ≤ address → address + n ≤ r .address + r .length
       → (off < n) → lacks (regionRow r) (rightOf kind (regionRow r)) memory (m .address + m .placed) (keySpan (m .length) (m .placed)) ≡ false
-  unfolding lacks outside keySpan regionRow
+  unfolding lacks outside pastTop keySpan regionRow
   held-span r e g low high o =
-      let inside : r .offset + r .length ≤ memory = region-in memory key rows r sound e (omega arith) in
+      let inside = region-in memory key rows r sound e (omega arith) in
       rw
-      (is r ∙ ap (λ b. cond b 1 0) g, le-ltb memory (r .offset + r .length) inside, le-ltb (m .address + m .placed) (r .address) (omega arith))
+      (is r ∙ ap (λ b. cond b 1 0) g, le-ltb memory (r .offset + r .length) (inside .0), lt-leb addresses (r .address + r .length) (inside .1), le-ltb (m .address + m .placed) (r .address) (omega arith))
       (le-ltb (r .address + r .length) (m .address + m .placed + (m .length - m .placed)) (omega arith))
 
   pub key-passes : Lies rows right key address n → keyFails memory kind m (regionOf key rows) ≡ false
@@ -104,7 +107,7 @@ module _ (memory kind key address n off : ℕ) (rows : List (List ℕ)) (right :
   unfolding spot keySpan lies regionRow
   spot-is (inl none) o = absurd (omega arith)
   spot-is (inr g) o =
-      let inside : g .0 .offset + g .0 .length ≤ memory = region-in memory key rows (g .0) sound (g .1) (omega (arith, g .4, g .3)) in
+      let inside : g .0 .offset + g .0 .length ≤ memory = region-in memory key rows (g .0) sound (g .1) (omega (arith, g .4, g .3)) .0 in
       let three : getD (regionOf key rows) 3 0 ≡ g .0 .offset = ap (λ row. getD row 3 0) (g .1) in
       let one : getD (regionOf key rows) 1 0 ≡ g .0 .address = ap (λ row. getD row 1 0) (g .1) in
       (rw (ne-eqb (m .length - m .placed) 0 (λ z. absurd (omega arith))) (omega (arith, three, one, g .3)), omega (arith, three, one, inside, g .3, g .4))

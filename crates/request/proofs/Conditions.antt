@@ -5,12 +5,12 @@ use mathlib.Core.Bool.{Bool, true, false, cond, not, _&&_, _||_, true≢false}
 use mathlib.Core.List.{List}
 use mathlib.Core.Logic.{_⊎_, inl, inr}
 use native.Mathlib.Omega.{arith}
-use lib.Dec.{eqb, ltb}
+use lib.Dec.{leb, eqb, ltb}
 use lib.ListN.{getD}
-use borrow.Author.Tests.{eqb-true, eqb-false, ltb-true, ltb-false, eq-eqb, ne-eqb, lt-ltb, le-ltb}
+use borrow.Author.Tests.{leb-false, lt-leb, eqb-true, eqb-false, ltb-true, ltb-false, eq-eqb, ne-eqb, lt-ltb, le-ltb}
 use Rattle.laws.proofs.Tests.{or-left, or-right, neither}
 use Rattle.pieces.specs.Pieces.{starts, ends}
-use Rattle.table.specs.Table.{outside}
+use Rattle.table.specs.Table.{outside, addresses, pastTop}
 use Rattle.pair.specs.Sound.{memoryLimit}
 use Rattle.request.specs.declared.Packet.{Packet}
 use Rattle.request.specs.Verdict.{carrying, outOfSequence, notEnabled, padEarly, overLimit, needsEntry, entriesWaiting, noneWaiting, usesEntry, entryOutside, rightOf, lacks, keySpan, keyLacking, keyFails, sizeOff, totalOff, bareOff, netOf, lengthsOff, current}
@@ -202,26 +202,29 @@ inside-tested kind immediate entry memory =
 -- R_Key
 lacks-tested : (region : List ℕ) (right memory address n : ℕ)
     → Says (lacks region (getD region right 0) memory address n) (Gives region right memory address n)
-unfolding lacks outside
+unfolding lacks outside pastTop
 lacks-tested region right memory address n = (forth, back)
   where
     forth : lacks region (getD region right 0) memory address n ≡ false → Gives region right memory address n
     forth h =
         let a = or-right (eqb (getD region right 0) 0) _ h in
         let b = or-right (ltb memory (getD region 3 0 + getD region 2 0)) _ a in
+        let c = or-right (leb addresses (getD region 1 0 + getD region 2 0)) _ b in
         let z : getD region right 0 ≡ 0 → ⊥ = eqb-false (getD region right 0) 0 (or-left (eqb (getD region right 0) 0) _ h) in
         record {
           granted = omega (arith, z);
           within = ltb-false memory (getD region 3 0 + getD region 2 0) (or-left (ltb memory (getD region 3 0 + getD region 2 0)) _ a);
-          from = ltb-false address (getD region 1 0) (or-left (ltb address (getD region 1 0)) _ b);
-          to = ltb-false (getD region 1 0 + getD region 2 0) (address + n) (or-right (ltb address (getD region 1 0)) _ b);
+          top = leb-false addresses (getD region 1 0 + getD region 2 0) (or-left (leb addresses (getD region 1 0 + getD region 2 0)) _ b);
+          from = ltb-false address (getD region 1 0) (or-left (ltb address (getD region 1 0)) _ c);
+          to = ltb-false (getD region 1 0 + getD region 2 0) (address + n) (or-right (ltb address (getD region 1 0)) _ c);
         }
 
     back : Gives region right memory address n → lacks region (getD region right 0) memory address n ≡ false
     back G =
         neither (ne-eqb (getD region right 0) 0 (λ x. omega (arith, G .granted)))
         (neither (le-ltb memory (getD region 3 0 + getD region 2 0) (G .within))
-        (neither (le-ltb address (getD region 1 0) (G .from)) (le-ltb (getD region 1 0 + getD region 2 0) (address + n) (G .to))))
+        (neither (lt-leb addresses (getD region 1 0 + getD region 2 0) (G .top))
+        (neither (le-ltb address (getD region 1 0) (G .from)) (le-ltb (getD region 1 0 + getD region 2 0) (address + n) (G .to)))))
 
 rest-tested : (region : List ℕ) (right memory address n : ℕ)
     → Says (cond (eqb n 0) false (lacks region (getD region right 0) memory address n)) (0 < n → Gives region right memory address n)

@@ -1,6 +1,6 @@
 -- What is proved of the request checks, each statement by a name; the proofs stand in proofs/.
 -- Every condition is listed here once more, by numbers, and not by the test that the checks make.
-use Prim.Native.Nat.{ℕ, _+_, _-_, _%_, _≤_, _<_}
+use Prim.Native.Nat.{ℕ, _+_, _-_, _%_, _^_, _≤_, _<_}
 use mathlib.Core.Path.{_≡_}
 use mathlib.Core.Bool.{Bool, true, false}
 use mathlib.Core.List.{List}
@@ -81,11 +81,12 @@ EntryInMemory kind immediate entry memory =
     (kind ≡ 0) ⊎ (immediate ≡ true)
     → getD entry 1 0 + getD entry 2 0 ≤ memory
 
--- A region gives n bytes at an address: the right in that column is there, the region lies in memory, the bytes lie in it.
+-- A region gives n bytes at an address: the right in that column is there, the region lies in memory and ends below 2^64, the bytes lie in it.
 -- A row is key, address, length, offset and the rights to write, 4, to read, 5, and to atomics, 6.
 pub record Gives (region : List ℕ) (right memory address n : ℕ) : Type 0 where
   pub granted : 0 < getD region right 0
   pub within : getD region 3 0 + getD region 2 0 ≤ memory
+  pub top : getD region 1 0 + getD region 2 0 < 2 ^ 64
   pub from : getD region 1 0 ≤ address
   pub to : address + n ≤ getD region 1 0 + getD region 2 0
 

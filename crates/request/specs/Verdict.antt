@@ -5,7 +5,7 @@ use mathlib.Core.List.{List}
 use lib.Dec.{eqb, ltb}
 use lib.ListN.{getD}
 use Rattle.pieces.specs.Pieces.{starts, ends}
-use Rattle.table.specs.Table.{outside}
+use Rattle.table.specs.Table.{outside, pastTop}
 use Rattle.pair.specs.Sound.{memoryLimit}
 use Rattle.pair.specs.declared.Setup.{Setup}
 use Rattle.pair.specs.declared.OpenMessage.{OpenMessage}
@@ -58,12 +58,14 @@ entryOutside kind immediate entry memory = usesEntry kind immediate && outside (
 unfoldable pub rightOf : ℕ → List ℕ → ℕ
 rightOf kind region = cond (eqb kind 6) (getD region 4 0) (cond (eqb kind 12) (getD region 5 0) (getD region 6 0))
 
--- the region does not hold n bytes at an address: no right, or it does not lie in memory, or they do not lie in it
+-- the region does not hold n bytes at an address: no right, or it is no region that the host could add, in memory and
+-- below 2^64, or they do not lie in it
 unfoldable pub lacks : List ℕ → ℕ → ℕ → ℕ → ℕ → Bool
 lacks region right memory address n =
     eqb right 0
     || (outside (getD region 3 0) (getD region 2 0) memory
-    || (ltb address (getD region 1 0) || ltb (getD region 1 0 + getD region 2 0) (address + n)))
+    || (pastTop (getD region 1 0) (getD region 2 0)
+    || (ltb address (getD region 1 0) || ltb (getD region 1 0 + getD region 2 0) (address + n))))
 
 -- what the key must hold: the bytes still to come
 unfoldable pub keySpan : ℕ → ℕ → ℕ

@@ -1,18 +1,16 @@
 -- What a request that passes every check satisfies, in plain numbers.
 use Prim.Native.Nat.{ℕ, _+_, _-_, _^_, _≤_, _<_}
-use mathlib.Core.Path.{_≡_, refl, subst}
+use mathlib.Core.Path.{_≡_, refl}
 use mathlib.Core.Bool.{Bool, true, false, cond, not, true≢false}
-use mathlib.Core.List.{List, []}
+use mathlib.Core.List.{List}
 use mathlib.Core.Logic.{_⊎_, inl, inr}
 use native.Mathlib.Omega.{arith}
-use lib.Dec.{eqb, ltb}
+use lib.Dec.{leb, eqb, ltb}
 use lib.ListN.{getD}
-use borrow.Author.Tests.{eqb-true, eqb-false, ltb-true, ltb-false}
+use borrow.Author.Tests.{leb-false, eqb-true, eqb-false, ltb-true, ltb-false}
 use Rattle.laws.proofs.Tests.{or-left, or-right}
 use Rattle.pieces.specs.Pieces.{starts}
-use Rattle.table.specs.Table.{outside, noRegion, keyRow, regionRow}
-use Rattle.table.specs.View.{regionOf}
-use Rattle.table.specs.Claims.{RowSound, RegionsSound}
+use Rattle.table.specs.Table.{addresses, pastTop, outside}
 use Rattle.pair.specs.declared.Setup.{Setup}
 use Rattle.pair.specs.declared.OpenMessage.{OpenMessage}
 use Rattle.request.specs.declared.Packet.{Packet}
@@ -91,16 +89,17 @@ follows under p h = go (starts (p .place)) refl h
     go true e k = inl (refl, refl, of-not (under .kind) 255 k)
     go false e k = inr (refl, refl, of-not (under .kind) (p .kind) k)
 
--- a row that does not lack bytes holds them, and lies in memory
+-- a row that does not lack bytes holds them, lies in memory and ends below 2^64
 pub record Holds (region : List ℕ) (memory address n : ℕ) : Type 0 where
   pub within : getD region 3 0 + getD region 2 0 ≤ memory
+  pub top : getD region 1 0 + getD region 2 0 < 2 ^ 64
   pub from : getD region 1 0 ≤ address
   pub to : address + n ≤ getD region 1 0 + getD region 2 0
 
 pub holds : (kind : ℕ) (region : List ℕ) (memory address n : ℕ) → (kind ≡ 0 → ⊥) → (n ≡ 0 → ⊥)
     → keyLacking kind region memory address n ≡ false
     → Holds region memory address n
-unfolding keyLacking lacks outside
+unfolding keyLacking lacks outside pastTop
 holds kind region memory address n k z h = go (eqb kind 0) refl (eqb n 0) refl h
   where
     go : (a : Bool) → eqb kind 0 ≡ a → (b : Bool) → eqb n 0 ≡ b
@@ -111,10 +110,12 @@ holds kind region memory address n k z h = go (eqb kind 0) refl (eqb n 0) refl h
     go false e false f h =
         let h1 = or-right (eqb (rightOf kind region) 0) _ h in
         let h2 = or-right (ltb memory (getD region 3 0 + getD region 2 0)) _ h1 in
+        let h3 = or-right (leb addresses (getD region 1 0 + getD region 2 0)) _ h2 in
         record {
           within = ltb-false memory (getD region 3 0 + getD region 2 0) (or-left (ltb memory (getD region 3 0 + getD region 2 0)) _ h1);
-          from = ltb-false address (getD region 1 0) (or-left (ltb address (getD region 1 0)) _ h2);
-          to = ltb-false (getD region 1 0 + getD region 2 0) (address + n) (or-right (ltb address (getD region 1 0)) _ h2);
+          top = leb-false addresses (getD region 1 0 + getD region 2 0) (or-left (leb addresses (getD region 1 0 + getD region 2 0)) _ h2);
+          from = ltb-false address (getD region 1 0) (or-left (ltb address (getD region 1 0)) _ h3);
+          to = ltb-false (getD region 1 0 + getD region 2 0) (address + n) (or-right (ltb address (getD region 1 0)) _ h3);
         }
 
 -- so the bytes lie in memory, and no bytes do anyway
@@ -128,21 +129,3 @@ spot-in kind region memory address n k h = go (eqb n 0) refl
     go false e =
         let H = holds kind region memory address n k (eqb-false n 0 e) h in
         omega (arith, H .within, H .from, H .to)
-
--- the region of a key is a free row or that of a region that fits
-pub region-sound : (memory key : ℕ) (rows : List (List ℕ)) → RegionsSound memory rows → RowSound memory (regionOf key rows)
-unfolding regionOf
-region-sound memory key rows R = go (ltb (keyRow key rows) 16) refl
-  where
-    go : (b : Bool) → ltb (keyRow key rows) 16 ≡ b → RowSound memory (cond b (getD rows (keyRow key rows) []) noRegion)
-    go true e = R .each (keyRow key rows) (ltb-true (keyRow key rows) 16 e)
-    go false e = inl refl
-
--- bytes that it holds have addresses
-pub below-top : (region : List ℕ) (memory address n : ℕ) → RowSound memory region → 0 < n → Holds region memory address n
-    → address + n < 2 ^ 64
-unfolding regionRow
-below-top region memory address n (inl e) h H = absurd (omega (arith, e, h, H .from, H .to))
-below-top region memory address n (inr (r, e, f)) h H =
-    let to : address + n ≤ r .address + r .length = subst (λ x. address + n ≤ getD x 1 0 + getD x 2 0) e (H .to) in
-    omega (arith, to, f .below)

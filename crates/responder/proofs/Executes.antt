@@ -10,9 +10,7 @@ use lib.ListN.{getD}
 use borrow.Author.Tests.{eq-eqb, eqb-true, eqb-false, ltb-true, ltb-false}
 use Rattle.laws.proofs.Tests.{or-right}
 use Rattle.pieces.specs.Pieces.{starts, ends}
-use Rattle.table.specs.Table.{outside, noRegion}
-use Rattle.table.specs.View.{regionOf}
-use Rattle.table.specs.Claims.{RowSound}
+use Rattle.table.specs.Table.{outside}
 use Rattle.pair.specs.Answer.{statusNumber}
 use Rattle.pair.specs.Calls.{Whole}
 use Rattle.pair.specs.Pair.{noMessage}
@@ -26,7 +24,7 @@ use Rattle.request.specs.Verdict.{carrying, overLimit, needsEntry, entriesWaiti
 use Rattle.responder.specs.Decide.{noCompletion, completes, completionOf, grown, placing, swapping, accepting, executing, regionFor, headEntry}
 use Rattle.responder.specs.Apply.{actsAtomic}
 use Rattle.responder.specs.Kept.{Steady}
-use Rattle.responder.proofs.Checked.{Checked, Follows, follows, send-or-write, holds, spot-in, region-sound, below-top}
+use Rattle.responder.proofs.Checked.{Checked, Follows, follows, send-or-write, holds, spot-in}
 use Rattle.responder.proofs.Leads.{Leads, branch, Opens, Does, does-leads}
 
 -- a key that holds the whole of a message
@@ -87,14 +85,6 @@ module _ (w : Whole) (W : Steady w) where
 
     abbrev region : List ℕ
     region = regionFor (p .kind) (message .key) (w .regions)
-
-    row-sound : RowSound (w .pair .setup .memory) region
-    unfolding regionFor
-    row-sound = go (eqb (p .kind) 0)
-      where
-        go : (b : Bool) → RowSound (w .pair .setup .memory) (cond b noRegion (regionOf (current (w .pair .message) p .key) (w .regions)))
-        go true = inl refl
-        go false = region-sound (w .pair .setup .memory) (current (w .pair .message) p .key) (w .regions) (W .regions)
 
     module _ (C : Checked (w .pair .setup) (w .pair .message) p (w .pair .entries .count) entry region) where
       same-kind : message .kind ≡ p .kind
@@ -183,9 +173,7 @@ module _ (w : Whole) (W : Steady w) where
           let H =
           holds (p .kind) region (w .pair .setup .memory) (message .address + message .placed) (message .length - message .placed) (λ e. omega arith)
           (λ e. omega arith) (C .key) in
-          let t =
-          below-top region (w .pair .setup .memory) (message .address + message .placed) (message .length - message .placed) row-sound (omega arith) H in
-          omega (arith, t, l)
+          omega (arith, H .to, H .top, l)
 
       opens : carrying (p .kind) ≡ true
           → Opens w (completes (p .kind) (p .place) (p .operands .immediate)) (grown (p .place) message (netOf p))

@@ -1,52 +1,27 @@
 -- What passes the request checks lies in memory.
 use Prim.Native.Nat.{ℕ, _+_, _-_, _≤_, _<_}
 use mathlib.Core.Path.{_≡_, refl, sym, subst}
-use mathlib.Core.Bool.{Bool, true, false, cond, not, _||_, true≢false}
+use mathlib.Core.Bool.{Bool, true, false, cond, not, _||_}
 use mathlib.Core.List.{List}
 use native.Mathlib.Omega.{arith}
 use lib.Dec.{eqb, ltb}
 use lib.ListN.{getD}
-use borrow.Author.Tests.{eqb-true, ltb-true, ltb-false}
-use Rattle.laws.proofs.Tests.{or-left, or-right}
+use borrow.Author.Tests.{eqb-false, eqb-true, ltb-true, ltb-false}
+use Rattle.laws.proofs.Tests.{or-right}
 use Rattle.pieces.specs.Pieces.{ends}
 use Rattle.table.specs.Table.{outside}
 use Rattle.pair.specs.declared.Setup.{Setup}
 use Rattle.pair.specs.declared.OpenMessage.{OpenMessage}
-use Rattle.request.specs.Verdict.{carrying, usesEntry, entryOutside, rightOf, lacks, keySpan, keyLacking, keyFails, spot, sizeOff, totalOff, bareOff, netOf, lengthsOff, current}
+use Rattle.request.specs.Verdict.{carrying, usesEntry, entryOutside, keySpan, keyLacking, keyFails, spot, sizeOff, totalOff, bareOff, netOf, lengthsOff, current}
 use Rattle.request.specs.declared.Packet.{Packet}
 use Rattle.responder.specs.Decide.{placeOf}
 use Rattle.responder.proofs.Codes.{Passed}
+use Rattle.responder.proofs.Checked.{spot-in}
 
 -- the bytes that a key holds
 key-holds : (kind memory : ℕ) (region : List ℕ) (address span : ℕ) → eqb kind 0 ≡ false → keyLacking kind region memory address span ≡ false
     → spot region address span + span ≤ memory
-unfolding keyLacking lacks spot outside
-key-holds kind memory region address span k h =
-    go (eqb kind 0) (eqb span 0) k refl h
-  where
-    r1 : ℕ
-    r1 = getD region 1 0
-
-    r2 : ℕ
-    r2 = getD region 2 0
-
-    r3 : ℕ
-    r3 = getD region 3 0
-
-    within : lacks region (rightOf kind region) memory address span ≡ false → r3 + (address - r1) + span ≤ memory
-    within x =
-        let y = or-right (eqb (rightOf kind region) 0) _ x in
-        let z = or-right (ltb memory (r3 + r2)) _ y in
-        let a : r3 + r2 ≤ memory = ltb-false memory (r3 + r2) (or-left (ltb memory (r3 + r2)) _ y) in
-        let b : r1 ≤ address = ltb-false address r1 (or-left (ltb address r1) _ z) in
-        let c : address + span ≤ r1 + r2 = ltb-false (r1 + r2) (address + span) (or-right (ltb address r1) _ z) in
-        omega arith
-
-    go : (a b : Bool) → a ≡ false → eqb span 0 ≡ b → cond a false (cond b false (lacks region (rightOf kind region) memory address span)) ≡ false
-        → cond b 0 (r3 + (address - r1)) + span ≤ memory
-    go true b x y z = absurd (true≢false x)
-    go false true x y z = let e : span ≡ 0 = eqb-true span 0 y in omega arith
-    go false false x y z = within z
+key-holds kind memory region address span k h = spot-in kind region memory address span (eqb-false kind 0 k) h
 
 -- a message's bytes still to come, where its key's region has them
 pub key-inside : (kind memory : ℕ) (m : OpenMessage) (region : List ℕ) → eqb kind 0 ≡ false → keyFails memory kind m region ≡ false
