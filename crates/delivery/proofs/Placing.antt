@@ -94,16 +94,18 @@ module _ (s : Setup) (regions : List (List ℕ)) (f : SetupFit s) (t : Slot) (h 
   module _ (e : Entry) (completing : completes (kindNumber (t .message .request)) (placeFor t) (cutPacket t .operands .immediate) ≡ (isLast t && takes (t .message .request)))
       (number : (isLast t && takes (t .message .request)) ≡ true → getD entry 0 0 ≡ e .number)
       (long : isLast t ≡ true → cond (eqb (kindNumber (t .message .request)) 0) (M .placed + netOf (cutPacket t)) (M .length) ≡ length (t .message .bytes)) where
-    told-is : (isLast t && takes (t .message .request)) ≡ true
-        → _≡_ {A = Completion}
-        (record {
+    abbrev told : Completion
+    told =
+        record {
           some = true;
           number = getD entry 0 0;
           length = cond (eqb (kindNumber (t .message .request)) 0) (M .placed + netOf (cutPacket t)) (M .length);
           immediate = cutPacket t .operands .immediate;
           value = cutPacket t .operands .value;
-        })
-        (completionFor (t .message .request) e (length (t .message .bytes)))
+        }
+
+    told-is : (isLast t && takes (t .message .request)) ≡ true
+        → told ≡ completionFor (t .message .request) e (length (t .message .bytes))
     told-is q =
         let W = says s regions f t h under in
         let l : isLast t ≡ true = and-left (isLast t) (takes (t .message .request)) q in
@@ -124,27 +126,7 @@ module _ (s : Setup) (regions : List (List ℕ)) (f : SetupFit s) (t : Slot) (h 
     placing-told = rw completing (go (isLast t && takes (t .message .request)) refl)
       where
         go : (b : Bool) → (isLast t && takes (t .message .request)) ≡ b
-            → (reports
-            (cond b
-            (record {
-              some = true;
-              number = getD entry 0 0;
-              length = cond (eqb (kindNumber (t .message .request)) 0) (M .placed + netOf (cutPacket t)) (M .length);
-              immediate = cutPacket t .operands .immediate;
-              value = cutPacket t .operands .value;
-            })
-            noCompletion)
-            ≡ cond b (completionFor (t .message .request) e (length (t .message .bytes)) ∷ []) [])
-            × ((cond b
-            (record {
-              some = true;
-              number = getD entry 0 0;
-              length = cond (eqb (kindNumber (t .message .request)) 0) (M .placed + netOf (cutPacket t)) (M .length);
-              immediate = cutPacket t .operands .immediate;
-              value = cutPacket t .operands .value;
-            })
-            noCompletion)
-            .some
-            ≡ b)
+            → (reports (cond b told noCompletion) ≡ cond b (completionFor (t .message .request) e (length (t .message .bytes)) ∷ []) [])
+            × (cond b told noCompletion .some ≡ b)
         go true q = (ap (λ c. c ∷ []) (told-is q), refl)
         go false q = (refl, refl)

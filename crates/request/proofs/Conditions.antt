@@ -14,7 +14,7 @@ use Rattle.table.specs.Table.{outside, addresses, pastTop}
 use Rattle.pair.specs.Sound.{memoryLimit}
 use Rattle.request.specs.declared.Packet.{Packet}
 use Rattle.request.specs.Verdict.{carrying, outOfSequence, notEnabled, padEarly, overLimit, needsEntry, entriesWaiting, noneWaiting, usesEntry, entryOutside, rightOf, lacks, keySpan, keyLacking, keyFails, sizeOff, totalOff, bareOff, netOf, lengthsOff, current}
-use Rattle.request.specs.Claims.{Begins, HasMore, Ends, Place, IsAtomic, Served, InSequence, Enabled, PadAtEnd, TakesEntry, Waits, Gives, GivesRest, KeyGood, LengthsGood, IsCurrent, Says, CurrentTested, SequenceTested, EnabledTested, PadTested, LimitTested, EntryTested, InsideTested, KeyTested, LengthsTested}
+use Rattle.request.specs.Claims.{Carries, Begins, HasMore, Ends, Place, IsAtomic, Served, InSequence, Enabled, PadAtEnd, TakesEntry, Waits, Gives, GivesRest, KeyGood, LengthsGood, IsCurrent, Says, CurrentTested, SequenceTested, EnabledTested, PadTested, LimitTested, EntryTested, InsideTested, KeyTested, LengthsTested}
 
 -- a fact at each place
 pub by-place : (P : ℕ → Type 0) → P 0 → P 1 → P 2 → P 4 → (place : ℕ) → Place place → P place
@@ -294,6 +294,11 @@ total-tested placed net length most =
     (λ h. record { more = λ x. absurd (apart 2 0 1 refl refl x); whole = λ x. of-not (placed + net) length h }, λ S. not-of (placed + net) length (S .whole (inl refl)))
     (λ h. record { more = λ x. absurd (apart 4 0 1 refl refl x); whole = λ x. of-not (placed + net) length h }, λ S. not-of (placed + net) length (S .whole (inr refl)))
 
+-- a kind from 12 on carries no bytes
+carries-not : (k : ℕ) → ltb k 12 ≡ false → Carries k → ⊥
+carries-not k c (inl e) = omega (arith, ltb-false k 12 c)
+carries-not k c (inr e) = omega (arith, ltb-false k 12 c)
+
 not-bare : (n : ℕ) → eqb n 12 ≡ false → eqb n 19 ≡ false → eqb n 20 ≡ false → (n ≡ 12) ⊎ IsAtomic n → ⊥
 not-bare n x y z (inl e) = eqb-false n 12 x e
 not-bare n x y z (inr e) = apart n 19 20 y z e
@@ -310,6 +315,27 @@ lengths-tested p pmtu m most P = go
 
     pads : (b : Bool) → (ltb (p .raw) (p .pad) || b) ≡ false → p .pad ≤ p .raw
     pads b h = ltb-false (p .raw) (p .pad) (or-left (ltb (p .raw) (p .pad)) b h)
+
+    atomic : (k : ℕ) → ltb k 12 ≡ false → eqb k 12 ≡ false → IsAtomic k
+        → Says (lengthsOff (formed p k (p .place)) pmtu m most) (LengthsGood (formed p k (p .place)) pmtu m most)
+    atomic k c d s =
+        rw (c, d) (
+          λ h.
+              let a = or-right (ltb (p .raw) (p .pad)) _ h in
+              record {
+                pad = pads _ h;
+                full = λ x. absurd (carries-not k c x);
+                last = λ x. absurd (carries-not k c x);
+                only = λ x. absurd (carries-not k c x);
+                fits = λ x. absurd (carries-not k c (inl x));
+                more = λ x. absurd (carries-not k c (inr x));
+                whole = λ x. absurd (carries-not k c (inr x));
+                bare = λ x. of-not (p .raw) 0 (or-left (not (eqb (p .raw) 0)) _ a);
+                aligned = λ x. of-not (m .address % 8) 0 (or-right (not (eqb (p .raw) 0)) _ a);
+              },
+          λ L. neither (le-ltb (p .raw) (p .pad) (L .pad))
+              (neither (not-of (p .raw) 0 (L .bare (inr s))) (not-of (m .address % 8) 0 (L .aligned s))),
+        )
 
     go : Served (p .kind) → Says (lengthsOff p pmtu m most) (LengthsGood p pmtu m most)
     go (inl (inl e)) =
@@ -370,39 +396,5 @@ lengths-tested p pmtu m most P = go
               },
           λ L. neither (le-ltb (p .raw) (p .pad) (L .pad)) (neither (not-of (p .raw) 0 (L .bare (inl refl))) refl),
         )
-    go (inr (inr (inl e))) =
-        subst (λ k. Says (lengthsOff (formed p k (p .place)) pmtu m most) (LengthsGood (formed p k (p .place)) pmtu m most)) (sym e) (
-          λ h.
-              let a = or-right (ltb (p .raw) (p .pad)) _ h in
-              record {
-                pad = pads _ h;
-                full = λ c. absurd (apart 19 0 6 refl refl c);
-                last = λ c. absurd (apart 19 0 6 refl refl c);
-                only = λ c. absurd (apart 19 0 6 refl refl c);
-                fits = λ k. absurd (omega arith);
-                more = λ k. absurd (omega arith);
-                whole = λ k. absurd (omega arith);
-                bare = λ k. of-not (p .raw) 0 (or-left (not (eqb (p .raw) 0)) _ a);
-                aligned = λ k. of-not (m .address % 8) 0 (or-right (not (eqb (p .raw) 0)) _ a);
-              },
-          λ L. neither (le-ltb (p .raw) (p .pad) (L .pad))
-              (neither (not-of (p .raw) 0 (L .bare (inr (inl refl)))) (not-of (m .address % 8) 0 (L .aligned (inl refl)))),
-        )
-    go (inr (inr (inr e))) =
-        subst (λ k. Says (lengthsOff (formed p k (p .place)) pmtu m most) (LengthsGood (formed p k (p .place)) pmtu m most)) (sym e) (
-          λ h.
-              let a = or-right (ltb (p .raw) (p .pad)) _ h in
-              record {
-                pad = pads _ h;
-                full = λ c. absurd (apart 20 0 6 refl refl c);
-                last = λ c. absurd (apart 20 0 6 refl refl c);
-                only = λ c. absurd (apart 20 0 6 refl refl c);
-                fits = λ k. absurd (omega arith);
-                more = λ k. absurd (omega arith);
-                whole = λ k. absurd (omega arith);
-                bare = λ k. of-not (p .raw) 0 (or-left (not (eqb (p .raw) 0)) _ a);
-                aligned = λ k. of-not (m .address % 8) 0 (or-right (not (eqb (p .raw) 0)) _ a);
-              },
-          λ L. neither (le-ltb (p .raw) (p .pad) (L .pad))
-              (neither (not-of (p .raw) 0 (L .bare (inr (inr refl)))) (not-of (m .address % 8) 0 (L .aligned (inr refl)))),
-        )
+    go (inr (inr (inl e))) = atomic (p .kind) (ap (λ k. ltb k 12) e) (ap (λ k. eqb k 12) e) (inl e)
+    go (inr (inr (inr e))) = atomic (p .kind) (ap (λ k. ltb k 12) e) (ap (λ k. eqb k 12) e) (inr e)
