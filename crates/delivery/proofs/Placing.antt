@@ -90,7 +90,7 @@ module _ (s : Setup) (regions : List (List ℕ)) (f : SetupFit s) (t : Slot) (h 
       rw (ends-is s regions f t h under held U ∙ e)
       (record { kind = N .kind; placed = omega (arith, N .placed, net-is, z .0); address = N .address; key = N .key; length = N .length })
 
-  -- what is told at the end of a message that took an entry
+  -- what is told where a message with an entry ends
   module _ (e : Entry) (completing : completes (kindNumber (t .message .request)) (placeFor t) (cutPacket t .operands .immediate) ≡ (isLast t && takes (t .message .request)))
       (number : (isLast t && takes (t .message .request)) ≡ true → getD entry 0 0 ≡ e .number)
       (long : isLast t ≡ true → cond (eqb (kindNumber (t .message .request)) 0) (M .placed + netOf (cutPacket t)) (M .length) ≡ length (t .message .bytes)) where

@@ -35,7 +35,7 @@ pub record Run : Type 0 where
 abbrev pub reports : Completion → List Completion
 reports c = cond (c .some) (c ∷ []) []
 
--- Each call gets the pair and memory as the last one left them.
+-- A call goes on from what the one before has left, and nothing else writes there.
 unfoldable pub step : List Slot → Run → Call → Run
 step S x (Hand j out) =
     record {

@@ -15,11 +15,11 @@ use Rattle.request.specs.declared.Packet.{Packet}
 unfoldable pub carrying : ℕ → Bool
 carrying kind = ltb kind 12
 
--- Opcode sequence: a Middle or Last only in an open message of its kind, all else only with none open, which is 255
+-- Sequence: what begins a message comes while none is open, which is 255; a Middle or Last goes on with one of its kind
 unfoldable pub outOfSequence : ℕ → ℕ → ℕ → Bool
 outOfSequence under kind place = cond (starts place) (not (eqb under 255)) (not (eqb under kind))
 
--- Reserved, or function not enabled
+-- Function: one of the four, and switched on; a reserved opcode has none
 unfoldable pub notEnabled : Setup → ℕ → Bool
 notEnabled s kind =
     cond (eqb kind 0) (not (s .send))
@@ -28,15 +28,15 @@ notEnabled s kind =
     (cond (eqb kind 19) (not (s .atomic))
     (cond (eqb kind 20) (not (s .atomic)) true))))
 
--- Pad not 0 on First or Middle
+-- Pad: only where a message ends
 unfoldable pub padEarly : ℕ → ℕ → Bool
 padEarly place pad = not (ends place) && not (eqb pad 0)
 
--- DMA length over the limit
+-- Limit of the DMA length
 unfoldable pub overLimit : ℕ → Bool
 overLimit length = ltb memoryLimit length
 
--- An entry is needed by a SEND's First or Only, and by a WRITE with immediate
+-- Entry: wanted where a SEND begins, and by a WRITE's immediate
 unfoldable pub needsEntry : ℕ → ℕ → Bool → Bool
 needsEntry kind place immediate = cond (eqb kind 0) (starts place) immediate
 
@@ -84,17 +84,17 @@ keyFails memory kind m region =
 unfoldable pub spot : List ℕ → ℕ → ℕ → ℕ
 spot region address span = cond (eqb span 0) 0 (getD region 3 0 + (address - getD region 1 0))
 
--- Lengths. First and Middle carry a full PMTU, Last 1 to PMTU, Only 0 to PMTU
+-- Lengths. Before the end of a message the PMTU is filled; at its end there is no more than that, and in a Last something
 unfoldable pub sizeOff : ℕ → ℕ → ℕ → Bool
 sizeOff place pmtu net = cond (ends place) ((eqb place 2 && eqb net 0) || ltb pmtu net) (not (eqb net pmtu))
 
--- a SEND fits its entry; a WRITE's payloads add up to its DMA length, and leave some of it before the last
+-- a SEND stays within its entry; a WRITE reaches its DMA length with its last packet, and not before
 unfoldable pub totalOff : ℕ → ℕ → ℕ → ℕ → ℕ → ℕ → Bool
 totalOff kind place placed net length most =
     cond (eqb kind 0) (ltb most (placed + net))
     (cond (ends place) (not (eqb (placed + net) length)) (not (ltb (placed + net) length)))
 
--- READ and atomics carry nothing; an atomic's address is a multiple of 8
+-- all other kinds are bare, and atomics aligned to 8 bytes
 unfoldable pub bareOff : ℕ → ℕ → ℕ → Bool
 bareOff kind raw address = not (eqb raw 0) || (not (eqb kind 12) && not (eqb (address % 8) 0))
 

@@ -72,7 +72,7 @@ acknowledging answer psn syndrome = still answer 16 psn syndrome 0
 abbrev pub ackSyndrome : ℕ
 ackSyndrome = 31
 
--- Ahead: 5 if the NAK mark is set, else 16 with the expected PSN
+-- Ahead: the first time a sequence NAK with the expected PSN, while the mark stands nothing
 unfoldable pub aheadDecision : Bool → Psn → Decision
 aheadDecision mark expected = cond mark (quietly status.Dropped) (acknowledging status.SequenceNak expected 96)
 
@@ -83,7 +83,7 @@ failed code psn timer =
     (cond (eqb code 18) (acknowledging status.AccessNak psn 98)
     (cond (eqb code 19) (acknowledging status.NotReadyNak psn (32 + timer)) (quietly status.OutOfRange)))
 
--- A completion: of a SEND at its end, of a WRITE with immediate at its end; a WRITE's byte count is its DMA length
+-- A completion comes with the packet that ends a SEND, or a WRITE that has an immediate; a WRITE counts its DMA length
 unfoldable pub completes : ℕ → ℕ → Bool → Bool
 completes kind place immediate = ends place && (eqb kind 0 || immediate)
 
@@ -198,12 +198,12 @@ unfoldable pub expectedDecision : Packet → Setup → OpenMessage → ℕ → L
 expectedDecision p s under count entry region =
     settled (expectedCode s under p count entry region) p s under entry region
 
--- Duplicates. SEND or WRITE: ACK with PSN expected minus 1
+-- A repeated SEND or WRITE is acknowledged up to the PSN before the expected one
 unfoldable pub psnBefore : Psn → Psn
 psnBefore psn = psnAfter psn 16777215
 
--- READ: answered afresh if enabled, within the limit, without payload or pad, key good, and its responses end before the
--- expected PSN
+-- A repeated READ is not answered if reading is off, if it names too many bytes or carries any, if its key does not hold
+-- them, or if a response would have the expected PSN or a later one
 unfoldable pub againFails : Packet → Setup → OpenMessage → Psn → List ℕ → Bool
 againFails p s m expected region =
     notEnabled s 12
@@ -217,7 +217,7 @@ readAgain p s m expected region =
     cond (againFails p s m expected region) (quietly status.Dropped)
     (reading status.DuplicateAnswered noMessage (spot region (m .address) (m .length)) (m .length) 0 false (pieces (m .length) (s .pmtu)) (p .psn))
 
--- Atomic: the value saved, or 5
+-- A repeated atomic is answered from what was saved, or not at all
 abbrev pub atomicAgain : Saved → Psn → Decision
 atomicAgain (Value v) psn = still status.DuplicateAnswered 24 psn ackSyndrome v
 atomicAgain Nothing psn = quietly status.Dropped
