@@ -24,18 +24,19 @@ use Rattle.pair.specs.Claims.{Sound}
 use Rattle.pair.specs.declared.Setup.{Setup}
 use Rattle.pair.specs.declared.OpenMessage.{OpenMessage}
 use Rattle.pair.specs.declared.Pair.{Pair}
+use Rattle.pair.specs.Pair.{noMessage}
 use Rattle.pair.specs.declared.Status.the-variants as status
 use Rattle.pair.proofs.Known.{sound}
 use Rattle.request.specs.Packet.{packetOf}
-use Rattle.request.specs.Verdict.{carrying, outOfSequence, notEnabled, padEarly, overLimit, noneWaiting, entryOutside, rightOf, lacks, keySpan, keyLacking, keyFails, lengthsOff, current, requestCode, expectedCode}
+use Rattle.request.specs.Verdict.{spot, carrying, outOfSequence, notEnabled, padEarly, overLimit, noneWaiting, entryOutside, rightOf, lacks, keySpan, keyLacking, keyFails, lengthsOff, current, requestCode, expectedCode}
 use Rattle.request.specs.Claims.{Place, Carries, IsAtomic, Served, KeyGood, IsCurrent, Says, JudgedBy}
 use Rattle.request.proofs.Conditions.{limit-tested, key-tested}
 use Rattle.request.proofs.Order.{current-one, order}
 use Rattle.request.proofs.Taken.{any-place}
 use Rattle.request.specs.declared.Packet.{Packet}
-use Rattle.responder.specs.Decide.{quietly, acknowledging, aheadDecision, failed, placing, swapping, accepting, executing, settled, expectedDecision, againFails, readAgain, isAtomic, duplicateDecision, regionFor, headEntry, classed, packetDecision, readsFull, inboundRefusal, decided}
+use Rattle.responder.specs.Decide.{reading, quietly, acknowledging, aheadDecision, failed, placing, swapping, accepting, executing, settled, expectedDecision, againFails, readAgain, isAtomic, duplicateDecision, regionFor, headEntry, classed, packetDecision, readsFull, inboundRefusal, decided}
 use Rattle.responder.specs.Inbound.{outcomeBy, decision, inbound}
-use Rattle.responder.specs.Answers.{Willing, headerBy, HeaderDropped, firstEntry, Expects, Aheads, Again, Repeats, Classed, HeaderPassed}
+use Rattle.responder.specs.Answers.{Willing, headerBy, HeaderDropped, firstEntry, Expects, Aheads, Again, Repeats, Classed, HeaderPassed, SentAgain, RepeatedSent}
 use Rattle.responder.proofs.Codes.{Codes, codes}
 
 -- nothing refuses the call
@@ -328,6 +329,32 @@ packet-by q regions entries rows k t S P K C =
           λ e. subst (λ d. Repeats q regions rows k t (statusNumber (d .status))) (sym (classed-by q regions entries rows k class.Duplicate e))
           (duplicate-by q regions rows k t K (sym (current-one (q .message) k t P C)));
     }
+
+-- what is sent again
+read-sent : (k : Packet) (q : Pair) (t : OpenMessage) (region : List ℕ) → readAgain k (q .setup) t (q .expected) region .sent ≡ 0
+unfolding readAgain quietly
+read-sent k q t region = go (againFails k (q .setup) t (q .expected) region)
+  where
+    go : (b : Bool) → cond b (quietly status.Dropped) (reading status.DuplicateAnswered noMessage (spot region (t .address) (t .length)) (t .length) 0 false (pieces (t .length) (q .setup .pmtu)) (k .psn)) .sent ≡ 0
+    go true = refl
+    go false = refl
+
+sent-by : (q : Pair) (rows : List (List ℕ)) (k : Packet) (t : OpenMessage) (region : List ℕ)
+    → SentAgain q rows k (duplicateDecision k (q .setup) (q .expected) t region (newestSaved (k .psn .0) rows (q .saved)) .sent)
+unfolding duplicateDecision acknowledging
+sent-by q rows k t region =
+    record {
+      carried = λ c. rw (carry (k .kind) c);
+      reads = λ r. rw (bare (k .kind) (omega arith), eq-eqb (k .kind) 12 r) (read-sent k q t region);
+      found = λ a v f. let h = high (k .kind) a in rw (bare (k .kind) (omega arith), ne-eqb (k .kind) 12 (λ z. omega arith), atomic-is (k .kind) a, f);
+    }
+
+pub repeated-sent : RepeatedSent
+unfolding inbound outcomeBy decision decided
+repeated-sent q regions entries saved m p out W h e c =
+    rw (goes q m out W, e)
+    (subst (λ d. SentAgain q saved (packetOf h (length p)) (d .sent)) (sym (classed-by q regions entries saved (packetOf h (length p)) class.Duplicate c))
+    (sent-by q saved (packetOf h (length p)) (current (q .message) (packetOf h (length p))) _))
 
 pub header-passed : HeaderPassed
 unfolding packetOf

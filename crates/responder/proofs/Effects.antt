@@ -24,6 +24,7 @@ use Rattle.table.specs.Table.{slotAt}
 use Rattle.table.specs.View.{regionOf, savedRing, savedRows}
 use Rattle.pair.specs.Answer.{statusNumber, executed}
 use Rattle.pair.specs.Claims.{statusOf}
+use Rattle.pair.specs.Pair.{noMessage}
 use Rattle.pair.specs.declared.Pair.{Pair}
 use Rattle.pair.specs.declared.Status.{Status}
 use Rattle.pair.specs.declared.Status.the-variants as status
@@ -187,7 +188,7 @@ module _ (q : Pair) (regions saved : List (List ℕ)) (m p out : List ℕ) where
       omega (arith, length-take (length p - s - headerOf p .bth .pad) (drop s p))
 
   -- what a message's end does
-  message-by : (t : OpenMessage) (spot net : ℕ) → 2 ≤ spot → grown spot t net .kind ≡ 255
+  message-by : (t : OpenMessage) (spot net : ℕ) → 2 ≤ spot → grown spot t net ≡ noMessage
   unfolding grown ends
   message-by t spot net h = rw (le-leb 2 spot h)
 
@@ -218,7 +219,7 @@ module _ (q : Pair) (regions saved : List (List ℕ)) (m p out : List ℕ) where
         executed = subst (Executes q) (sym e) (executes-by d);
         expected = ap (λ x. x .expected) e;
         memory = (d .at, omega (arith, w, payload-most), ap (placed m (d .at)) payload-by);
-        ends = λ h. (ap (λ x. x .msn) e ∙ ended (k .place) h, ap (λ x. x .message .kind) e ∙ message-by t (k .place) (netOf k) h);
+        ends = λ h. (ap (λ x. x .msn) e ∙ ended (k .place) h, ap (λ x. x .message) e ∙ message-by t (k .place) (netOf k) h);
         onward = λ h. (ap (λ x. x .msn) e ∙ goes-on (k .place) h, silent-by k t (getD entry 0 0) h);
         completes = λ h. ap (λ x. x .entries) e ∙ entries-by (d .completion .some) true h;
         silent = λ h. ap (λ x. x .entries) e ∙ entries-by (d .completion .some) false h;

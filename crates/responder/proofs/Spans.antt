@@ -21,13 +21,13 @@ use Rattle.header.specs.declared.HeaderRead.{HeaderRead}
 use Rattle.header.specs.declared.HeaderRead.the-variants as read
 use Rattle.header.proofs.Reasons.{accepted-by}
 use Rattle.memory.specs.Memory.{put, placed}
-use Rattle.memory.specs.Word.{fetchAdded, swapped}
+use Rattle.memory.specs.Word.{wordAt, fetchAdded, swapped}
 use Rattle.memory.specs.Claims.{OnlyWord}
 use Rattle.memory.proofs.Put.{length-placed, placed-before, placed-after}
 use Rattle.memory.proofs.Words.{fetch-within, swap-within}
 use Rattle.packet.specs.Packet.{payloadOf}
 use Rattle.pieces.specs.Pieces.{ends}
-use Rattle.table.specs.View.{regionOf, newestSaved}
+use Rattle.table.specs.View.{regionOf, newestSaved, savedRows}
 use Rattle.table.specs.declared.Saved.{Saved}
 use Rattle.table.specs.declared.Saved.the-variants.{Value, Nothing}
 use Rattle.pair.specs.Answer.{statusNumber, executed}
@@ -46,7 +46,7 @@ use Rattle.request.proofs.Taken.{any-place}
 use Rattle.request.specs.declared.Packet.{Packet}
 use Rattle.responder.specs.declared.Decision.{Decision}
 use Rattle.responder.specs.Decide.{quietly, acknowledging, aheadDecision, failed, againFails, completes, completionOf, grown, placeOf, placing, swapping, accepting, executing, settled, expectedDecision, readAgain, atomicAgain, isAtomic, duplicateDecision, regionFor, headEntry, classed, packetDecision, orDrop, inboundRefusal, decided}
-use Rattle.responder.specs.Apply.{memoryBy, executedPair, after, pairBy}
+use Rattle.responder.specs.Apply.{actsAtomic, savedBy, memoryBy, executedPair, after, pairBy}
 use Rattle.responder.specs.Inbound.{outcomeBy, decision, inbound, inboundMemory, inboundSaved, inboundOut}
 use Rattle.responder.specs.Effects.{Silent}
 use Rattle.responder.specs.Answers.{firstEntry, OnlyBytes, Completes, Puts, packetIn, InboundPuts, OnRegion, InboundSwaps}
@@ -57,6 +57,12 @@ use Rattle.responder.proofs.Rows.Quiet.{dropped, short, range, unfinish
 use Rattle.responder.proofs.Rows.{Quiet, refusal-quiet, passed}
 use Rattle.responder.proofs.Effects.{silent, leftBy}
 use Rattle.responder.proofs.Answers.{head-first, code-by, high}
+
+-- either act of an atomic is one
+acts : (b : Bool) → actsAtomic (cond b 2 3) ≡ true
+unfolding actsAtomic
+acts true = refl
+acts false = refl
 
 -- every decision but those that place a payload or execute an atomic has another answer
 abbrev Other : ℕ → Type 0
@@ -459,11 +465,18 @@ module _ (q : Pair) (regions entries saved : List (List ℕ)) (m p : List ℕ) (
   swap-memory e =
       rw (ne-eqb (k .kind) 20 (λ x. omega arith)) (ap (λ x. swapped m x (k .operands .compare) (k .operands .swap)) (at-word (inl e)))
 
+  -- what it was is saved
+  saved-word : IsAtomic (k .kind) → savedBy (q .saved) E saved m ≡ savedRows saved (q .saved) (k .psn .0) (wordAt m at)
+  unfolding savedBy swapping
+  saved-word a =
+      ap (λ b. cond b (savedRows saved (q .saved) (k .psn .0) (wordAt m (spot (regionBy q regions k) (M .address) (M .length)))) saved) (acts (eqb (k .kind) 20))
+      ∙ ap (λ x. savedRows saved (q .saved) (k .psn .0) (wordAt m x)) (at-word a)
+
   one-word : IsAtomic (k .kind) → OnlyWord m (memoryBy E m p) at
   one-word (inl e) = subst (λ x. OnlyWord m x at) (sym (swap-memory e)) (swap-within m at (k .operands .compare) (k .operands .swap))
   one-word (inr e) = subst (λ x. OnlyWord m x at) (sym (fetch-memory e)) (fetch-within m at (k .operands .swap))
 
-  swaps-by : carrying (k .kind) ≡ false → eqb (k .kind) 12 ≡ false → OnRegion word (q .setup .memory) k m (memoryBy E m p)
+  swaps-by : carrying (k .kind) ≡ false → eqb (k .kind) 12 ≡ false → OnRegion word q k m (memoryBy E m p) saved (savedBy (q .saved) E saved m)
   swaps-by c r =
       let T = judged .only refl in
       let a = which-atomic (q .setup) (k .kind) (T .1) c r in
@@ -474,6 +487,7 @@ module _ (q : Pair) (regions entries saved : List (List ℕ)) (m p : List ℕ) (
         gives = G;
         fetch = fetch-memory;
         swap = swap-memory;
+        saved = saved-word a;
         only =
             only-by m (memoryBy E m p) at 8 (getD word 3 0) (getD word 2 0) (O .kept) (O .before) (O .after) (omega arith)
             (omega (arith, G .from, G .to));
@@ -498,7 +512,7 @@ module _ (q : Pair) (regions entries saved : List (List ℕ)) (m p out : List �
   low-number false e = omega arith
 
   swaps-way : (d : Decision) → Way q regions entries (packetIn p) d → statusNumber (d .status) ≡ 3
-      → OnRegion (regionOf (packetIn p .operands .key) regions) (q .setup .memory) (packetIn p) m (memoryBy d m p)
+      → OnRegion (regionOf (packetIn p .operands .key) regions) q (packetIn p) m (memoryBy d m p) saved (savedBy (q .saved) d saved m)
   unfolding placing
   swaps-way d (away e (inl x)) y = absurd (omega arith)
   swaps-way d (away e (inr x)) y = absurd (omega arith)
@@ -518,7 +532,7 @@ inbound-puts q regions entries saved m p out t C h =
     (puts-way q regions entries saved m p out w d (decided-way q regions entries saved (length m) p (length out)) h)
 
 pub inbound-swaps : InboundSwaps
-unfolding inbound inboundMemory decision outcomeBy
+unfolding inbound inboundMemory inboundSaved decision outcomeBy
 inbound-swaps q regions entries saved m p out h =
     let d = decided q regions entries saved (length m) p (length out) in
     let w = inbound-meant q regions entries saved m p out (omega (arith, h)) .1 in

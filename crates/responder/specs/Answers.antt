@@ -16,10 +16,10 @@ use Rattle.header.specs.declared.Header.{Header}
 use Rattle.header.specs.declared.HeaderRead.{HeaderRead}
 use Rattle.header.specs.declared.HeaderRead.the-variants as read
 use Rattle.memory.specs.Memory.{placed}
-use Rattle.memory.specs.Word.{fetchAdded, swapped}
+use Rattle.memory.specs.Word.{wordAt, fetchAdded, swapped}
 use Rattle.packet.specs.Packet.{payloadOf}
 use Rattle.pieces.specs.Pieces.{pieces}
-use Rattle.table.specs.View.{regionOf, newestSaved}
+use Rattle.table.specs.View.{regionOf, newestSaved, savedRows}
 use Rattle.table.specs.declared.Saved.the-variants.{Value, Nothing}
 use Rattle.pair.specs.Answer.{statusNumber}
 use Rattle.pair.specs.Claims.{Sound}
@@ -100,6 +100,20 @@ HeaderPassed =
     → (h : Header) → headerBy q p ≡ read.Accepted h
     → (t : OpenMessage) → IsCurrent (q .message) (packetOf h (length p)) t
     → Classed q regions entries saved (packetOf h (length p)) t (statusNumber (inbound q regions entries saved m p out .status))
+
+-- What a PSN that was is answered with, by the kind of the packet: an ACK of 16 bytes, nothing but responses to come, a
+-- saved value in 24 bytes. InboundReplies says what stands in them.
+pub record SentAgain (q : Pair) (saved : List (List ℕ)) (k : Packet) (sent : ℕ) : Type 0 where
+  pub carried : Carries (k .kind) → sent ≡ 16
+  pub reads : k .kind ≡ 12 → sent ≡ 0
+  pub found : IsAtomic (k .kind) → (v : ℕ) → newestSaved (k .psn .0) saved (q .saved) ≡ Value v → sent ≡ 24
+
+abbrev pub RepeatedSent : Type 0
+RepeatedSent =
+    (q : Pair) (regions entries saved : List (List ℕ)) (m p out : List ℕ) → Willing q m out
+    → (h : Header) → headerBy q p ≡ read.Accepted h
+    → psnClass (packetOf h (length p) .psn .0) (q .expected .0) ≡ class.Duplicate
+    → SentAgain q saved (packetOf h (length p)) (inbound q regions entries saved m p out .sent)
 
 -- The packet as numbers, whether or not its header passes.
 abbrev pub packetIn : List ℕ → Packet
@@ -194,17 +208,20 @@ InboundPuts =
     → Puts q regions entries m p (packetIn p) t (inboundLeft q regions entries saved m p out)
 
 -- Answer 3: the word lies in the region of the atomic's key, which has the right, at the atomic's address, a multiple of 8.
-pub record OnRegion (region : List ℕ) (memory : ℕ) (k : Packet) (old new : List ℕ) : Type 0 where
+-- What it was is saved with the PSN, so by InboundReplies it is also what was answered.
+pub record OnRegion (region : List ℕ) (q : Pair) (k : Packet) (old new : List ℕ) (rows kept : List (List ℕ)) : Type 0 where
   pub kind : IsAtomic (k .kind)
-  pub gives : Gives region 6 memory (k .operands .address) 8
+  pub gives : Gives region 6 (q .setup .memory) (k .operands .address) 8
   pub fetch : k .kind ≡ 20
       → new ≡ fetchAdded old (getD region 3 0 + (k .operands .address - getD region 1 0)) (k .operands .swap)
   pub swap : k .kind ≡ 19
       → new ≡ swapped old (getD region 3 0 + (k .operands .address - getD region 1 0)) (k .operands .compare) (k .operands .swap)
+  pub saved :
+      kept ≡ savedRows rows (q .saved) (k .psn .0) (wordAt old (getD region 3 0 + (k .operands .address - getD region 1 0)))
   pub only : OnlyBytes old new (getD region 3 0) (getD region 2 0)
 
 abbrev pub InboundSwaps : Type 0
 InboundSwaps =
     (q : Pair) (regions entries saved : List (List ℕ)) (m p out : List ℕ) → Says q regions entries saved m p out 3
-    → OnRegion (regionOf (packetIn p .operands .key) regions) (q .setup .memory) (packetIn p) m
-    (inboundLeft q regions entries saved m p out .memory)
+    → OnRegion (regionOf (packetIn p .operands .key) regions) q (packetIn p) m (inboundLeft q regions entries saved m p out .memory) saved
+    (inboundLeft q regions entries saved m p out .saved)

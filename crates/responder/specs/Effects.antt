@@ -139,7 +139,7 @@ pub record Places (q : Pair) (rows : List (List ℕ)) (bytes p : List ℕ) (l : 
   pub executed : Executes q (l .pair)
   pub expected : l .pair .expected ≡ psnAfter (q .expected) 1
   pub memory : (at : ℕ) × (at + length (payloadOf p) ≤ q .setup .memory) × (l .memory ≡ placed bytes at (payloadOf p))
-  pub ends : 2 ≤ classOf (bthOf p .opcode) .place → (l .pair .msn ≡ msnNext (q .msn)) × (l .pair .message .kind ≡ 255)
+  pub ends : 2 ≤ classOf (bthOf p .opcode) .place → (l .pair .msn ≡ msnNext (q .msn)) × (l .pair .message ≡ (record { kind = 255; placed = 0; address = 0; key = 0; length = 0 }))
   pub onward : classOf (bthOf p .opcode) .place < 2 → (l .pair .msn ≡ q .msn) × Silent (l .completion)
   pub completes : l .completion .some ≡ true → l .pair .entries ≡ (record { head = (q .entries .head + 1) % 16; count = q .entries .count - 1 })
   pub silent : l .completion .some ≡ false → l .pair .entries ≡ q .entries
