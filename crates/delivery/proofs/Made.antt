@@ -15,9 +15,10 @@ use Rattle.pair.specs.Calls.HostCall.{SetUp, Reset, MakeReady, AddRegion, Remov
 use Rattle.pair.specs.Claims.{AllAccepted, SetupSound, Sound}
 use Rattle.pair.specs.declared.Setup.{Setup}
 use Rattle.pair.specs.declared.Pair.{Pair}
-use Rattle.pair.proofs.Begin.{set-up-pair, ready-pair, ready-wrong}
+use Rattle.pair.proofs.Begin.{reset-pair, reset-regions, set-up-regions, set-up-pair, ready-pair, ready-wrong}
 use Rattle.pair.proofs.Kept.{begun-sound, calls-sound}
-use Rattle.delivery.specs.Made.{NotSetUp, NoneSetUp, FreshMade, ReadyMade}
+use Rattle.delivery.specs.Made.{NotSetUp, NoneSetUp, FreshMade, ReadyMade, FreshReset}
+use Rattle.delivery.specs.Demand.{Fresh}
 
 -- nothing was delivered, and the pair is not in Error
 record Idle (s : Setup) (q : Pair) : Type 0 where
@@ -102,3 +103,20 @@ ready-made s regions entries saved calls h e l none =
     go : (q : Pair) (b : Bool) → eqb (q .state) 0 ≡ b → q .state ≤ 1 → Sound q → madeReady q .pair .state ≡ 1
     go q true t i S = ap (λ x. x .state) (ready-pair q (eqb-true (q .state) 0 t) S)
     go q false t i S = ap (λ x. x .state) (ready-wrong q (eqb-false (q .state) 0 t) .1) ∙ omega (arith, eqb-false (q .state) 0 t)
+
+-- reset leaves what set-up leaves
+reset-begins : (w : Whole) → SetupSound (w .pair .setup) → called w Reset ≡ begun (w .pair .setup) (w .regions) (w .entries) (w .saved)
+unfolding called begun
+reset-begins w h =
+    λ i.
+    record {
+      pair = (reset-pair (w .pair) h ∙ sym (set-up-pair (w .pair .setup) h)) i;
+      regions = (reset-regions (w .pair) (w .regions) h ∙ sym (set-up-regions (w .pair .setup) (w .regions) h)) i;
+      entries = w .entries;
+      saved = w .saved;
+    }
+
+pub fresh-reset : FreshReset
+fresh-reset w calls h r e l none =
+    subst (λ b. (calledAll b calls .pair .setup ≡ w .pair .setup) × (calledAll b calls .pair .state ≡ 1 → Fresh (calledAll b calls)))
+    (sym (reset-begins w h)) (fresh-made (w .pair .setup) (w .regions) (w .entries) (w .saved) calls h r e l none)

@@ -122,8 +122,8 @@ pub record Near (x y : ℕ) : Type 0 where
   pub behind : y ≤ x + 8388607
   pub ahead : x ≤ y + 8388607
 
--- What is asked of a call, at the state p of the plain run. A packet handed in is one of the stream and, where the call is
--- not refused, near the one that packet k has or would have.
+-- What is asked of a call, at the state p of the plain run. A packet handed in is one of the stream; where the call is not
+-- refused, its number is near the one of packet k, which may be the next after the last.
 pub record Handed (s : Setup) (S : List Slot) (p : Plain) (j : ℕ) (out : List ℕ) : Type 0 where
   pub inside : j < length S
   pub near : 24 ≤ length out → length (p .memory) ≡ s .memory → p .r ≡ 0 → Near (along S j) (along S (p .k))

@@ -3,7 +3,7 @@ use Prim.Native.Nat.{ℕ}
 use mathlib.Core.Path.{_≡_}
 use mathlib.Core.List.{List, [], _∷_}
 use lib.ListN.{length}
-use Rattle.pair.specs.Calls.{HostCall, begun, called, calledAll}
+use Rattle.pair.specs.Calls.{Whole, HostCall, begun, called, calledAll}
 use Rattle.pair.specs.Calls.HostCall.{SetUp, Reset, MakeReady, AddRegion, RemoveRegion, PostEntry}
 use Rattle.pair.specs.Claims.{SetupSound}
 use Rattle.pair.specs.declared.Setup.{Setup}
@@ -40,3 +40,14 @@ ReadyMade =
     → length saved ≡ 16
     → NoneSetUp calls
     → called (calledAll (begun s regions entries saved) calls) MakeReady .pair .state ≡ 1
+
+-- So it is after a reset, whatever the pair has received and its tables hold.
+abbrev pub FreshReset : Type 0
+FreshReset =
+    (w : Whole) (calls : List HostCall) → SetupSound (w .pair .setup)
+    → w .pair .setup .service ≡ 0
+    → length (w .entries) ≡ 16
+    → length (w .saved) ≡ 16
+    → NoneSetUp calls
+    → let v = calledAll (called w Reset) calls in
+    (v .pair .setup ≡ w .pair .setup) × (v .pair .state ≡ 1 → Fresh v)

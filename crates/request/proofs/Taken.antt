@@ -88,25 +88,25 @@ module _ (bytes : List ℕ) (n : ℕ) (p : Packet) (kind place : ℕ) where
   unfolding operandsOf extensionOf
   alone e =
       subst (λ p. Form p kind place 12 false 0 × NoOperands (p .operands)) (sym e)
-      (record { kinds = refl; places = refl; starts = refl; flag = refl; values = refl }, record { address = refl; key = refl; length = refl })
+      (record { kinds = refl; places = refl; starts = refl; flag = refl; values = refl }, record { address = refl; key = refl; length = refl; swap = refl; compare = refl })
 
   immediate : p ≡ numbers (class kind place 3 16) bytes n → Form p kind place 16 true (be4 bytes 12) × NoOperands (p .operands)
   unfolding operandsOf extensionOf
   immediate e =
       subst (λ p. Form p kind place 16 true (be4 bytes 12) × NoOperands (p .operands)) (sym e)
-      (record { kinds = refl; places = refl; starts = refl; flag = refl; values = refl }, record { address = refl; key = refl; length = refl })
+      (record { kinds = refl; places = refl; starts = refl; flag = refl; values = refl }, record { address = refl; key = refl; length = refl; swap = refl; compare = refl })
 
   remote : p ≡ numbers (class kind place 1 28) bytes n → Form p kind place 28 false 0 × FromReth bytes (p .operands)
   unfolding operandsOf extensionOf
   remote e =
       subst (λ p. Form p kind place 28 false 0 × FromReth bytes (p .operands)) (sym e)
-      (record { kinds = refl; places = refl; starts = refl; flag = refl; values = refl }, record { address = refl; key = refl; length = refl })
+      (record { kinds = refl; places = refl; starts = refl; flag = refl; values = refl }, record { address = refl; key = refl; length = refl; swap = refl; compare = refl })
 
   both : p ≡ numbers (class kind place 2 32) bytes n → Form p kind place 32 true (be4 bytes 28) × FromReth bytes (p .operands)
   unfolding operandsOf extensionOf
   both e =
       subst (λ p. Form p kind place 32 true (be4 bytes 28) × FromReth bytes (p .operands)) (sym e)
-      (record { kinds = refl; places = refl; starts = refl; flag = refl; values = refl }, record { address = refl; key = refl; length = refl })
+      (record { kinds = refl; places = refl; starts = refl; flag = refl; values = refl }, record { address = refl; key = refl; length = refl; swap = refl; compare = refl })
 
   atomic : p ≡ numbers (class kind place 4 40) bytes n → Form p kind place 40 false 0 × FromAtomic bytes (p .operands)
   unfolding operandsOf extensionOf

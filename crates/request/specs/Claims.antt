@@ -219,11 +219,15 @@ pub record NoOperands (o : Operands) : Type 0 where
   pub address : o .address ≡ 0
   pub key : o .key ≡ 0
   pub length : o .length ≡ 0
+  pub swap : o .swap ≡ 0
+  pub compare : o .compare ≡ 0
 
 pub record FromReth (bytes : List ℕ) (o : Operands) : Type 0 where
   pub address : o .address ≡ rethOf bytes .address
   pub key : o .key ≡ rethOf bytes .key
   pub length : o .length ≡ rethOf bytes .length
+  pub swap : o .swap ≡ 0
+  pub compare : o .compare ≡ 0
 
 pub record FromAtomic (bytes : List ℕ) (o : Operands) : Type 0 where
   pub address : o .address ≡ atomicOf bytes .address

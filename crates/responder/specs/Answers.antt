@@ -79,7 +79,7 @@ pub record Again (q : Pair) (regions : List (List ℕ)) (k : Packet) (t : OpenMe
   pub key : GivesRest (regionOf (t .key) regions) 5 (q .setup .memory) t
   pub before : pieces (t .length) (q .setup .pmtu) ≤ distance (q .expected .0) (k .psn .0)
 
--- A PSN that was: SEND and WRITE 4, a READ that is answered again 4, an atomic whose value is saved 4; all else 5.
+-- A repeated packet: SEND and WRITE 4, a READ that is answered again 4, an atomic whose value is saved 4; all else 5.
 pub record Repeats (q : Pair) (regions saved : List (List ℕ)) (k : Packet) (t : OpenMessage) (number : ℕ) : Type 0 where
   pub carried : Carries (k .kind) → number ≡ 4
   pub reads : k .kind ≡ 12 → Again q regions k t → number ≡ 4
@@ -101,7 +101,7 @@ HeaderPassed =
     → (t : OpenMessage) → IsCurrent (q .message) (packetOf h (length p)) t
     → Classed q regions entries saved (packetOf h (length p)) t (statusNumber (inbound q regions entries saved m p out .status))
 
--- What a PSN that was is answered with, by the kind of the packet: an ACK of 16 bytes, nothing but responses to come, a
+-- What a repeated packet is answered with, by the kind of the packet: an ACK of 16 bytes, nothing but responses to come, a
 -- saved value in 24 bytes. InboundReplies says what stands in them.
 pub record SentAgain (q : Pair) (saved : List (List ℕ)) (k : Packet) (sent : ℕ) : Type 0 where
   pub carried : Carries (k .kind) → sent ≡ 16
@@ -119,8 +119,7 @@ RepeatedSent =
 abbrev pub packetIn : List ℕ → Packet
 packetIn p = packetOf (headerOf p) (length p)
 
--- And back: each answer of a call that is not refused has its reason.
--- Why a PSN that was is answered again, and how a packet comes: its header passes, and the class of its PSN.
+-- Why a repeated packet is answered again, and how a packet comes: its header passes, and the class of its PSN.
 abbrev pub Recalled : Pair → List (List ℕ) → List (List ℕ) → Packet → OpenMessage → Type 0
 Recalled q regions saved k t =
     Carries (k .kind)
@@ -148,6 +147,7 @@ pub data Reason (q : Pair) (regions entries saved : List (List ℕ)) (p : List �
   accepted : Examined q regions entries p t 0 → packetIn p .kind ≡ 12 → Reason q regions entries saved p t 2
   exchanged : Examined q regions entries p t 0 → IsAtomic (packetIn p .kind) → Reason q regions entries saved p t 3
 
+-- And back: each answer of a call that is not refused has its reason.
 abbrev pub InboundReason : Type 0
 InboundReason =
     (q : Pair) (regions entries saved : List (List ℕ)) (m p out : List ℕ) → Willing q m out

@@ -133,7 +133,7 @@ placing p m entry region =
       value = 0;
     }
 
--- CmpSwap and FetchAdd; no message is open, and the one under way stays so
+-- CmpSwap and FetchAdd; that no message is open stays as it is
 unfoldable pub swapping : Packet → OpenMessage → OpenMessage → List ℕ → Decision
 swapping p m under region =
     record {
