@@ -4,12 +4,12 @@ use mathlib.Core.Path.{_≡_, refl, sym, ap, subst, _∙_}
 use mathlib.Core.Bool.{Bool, true, false, cond, _&&_, _||_, true≢false}
 use mathlib.Core.List.{List, [], _∷_, _++_, map}
 use native.Mathlib.Omega.{arith}
-use lib.Dec.{leb, eqb}
-use lib.ListN.{length, getD, take, drop, take-append-drop}
+use lib.Dec.{eqb}
+use lib.ListN.{length, getD, take, drop}
 use borrow.Author.Tests.{eqb-true, eqb-false}
 use Rattle.laws.proofs.Auto.{tests}
 use Rattle.memory.specs.Memory.{put, placed}
-use Rattle.memory.proofs.Put.{placed-put}
+use Rattle.memory.proofs.Put.{placed-put, put-none, placed-none}
 use Rattle.pieces.specs.Pieces.{ends, pieceAt}
 use Rattle.table.specs.View.{inRing, regionOf}
 use Rattle.table.specs.declared.Entry.{Entry}
@@ -35,28 +35,6 @@ use Rattle.delivery.proofs.Entries.{entries-by, count-is, head-is}
 use Rattle.delivery.proofs.Effects.{Does, under-next}
 use Rattle.delivery.proofs.Requests.{Carries, Writes}
 use Rattle.delivery.proofs.Placing.{placing-told, placing-answers, placing-reads, placing-bytes, length-piece, grown-last, grown-more}
-
--- no bytes change nothing, wherever they go
-no-bytes : (d : List ℕ) → length d ≡ 0 → d ≡ []
-no-bytes [] e = refl
-no-bytes (b ∷ d) e = absurd (omega arith)
-
-put-none : (m : List ℕ) (at : ℕ) → put m at [] ≡ m
-unfolding put
-put-none m at =
-    let e : at + 0 ≡ at = omega arith in
-    ap (λ k. take at m ++ drop k m) e ∙ take-append-drop at m
-
-placed-none : (m : List ℕ) (at : ℕ) → placed m at [] ≡ m
-unfolding placed
-placed-none m at = go (leb (at + 0) (length m))
-  where
-    go : (b : Bool) → cond b (put m at []) m ≡ m
-    go true = put-none m at
-    go false = refl
-
-none-placed : (m : List ℕ) (at to : ℕ) (d : List ℕ) → length d ≡ 0 → placed m at d ≡ put m to d
-none-placed m at to d e = rw (no-bytes d e) (placed-none m at ∙ sym (put-none m to))
 
 -- a message that took the entry at the head
 head-taken : (es : List Entry) → none es ≡ false → (firstOf (take 1 es) ≡ firstOf es) × (1 ≤ length es)
@@ -187,7 +165,7 @@ module _ (ms : List Message) (S : List Slot) (p : Plain) (x : Run) (L : Link ms 
     where
       go : (b : Bool) → eqb (length (t .message .bytes)) 0 ≡ b
           → placed (p .memory) (placeOf 6 M entry (regionOf (keyOf (t .message .request)) (x .whole .regions))) piece ≡ put (p .memory) target piece
-      go true e = none-placed (p .memory) _ target piece (omega (arith, tests, piece-long, inside))
+      go true e = let z : length piece ≡ 0 = omega (arith, tests, piece-long, inside) in placed-none (p .memory) _ piece z ∙ sym (put-none (p .memory) target piece z)
       go false e =
           let w = in-place (omega (arith, eqb-false (length (t .message .bytes)) 0 e)) in
           ap (λ k. placed (p .memory) k piece) (w .0) ∙ placed-put (p .memory) target piece (omega (arith, piece-long, w .1))

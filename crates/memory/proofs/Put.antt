@@ -2,10 +2,10 @@
 use Prim.Native.Nat.{ℕ, _+_, _-_, _≤_}
 use mathlib.Core.Path.{_≡_, refl, sym, ap, subst, _∙_}
 use mathlib.Core.Bool.{Bool, true, false, cond}
-use mathlib.Core.List.{List, _++_, append-nil, append-assoc}
+use mathlib.Core.List.{List, [], _∷_, _++_, append-nil, append-assoc}
 use native.Mathlib.Omega.{arith}
 use lib.Dec.{leb}
-use lib.ListN.{length, take, drop, length-append, length-take, length-drop, drop-of-length-le}
+use lib.ListN.{length, take, drop, take-append-drop, length-append, length-take, length-drop, drop-of-length-le}
 use lib.Seq.{take-length, drop-drop, take-at, drop-at, drop-append-add}
 use borrow.Author.Tests.{le-leb, lt-leb, leb-true}
 use borrow.Rule.Slice.PartMut.{putMid, midOf}
@@ -107,3 +107,19 @@ module _ (m d : List ℕ) (at e : ℕ) (l : at + length d ≡ e) where
   copied =
       let k : at + (e - at) ≡ at + length d = omega arith in
       rw whole (ap (λ x. take at m ++ (d ++ x)) (drop-drop (e - at) at m ∙ ap (λ n. drop n m) k))
+
+-- no bytes change nothing, wherever they go
+pub put-none : (m : List ℕ) (at : ℕ) (d : List ℕ) → length d ≡ 0 → put m at d ≡ m
+unfolding put
+put-none m at [] e =
+    let k : at + 0 ≡ at = omega arith in
+    ap (λ n. take at m ++ drop n m) k ∙ take-append-drop at m
+put-none m at (b ∷ d) e = absurd (omega arith)
+
+pub placed-none : (m : List ℕ) (at : ℕ) (d : List ℕ) → length d ≡ 0 → placed m at d ≡ m
+unfolding placed
+placed-none m at d e = go (leb (at + length d) (length m))
+  where
+    go : (b : Bool) → cond b (put m at d) m ≡ m
+    go true = put-none m at d e
+    go false = refl

@@ -29,7 +29,7 @@ apart n a b x y (inl e) = eqb-false n a x e
 apart n a b x y (inr e) = eqb-false n b y e
 
 -- a test of equality that names the failing case
-of-not : (a b : ℕ) → not (eqb a b) ≡ false → a ≡ b
+pub of-not : (a b : ℕ) → not (eqb a b) ≡ false → a ≡ b
 of-not a b h = go (eqb a b) refl h
   where
     go : (t : Bool) → eqb a b ≡ t → not t ≡ false → a ≡ b

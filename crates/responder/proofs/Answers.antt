@@ -7,7 +7,7 @@ use mathlib.Core.Logic.{_⊎_, inl, inr}
 use native.Mathlib.Omega.{arith}
 use lib.Dec.{eqb, ltb}
 use lib.ListN.{length, getD}
-use borrow.Author.Tests.{lt-ltb, le-ltb, eq-eqb, ne-eqb, ltb-false, eqb-true}
+use borrow.Author.Tests.{lt-ltb, le-ltb, eq-eqb, ne-eqb, ltb-false}
 use Rattle.laws.proofs.Tests.{or-left, or-right, neither}
 use Rattle.sequence.specs.Sequence.{distance, psnClass}
 use Rattle.sequence.specs.declared.Psn.{Psn}
@@ -30,7 +30,7 @@ use Rattle.pair.proofs.Known.{sound}
 use Rattle.request.specs.Packet.{packetOf}
 use Rattle.request.specs.Verdict.{spot, carrying, outOfSequence, notEnabled, padEarly, overLimit, noneWaiting, entryOutside, rightOf, lacks, keySpan, keyLacking, keyFails, lengthsOff, current, requestCode, expectedCode}
 use Rattle.request.specs.Claims.{Place, Carries, IsAtomic, Served, KeyGood, IsCurrent, Says, JudgedBy}
-use Rattle.request.proofs.Conditions.{limit-tested, key-tested}
+use Rattle.request.proofs.Conditions.{limit-tested, key-tested, of-not}
 use Rattle.request.proofs.Order.{current-one, order}
 use Rattle.request.proofs.Taken.{any-place}
 use Rattle.request.specs.declared.Packet.{Packet}
@@ -181,13 +181,6 @@ ahead-by true expected = record { quiet = λ e. refl; naks = λ e. absurd (true�
 ahead-by false expected = record { quiet = λ e. absurd (true≢false (sym e)); naks = λ e. refl }
 
 -- a READ again: the tests say so
-of-not : (a b : ℕ) → not (eqb a b) ≡ false → a ≡ b
-of-not a b h = go (eqb a b) refl h
-  where
-    go : (x : Bool) → eqb a b ≡ x → not x ≡ false → a ≡ b
-    go true e h = eqb-true a b e
-    go false e h = absurd (true≢false h)
-
 is-on : (b : Bool) → not b ≡ false → b ≡ true
 is-on true h = refl
 is-on false h = sym h

@@ -13,6 +13,7 @@ use Rattle.pieces.specs.Pieces.{starts}
 use Rattle.table.specs.Table.{addresses, pastTop, outside}
 use Rattle.pair.specs.declared.Setup.{Setup}
 use Rattle.pair.specs.declared.OpenMessage.{OpenMessage}
+use Rattle.request.proofs.Conditions.{of-not}
 use Rattle.request.specs.declared.Packet.{Packet}
 use Rattle.request.specs.Verdict.{carrying, outOfSequence, notEnabled, padEarly, overLimit, noneWaiting, entryOutside, rightOf, lacks, keyLacking, keyFails, spot, lengthsOff, current, requestCode, expectedCode}
 
@@ -71,13 +72,6 @@ abbrev pub Follows : OpenMessage → Packet → Type 0
 Follows under p =
     ((starts (p .place) ≡ true) × (current under p ≡ begins p) × (under .kind ≡ 255))
     ⊎ ((starts (p .place) ≡ false) × (current under p ≡ under) × (under .kind ≡ p .kind))
-
-of-not : (a b : ℕ) → not (eqb a b) ≡ false → a ≡ b
-of-not a b h = go (eqb a b) refl h
-  where
-    go : (t : Bool) → eqb a b ≡ t → not t ≡ false → a ≡ b
-    go true e h = eqb-true a b e
-    go false e h = absurd (true≢false h)
 
 pub follows : (under : OpenMessage) (p : Packet) → outOfSequence (under .kind) (p .kind) (p .place) ≡ false → Follows under p
 unfolding outOfSequence current

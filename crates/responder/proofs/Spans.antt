@@ -2,7 +2,7 @@
 use Prim.Native.Nat.{ℕ, _+_, _-_, _≤_, _<_}
 use mathlib.Core.Path.{_≡_, refl, sym, ap, subst, _∙_}
 use mathlib.Core.Bool.{Bool, true, false, cond, _&&_, _||_}
-use mathlib.Core.List.{List, [], _∷_}
+use mathlib.Core.List.{List}
 use mathlib.Core.Logic.{_⊎_, inl, inr}
 use native.Mathlib.Omega.{arith}
 use lib.Dec.{eqb, leb}
@@ -20,10 +20,10 @@ use Rattle.header.specs.Check.{admitted, headerReason}
 use Rattle.header.specs.declared.HeaderRead.{HeaderRead}
 use Rattle.header.specs.declared.HeaderRead.the-variants as read
 use Rattle.header.proofs.Reasons.{accepted-by}
-use Rattle.memory.specs.Memory.{put, placed}
+use Rattle.memory.specs.Memory.{placed}
 use Rattle.memory.specs.Word.{wordAt, fetchAdded, swapped}
 use Rattle.memory.specs.Claims.{OnlyWord}
-use Rattle.memory.proofs.Put.{length-placed, placed-before, placed-after}
+use Rattle.memory.proofs.Put.{length-placed, placed-before, placed-after, placed-none}
 use Rattle.memory.proofs.Words.{fetch-within, swap-within}
 use Rattle.packet.specs.Packet.{payloadOf}
 use Rattle.pieces.specs.Pieces.{ends}
@@ -173,12 +173,6 @@ only-placed : (old d : List ℕ) (at offset n : ℕ) → offset ≤ at → at + 
     → OnlyBytes old (placed old at d) offset n
 only-placed old d at offset n lo hi w =
     only-by old (placed old at d) at (length d) offset n (length-placed old at d) (placed-before old at d (omega arith)) (placed-after old at d (omega arith)) lo hi
-
--- no bytes change nothing
-none-placed : (m d : List ℕ) → length d ≡ 0 → placed m 0 d ≡ m
-unfolding placed put
-none-placed m [] e = rw (le-leb 0 (length m) (omega arith))
-none-placed m (x ∷ d) e = absurd (omega arith)
 
 -- the payload
 pub payload-size : (p : List ℕ) → length (payloadOf p) ≡ packetIn p .raw - packetIn p .pad
@@ -394,7 +388,7 @@ module _ (q : Pair) (regions entries saved : List (List ℕ)) (m p : List ℕ) (
         nothing =
             λ e h.
             let z : length (payloadOf p) ≡ 0 = omega (arith, size, rest L e, h) in
-            put-memory 0 (at-none e h) ∙ none-placed m (payloadOf p) z;
+            put-memory 0 (at-none e h) ∙ placed-none m 0 (payloadOf p) z;
         sent =
             λ e h.
             told (M .placed + length (payloadOf p)) h (inl e)
