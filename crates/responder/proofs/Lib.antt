@@ -13,5 +13,6 @@ pub mod Replies
 pub mod Responses
 pub mod Draining
 pub mod Answers
+pub mod Ways
 pub mod Spans
 pub mod Reasons
