@@ -23,11 +23,11 @@ use Rattle.segment.specs.Next.{psnsOf, nextPsn, nextRefusal, followingBy, nextA
 use Rattle.segment.specs.Cut.{lowFor, extensionFor, bthAt, sizeAt, headerAt, payloadAt, cutBytes}
 use Rattle.request.specs.Packet.{operandsOf, packetOf}
 use Rattle.request.specs.Verdict.{carrying, outOfSequence, notEnabled, padEarly, overLimit, needsEntry, entriesWaiting, noneWaiting, usesEntry, entryOutside, keyLacking, keyFails, sizeOff, totalOff, netOf, lengthsOff, current, requestCode, expectedCode}
-use Rattle.responder.specs.Decide.{acknowledging, completes, completionOf, grown, placeOf, placing, executing, settled, expectedDecision, psnBefore, duplicateDecision, packetDecision, readsFull, inboundRefusal, decided}
-use Rattle.responder.specs.Apply.{memoryBy, actsAtomic, savedRingBy, ringTaken, entriesBy, msnBy, readBy, executedPair, after, pairBy}
-use Rattle.responder.specs.Reply.{replyHeader, ackHeader, answerBytes, over, outBy}
-use Rattle.responder.specs.Inbound.{outcomeBy, decision, inbound, inboundMemory, inboundOut}
-use Rattle.responder.specs.Calls.{received}
+use Rattle.protocol.specs.Decide.{acknowledging, completes, completionOf, grown, placeOf, placing, executing, settled, expectedDecision, psnBefore, duplicateDecision, packetDecision, readsFull, inboundRefusal, decided}
+use Rattle.protocol.specs.Apply.{memoryBy, actsAtomic, savedRingBy, ringTaken, entriesBy, msnBy, readBy, executedPair, after, pairBy}
+use Rattle.protocol.specs.Reply.{replyHeader, ackHeader, answerBytes, over, outBy}
+use Rattle.protocol.specs.Inbound.{outcomeBy, decision, inbound, inboundMemory, inboundOut}
+use Rattle.protocol.specs.Calls.{received}
 use Rattle.cases.specs.Cases.Case.{W1, W2, W3, W4, W5, W6, W7, W8, W9, W10, W11, W12}
 use Rattle.cases.specs.Cases.{classNumber, count, next, posts, ready, standing, zeros, completionNumbers, outcomeNumbers, left, given, found, said, Cases}
 

@@ -29,10 +29,10 @@ use Rattle.segment.specs.declared.Connection.{Connection}
 use Rattle.segment.specs.declared.Request.the-variants.{Send, Read}
 use Rattle.segment.specs.declared.Following.{Following}
 use Rattle.segment.specs.declared.Following.the-variants as following
-use Rattle.responder.specs.Inbound.{inbound, inboundMemory, inboundOut}
-use Rattle.responder.specs.Calls.{received}
-use Rattle.responder.specs.declared.Completion.{Completion}
-use Rattle.responder.specs.declared.Outcome.{Outcome}
+use Rattle.protocol.specs.Inbound.{inbound, inboundMemory, inboundOut}
+use Rattle.protocol.specs.Calls.{received}
+use Rattle.protocol.specs.declared.Completion.{Completion}
+use Rattle.protocol.specs.declared.Outcome.{Outcome}
 
 pub data Case : Type 0 where
   W1 W2 W3 W4 W5 W6 W7 W8 W9 W10 W11 W12 : Case

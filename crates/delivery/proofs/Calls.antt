@@ -21,14 +21,14 @@ use Rattle.pair.specs.declared.Status.{Status}
 use Rattle.pair.specs.declared.Status.the-variants as status
 use Rattle.pair.proofs.Known.{sound}
 use Rattle.request.specs.Packet.{packetOf}
-use Rattle.responder.specs.Kept.{Steady}
-use Rattle.responder.specs.Decide.{quietly, readsFull, inboundRefusal, orDrop, packetDecision, decided}
-use Rattle.responder.specs.Apply.{memoryBy, actsAtomic, savedBy, pairBy, with}
-use Rattle.responder.specs.Apply as apply
-use Rattle.responder.specs.Inbound.{decision, outcomeBy, inbound, inboundMemory, inboundSaved}
-use Rattle.responder.specs.Response.{nextStatus, oneFewer, nextResponse}
-use Rattle.responder.specs.Calls.{received, drained}
-use Rattle.responder.specs.declared.Decision.{Decision}
+use Rattle.protocol.specs.Kept.{Steady}
+use Rattle.protocol.specs.Decide.{quietly, readsFull, inboundRefusal, orDrop, packetDecision, decided}
+use Rattle.protocol.specs.Apply.{memoryBy, actsAtomic, savedBy, pairBy, with}
+use Rattle.protocol.specs.Apply as apply
+use Rattle.protocol.specs.Inbound.{decision, outcomeBy, inbound, inboundMemory, inboundSaved}
+use Rattle.protocol.specs.Response.{nextStatus, oneFewer, nextResponse}
+use Rattle.protocol.specs.Calls.{received, drained}
+use Rattle.protocol.specs.declared.Decision.{Decision}
 use Rattle.delivery.specs.Stream.{Message, Slot, slot, packetAt}
 use Rattle.delivery.specs.Plain.{Plain, sending, adding, delivered, account}
 use Rattle.delivery.specs.Plain.Call.{Hand, Next, Post}

@@ -26,7 +26,7 @@ use Rattle.segment.proofs.Fits.{decide, none-carried}
 use Rattle.segment.proofs.Shapes.{cut-one}
 use Rattle.sequence.specs.declared.Psn.{Psn}
 use Rattle.request.specs.Verdict.{outOfSequence, padEarly, entriesWaiting, noneWaiting, usesEntry, entryOutside, current}
-use Rattle.responder.specs.Decide.{regionFor}
+use Rattle.protocol.specs.Decide.{regionFor}
 use Rattle.delivery.specs.Stream.{packetCount, Slot}
 use Rattle.delivery.specs.Plain.{none, needing}
 use Rattle.delivery.proofs.Chain.{Stands}

@@ -30,11 +30,11 @@ use Rattle.segment.specs.declared.Request.the-variants.{Send, SendImmediate, Wr
 use Rattle.segment.proofs.Fits.{none-carried}
 use Rattle.segment.proofs.Shapes.{cut-one}
 use Rattle.request.specs.Verdict.{carrying, notEnabled, overLimit, keyFails, current}
-use Rattle.responder.specs.Kept.{Steady}
-use Rattle.responder.specs.Decide.{ackSyndrome, quietly, acknowledging, reading, psnBefore, aheadDecision, againFails, readAgain, atomicAgain, isAtomic, duplicateDecision, headEntry, regionFor, expectedDecision, classed, packetDecision}
-use Rattle.responder.specs.Apply.{memoryBy, actsAtomic, savedBy, pairBy, readBy}
-use Rattle.responder.specs.Apply as apply
-use Rattle.responder.specs.declared.Decision.{Decision}
+use Rattle.protocol.specs.Kept.{Steady}
+use Rattle.protocol.specs.Decide.{ackSyndrome, quietly, acknowledging, reading, psnBefore, aheadDecision, againFails, readAgain, atomicAgain, isAtomic, duplicateDecision, headEntry, regionFor, expectedDecision, classed, packetDecision}
+use Rattle.protocol.specs.Apply.{memoryBy, actsAtomic, savedBy, pairBy, readBy}
+use Rattle.protocol.specs.Apply as apply
+use Rattle.protocol.specs.declared.Decision.{Decision}
 use Rattle.delivery.specs.Stream.{Message, Slot, slot, span, along, packetAt}
 use Rattle.delivery.specs.Plain.{Plain, isRead, sending, reached, delivered}
 use Rattle.delivery.specs.Demand.{Run, Near}

@@ -14,9 +14,9 @@ use Rattle.table.specs.declared.Entry.{Entry}
 use Rattle.pair.specs.Answer.{statusNumber}
 use Rattle.pair.specs.declared.OpenMessage.{OpenMessage}
 use Rattle.pair.specs.declared.Pair.{Pair}
-use Rattle.responder.specs.Apply.{pairBy, executedPair, memoryBy, msnBy, readBy, entriesBy}
-use Rattle.responder.specs.Apply as apply
-use Rattle.responder.specs.declared.Decision.{Decision}
+use Rattle.protocol.specs.Apply.{pairBy, executedPair, memoryBy, msnBy, readBy, entriesBy}
+use Rattle.protocol.specs.Apply as apply
+use Rattle.protocol.specs.declared.Decision.{Decision}
 use Rattle.delivery.specs.Stream.{Message, packetCount, Slot, slot, span, along}
 use Rattle.delivery.specs.Plain.{Plain, takes, completionFor, landed, isRead, heldNow, waitingNow, isLast, needing, perform}
 use Rattle.delivery.specs.Demand.{Run, reports, AllLongEnough, entryOf}

@@ -21,7 +21,7 @@ use Rattle.segment.specs.declared.Request.{Request}
 use Rattle.segment.specs.declared.Request.the-variants.{Send, SendImmediate, Write, WriteImmediate, Read, CmpSwap, FetchAdd}
 use Rattle.request.specs.declared.Packet.{Packet}
 use Rattle.request.specs.Verdict.{carrying, notEnabled, needsEntry, keyFails, keyLacking, rightOf, sizeOff, totalOff, bareOff, netOf, lengthsOff}
-use Rattle.responder.specs.Decide.{regionFor}
+use Rattle.protocol.specs.Decide.{regionFor}
 use Rattle.delivery.specs.Plain.{needs}
 use Rattle.delivery.specs.Demand.{Allowed}
 use Rattle.delivery.proofs.Places.{Sizes}

@@ -21,9 +21,9 @@ use Rattle.pair.specs.declared.ReadAnswer.{ReadAnswer}
 use Rattle.table.specs.declared.Entry.{Entry}
 use Rattle.segment.specs.Claims.{kindNumber}
 use Rattle.request.specs.Verdict.{netOf, current}
-use Rattle.responder.specs.Decide.{noCompletion, completes, completionOf, grown, placing, placeOf}
-use Rattle.responder.specs.Apply.{memoryBy, readBy}
-use Rattle.responder.specs.declared.Completion.{Completion}
+use Rattle.protocol.specs.Decide.{noCompletion, completes, completionOf, grown, placing, placeOf}
+use Rattle.protocol.specs.Apply.{memoryBy, readBy}
+use Rattle.protocol.specs.declared.Completion.{Completion}
 use Rattle.delivery.specs.Stream.{Slot, span, packetAt}
 use Rattle.delivery.specs.Plain.{takes, completionFor, isLast, isRead}
 use Rattle.delivery.specs.Demand.{reports}

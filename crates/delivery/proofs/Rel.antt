@@ -13,9 +13,9 @@ use Rattle.pair.specs.declared.ReadAnswer.{ReadAnswer}
 use Rattle.segment.specs.Claims.{kindNumber}
 use Rattle.segment.specs.declared.Request.{Request}
 use Rattle.segment.specs.declared.Request.the-variants.{Send, SendImmediate, Write, WriteImmediate, Read, CmpSwap, FetchAdd}
-use Rattle.responder.specs.Apply.{pairBy, memoryBy, savedBy, with}
-use Rattle.responder.specs.declared.Completion.{Completion}
-use Rattle.responder.specs.declared.Decision.{Decision}
+use Rattle.protocol.specs.Apply.{pairBy, memoryBy, savedBy, with}
+use Rattle.protocol.specs.declared.Completion.{Completion}
+use Rattle.protocol.specs.declared.Decision.{Decision}
 use Rattle.delivery.specs.Stream.{Message, Slot, slot, along}
 use Rattle.delivery.specs.Plain.{Plain, sending}
 use Rattle.delivery.specs.Demand.{Run, reports, AllLongEnough, entryOf}

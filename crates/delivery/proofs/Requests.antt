@@ -23,8 +23,8 @@ use Rattle.table.specs.Table.{regionRow}
 use Rattle.table.specs.declared.Region.{Region}
 use Rattle.request.specs.Packet.{operandsOf}
 use Rattle.request.specs.Verdict.{rightOf}
-use Rattle.responder.specs.Apply.{memoryBy}
-use Rattle.responder.specs.declared.Decision.{Decision}
+use Rattle.protocol.specs.Apply.{memoryBy}
+use Rattle.protocol.specs.declared.Decision.{Decision}
 use Rattle.delivery.specs.Stream.{spanOf}
 use Rattle.delivery.specs.Plain.{needs, takes, told, completionFor, lies, landed, isRead}
 use Rattle.delivery.specs.Demand.{Lies, Allowed, AtLeast}

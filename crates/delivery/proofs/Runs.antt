@@ -13,13 +13,13 @@ use Rattle.pair.specs.Calls.{Whole, called}
 use Rattle.pair.specs.Claims.{WholeSound}
 use Rattle.pair.specs.declared.Setup.{Setup}
 use Rattle.pair.specs.declared.Pair.{Pair}
-use Rattle.responder.specs.Apply.{pairBy, executedPair}
-use Rattle.responder.specs.Apply as apply
-use Rattle.responder.specs.Inbound.{outcomeBy, inbound}
-use Rattle.responder.specs.Response.{nextStatus, nextResponse}
-use Rattle.responder.specs.Calls.{received, drained}
-use Rattle.responder.specs.Kept.{Steady, InboundSteady, NextSteady, PostSteady}
-use Rattle.responder.specs.declared.Decision.{Decision}
+use Rattle.protocol.specs.Apply.{pairBy, executedPair}
+use Rattle.protocol.specs.Apply as apply
+use Rattle.protocol.specs.Inbound.{outcomeBy, inbound}
+use Rattle.protocol.specs.Response.{nextStatus, nextResponse}
+use Rattle.protocol.specs.Calls.{received, drained}
+use Rattle.protocol.specs.Kept.{Steady, InboundSteady, NextSteady, PostSteady}
+use Rattle.protocol.specs.declared.Decision.{Decision}
 use Rattle.delivery.specs.Stream.{Message, Slot, slot, stream, packetAt}
 use Rattle.delivery.specs.Plain.{Plain, Call, account, plain, start}
 use Rattle.delivery.specs.Plain.Call.{Hand, Next, Post}

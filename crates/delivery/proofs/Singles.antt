@@ -17,9 +17,9 @@ use Rattle.segment.specs.Message.{messageLength}
 use Rattle.segment.specs.Claims.{kindNumber}
 use Rattle.segment.proofs.Shapes.{cut-one}
 use Rattle.request.specs.Verdict.{keySpan, spot, current}
-use Rattle.responder.specs.Kept.{Steady}
-use Rattle.responder.specs.Decide.{noCompletion, regionFor, accepting, swapping}
-use Rattle.responder.specs.Apply.{memoryBy, readBy, entriesBy}
+use Rattle.protocol.specs.Kept.{Steady}
+use Rattle.protocol.specs.Decide.{noCompletion, regionFor, accepting, swapping}
+use Rattle.protocol.specs.Apply.{memoryBy, readBy, entriesBy}
 use Rattle.delivery.specs.Stream.{Message, packetCount, Slot, slot, span, packetAt}
 use Rattle.delivery.specs.Plain.{Plain, lies, takes, completionFor, firstOf, needing, isLast, heldNow, waitingNow}
 use Rattle.delivery.specs.Demand.{Run, reports, entryOf}

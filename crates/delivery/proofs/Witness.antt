@@ -14,11 +14,11 @@ use Rattle.memory.proofs.Words.{fetch-within, swap-within}
 use Rattle.table.specs.declared.Entry.{Entry}
 use Rattle.pair.specs.Claims.{SetupFit}
 use Rattle.pair.specs.declared.Setup.{Setup}
-use Rattle.responder.specs.Apply.{memoryBy}
-use Rattle.responder.specs.Inbound.{inboundMemory}
-use Rattle.responder.specs.Kept.{Steady}
-use Rattle.responder.specs.declared.Decision.{Decision}
-use Rattle.responder.proofs.Kept.{inbound-steady, next-steady, post-steady}
+use Rattle.protocol.specs.Apply.{memoryBy}
+use Rattle.protocol.specs.Inbound.{inboundMemory}
+use Rattle.protocol.specs.Kept.{Steady}
+use Rattle.protocol.specs.declared.Decision.{Decision}
+use Rattle.protocol.proofs.Kept.{inbound-steady, next-steady, post-steady}
 use Rattle.delivery.specs.Stream.{Message, Slot, slot, stream, span, along}
 use Rattle.delivery.specs.Plain.{Plain, Call, none, firstOf, isRead, needing, isLast, heldNow, sending, adding, perform, account, plain, start}
 use Rattle.delivery.specs.Plain.Call.{Hand, Next, Post}

@@ -18,10 +18,10 @@ use Rattle.pair.specs.declared.Setup.{Setup}
 use Rattle.segment.specs.Claims.{InLimit, RequestWidths}
 use Rattle.segment.specs.declared.Request.{Request}
 use Rattle.segment.specs.declared.Request.the-variants.{Send, SendImmediate, Write, WriteImmediate, Read, CmpSwap, FetchAdd}
-use Rattle.responder.specs.Inbound.{inbound, inboundMemory}
-use Rattle.responder.specs.Response.{nextResponse}
-use Rattle.responder.specs.Calls.{received, drained}
-use Rattle.responder.specs.declared.Completion.{Completion}
+use Rattle.protocol.specs.Inbound.{inbound, inboundMemory}
+use Rattle.protocol.specs.Response.{nextResponse}
+use Rattle.protocol.specs.Calls.{received, drained}
+use Rattle.protocol.specs.declared.Completion.{Completion}
 use Rattle.delivery.specs.Stream.{Message, Slot, slot, stream, packetAt, along}
 use Rattle.delivery.specs.Plain.{Plain, Call, account, plain, start}
 use Rattle.delivery.specs.Plain.Call.{Hand, Next, Post}

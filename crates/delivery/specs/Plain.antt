@@ -16,7 +16,7 @@ use Rattle.table.specs.declared.Entry.{Entry}
 use Rattle.pair.specs.declared.Setup.{Setup}
 use Rattle.segment.specs.declared.Request.{Request}
 use Rattle.segment.specs.declared.Request.the-variants.{Send, SendImmediate, Write, WriteImmediate, Read, CmpSwap, FetchAdd}
-use Rattle.responder.specs.declared.Completion.{Completion}
+use Rattle.protocol.specs.declared.Completion.{Completion}
 use Rattle.delivery.specs.Stream.{packetCount, Slot, slot, span}
 
 -- k packets were executed; held is the entry of a SEND under way; r responses are still to send

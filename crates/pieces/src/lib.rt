@@ -2,7 +2,7 @@
 // are cut alike, so this is about numbers alone.
 ghost use mathlib.Core.Path.{_≡_};
 ghost use mathlib.Core.Bool.{not};
-ghost use Rattle.pieces.specs.Pieces.{pmtuFits, pieces, placeAt, partAt};
+ghost use Rattle.pieces.specs.Pieces.{pmtuFits, pieces, placeAt, partAt, starts, ends};
 
 // A part of the bytes, from start up to, and without, end.
 pub struct Span {
@@ -81,4 +81,21 @@ pub fn part(n: usize, pmtu: usize, i: usize) -> Span
     }
     let end = start + pmtu;
     Span { start, end }
+}
+
+// Whether a packet at this place begins its message.
+pub fn starts(place: u8) -> bool
+    ensures { λ r. ⌜ r ≡ starts place ⌝ }
+{
+    if place == opcode::FIRST {
+        return true;
+    }
+    place == opcode::ONLY
+}
+
+// Whether it ends it.
+pub fn ends(place: u8) -> bool
+    ensures { λ r. ⌜ r ≡ ends place ⌝ }
+{
+    opcode::LAST <= place
 }

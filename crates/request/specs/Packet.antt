@@ -4,6 +4,7 @@ use mathlib.Core.Bool.{Bool, true, false}
 use Rattle.opcode.specs.Opcode.{classOf}
 use Rattle.header.specs.Write.{headerLength}
 use Rattle.header.specs.declared.Reth.{Reth}
+use Rattle.header.specs.declared.AtomicEth.{AtomicEth}
 use Rattle.header.specs.declared.Extension.{Extension}
 use Rattle.header.specs.declared.Extension.the-variants.{Bare, Remote, RemoteImmediate, Immediate, Atomic, Acknowledge, AtomicAcknowledge}
 use Rattle.header.specs.declared.Header.{Header}
@@ -19,14 +20,18 @@ abbrev pub alone : Bool → ℕ → Operands
 alone immediate value =
     record { address = 0; key = 0; length = 0; swap = 0; compare = 0; immediate = immediate; value = value }
 
--- an atomic names 8 bytes; responses do not come to a responder
+-- an atomic names 8 bytes
+abbrev pub exchanging : AtomicEth → Operands
+exchanging a =
+    record { address = a .address; key = a .key; length = 8; swap = a .swap; compare = a .compare; immediate = false; value = 0 }
+
+-- responses do not come to a responder
 unfoldable pub operandsOf : Extension → Operands
 operandsOf Bare = alone false 0
 operandsOf (Remote a) = remote a false 0
 operandsOf (RemoteImmediate a v) = remote a true v
 operandsOf (Immediate v) = alone true v
-operandsOf (Atomic a) =
-    record { address = a .address; key = a .key; length = 8; swap = a .swap; compare = a .compare; immediate = false; value = 0 }
+operandsOf (Atomic a) = exchanging a
 operandsOf (Acknowledge a) = alone false 0
 operandsOf (AtomicAcknowledge a v) = alone false 0
 

@@ -1,48 +1,103 @@
-// The responder's calls. Here their types; the definitions stand in specs/, their laws in proofs/.
-use pair::OpenMessage;
+// The two calls of a responder: a packet comes in, and the next response of a READ goes out. The definitions and their
+// laws stand in the crate protocol.
+mod response;
+
+pub use response::next_response;
+use header::HeaderRead;
 use pair::Pair;
 use pair::Status;
-use sequence::Psn;
+use protocol::Completion;
+use protocol::Outcome;
+ghost use mathlib.Core.Path.{_≡_};
+ghost use lib.ListN.{length};
+ghost use Rattle.protocol.specs.Decide.{readsFull, inboundRefusal};
+ghost use Rattle.protocol.specs.Inbound.{inbound, inboundMemory, inboundSaved, inboundOut};
+ghost use Rattle.responder.specs.Unchanged.{unchanged};
 
-// What the host is told of a message that took a receive entry: the entry's number, the message's bytes, and the
-// immediate if there is one. Where nothing completes, every number is 0 and every flag false.
-pub struct Completion {
-    pub some: bool,
-    pub number: u64,
-    pub length: usize,
-    pub immediate: bool,
-    pub value: u32,
+// Whether a READ is still being answered.
+fn reads_full(pair: Pair) -> bool
+    ensures { λ r. ⌜ r ≡ readsFull pair ⌝ }
+{
+    pair.read.remaining != 0
 }
 
-// What a packet leads to, before anything is done: the answer; what is done to memory (0 nothing, 1 the packet's bytes
-// start to end are placed, 2 FetchAdd, 3 CmpSwap) and where; the message that is under way afterwards, how many PSNs are
-// taken, whether a message ends, the completion; the responses of a READ that begins to be answered and the bytes it
-// reads; and the packet sent (0 bytes, 16 or 24) with its PSN, syndrome and, of a repeated atomic, value.
-pub struct Decision {
-    pub status: Status,
-    pub act: u8,
-    pub at: usize,
-    pub start: usize,
-    pub end: usize,
-    pub swap: u64,
-    pub compare: u64,
-    pub message: OpenMessage,
-    pub numbers: usize,
-    pub ends: bool,
-    pub completion: Completion,
-    pub responses: usize,
-    pub length: usize,
-    pub sent: usize,
-    pub psn: Psn,
-    pub syndrome: u8,
-    pub value: u64,
+// Which refusal the inbound call gets before its packet is looked at.
+fn refusal(pair: Pair, memory: usize, room: usize) -> Status
+    ensures { λ r. ⌜ r ≡ inboundRefusal pair memory room ⌝ }
+{
+    if room < 24 {
+        return Status::OutputShort;
+    }
+    if memory != pair.setup.memory {
+        return Status::OutOfRange;
+    }
+    let bad = pair::sound::unsound(pair);
+    if bad {
+        return Status::OutOfRange;
+    }
+    let full = reads_full(pair);
+    if full {
+        return Status::ReadUnfinished;
+    }
+    Status::Executed
 }
 
-// What inbound and next response leave: the answer, the pair to go on with, a completion, and how many bytes of output
-// were written.
-pub struct Outcome {
-    pub status: Status,
-    pub pair: Pair,
-    pub completion: Completion,
-    pub sent: usize,
+// An answer with which nothing changes, completes or is sent.
+pub(crate) fn unchanged(status: Status, pair: Pair) -> Outcome
+    ensures { λ r. ⌜ r ≡ unchanged status pair ⌝ }
+{
+    let completion = Completion {
+        some: false,
+        number: 0,
+        length: 0,
+        immediate: false,
+        value: 0,
+    };
+    Outcome {
+        status,
+        pair,
+        completion,
+        sent: 0,
+    }
+}
+
+// Takes a packet: the header checks, the decision, and what it does to memory, saved atomics, pair and output.
+pub fn inbound(
+    pair: Pair,
+    regions: &[[u64; 7]; 16],
+    entries: &[[u64; 3]; 16],
+    saved: &mut [[u64; 2]; 16],
+    mem: &mut [u8],
+    packet: &[u8],
+    out: &mut [u8],
+) -> Outcome
+    ensures { λ r. ⌜ r ≡ inbound pair (now (regions .entry)) (now (entries .entry)) (now (saved .entry)) (now (mem .entry)) (now (packet .entry)) (now (out .entry)) ⌝ }
+    ensures { λ r. ⌜ now (mem .exit) ≡ inboundMemory pair (now (regions .entry)) (now (entries .entry)) (now (saved .entry)) (now (mem .entry)) (now (packet .entry)) (now (out .entry)) ⌝ }
+    ensures { λ r. ⌜ now (saved .exit) ≡ inboundSaved pair (now (regions .entry)) (now (entries .entry)) (now (saved .entry)) (now (mem .entry)) (now (packet .entry)) (now (out .entry)) ⌝ }
+    ensures { λ r. ⌜ now (out .exit) ≡ inboundOut pair (now (regions .entry)) (now (entries .entry)) (now (saved .entry)) (now (mem .entry)) (now (packet .entry)) (now (out .entry)) ⌝ }
+{
+    let refused = refusal(pair, mem.len(), out.len());
+    if refused.number() != 0 {
+        return unchanged(refused, pair);
+    }
+    let setup = pair.setup;
+    let found = decode::admit(packet, setup.service, setup.ours, setup.pkey, pair.state == pair::READY);
+    let HeaderRead::Accepted(h) = found else {
+        let dropped = Status::Dropped;
+        return unchanged(dropped, pair);
+    };
+    let d = decide::decision(pair, regions, entries, saved, h, packet.len());
+    let value = apply::change(mem, packet, d);
+    let ring = pair.saved;
+    apply::keep(saved, ring, d.act, d.psn, value);
+    let next = apply::pair_after(pair, d);
+    apply::reply(out, setup, d, next.msn, value);
+    let status = d.status;
+    let completion = d.completion;
+    Outcome {
+        status,
+        pair: next,
+        completion,
+        sent: d.sent,
+    }
 }

@@ -9,7 +9,6 @@ use header::Reth;
 use sequence::Psn;
 ghost use mathlib.Core.Path.{_≡_};
 ghost use Prim.Native.Nat.{_≤_, _<_};
-ghost use Rattle.pieces.specs.Pieces.{starts};
 ghost use Rattle.segment.specs.Cut.{withImmediate, lowFor, sendExtension, rethFor, writeExtension, writeEnd, writeImmediateExtension, fetchAddEth, extensionFor, bthAt};
 
 fn with_immediate(place: u8) -> u8
@@ -37,15 +36,6 @@ pub(crate) fn low_for(request: Request, place: u8) -> u8
     }
 }
 
-fn starts(place: u8) -> bool
-    ensures { λ r. ⌜ r ≡ starts place ⌝ }
-{
-    if place == opcode::FIRST {
-        return true;
-    }
-    place == opcode::ONLY
-}
-
 fn reth_for(t: Target, n: u32) -> Reth
     ensures { λ r. ⌜ r ≡ rethFor t n ⌝ }
 {
@@ -68,7 +58,7 @@ fn send_extension(v: u32, place: u8) -> Extension
 fn write_extension(t: Target, n: u32, place: u8) -> Extension
     ensures { λ r. ⌜ r ≡ writeExtension (rethFor t n) place ⌝ }
 {
-    let begins = starts(place);
+    let begins = pieces::starts(place);
     if begins {
         let a = reth_for(t, n);
         return Extension::Remote(a);
@@ -91,7 +81,7 @@ fn write_immediate_extension(t: Target, n: u32, v: u32, place: u8) -> Extension
     ensures { λ r. ⌜ r ≡ writeImmediateExtension (rethFor t n) v place ⌝ }
 {
     if opcode::LAST <= place {
-        let begins = starts(place);
+        let begins = pieces::starts(place);
         return write_end(t, n, v, begins);
     }
     write_extension(t, n, place)

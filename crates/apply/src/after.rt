@@ -1,0 +1,137 @@
+// The pair that a decision leaves.
+use crate::acts_atomic;
+use pair::Pair;
+use pair::ReadAnswer;
+use protocol::Decision;
+use sequence::Msn;
+use table::Ring;
+ghost use mathlib.Core.Path.{_≡_};
+ghost use Prim.Native.Nat.{_-_, _%_};
+ghost use Rattle.protocol.specs.Apply.{ringTaken, entriesBy, savedRingBy, msnBy, readBy, executedPair, after, pairBy};
+
+fn one_less(n: usize) -> usize
+    ensures { λ r. ⌜ r ≡ n - 1 ⌝ }
+{
+    if n == 0 {
+        return 0;
+    }
+    n - 1
+}
+
+// The ring without its first entry, where a message completes.
+fn entries_by(completes: bool, ring: Ring) -> Ring
+    ensures { λ r. ⌜ r ≡ entriesBy completes ring ⌝ }
+{
+    if completes {
+        let head = table::slot(ring.head, 1);
+        let count = one_less(ring.count);
+        return Ring { head, count };
+    }
+    ring
+}
+
+fn saved_ring_by(ring: Ring, act: u8) -> Ring
+    ensures { λ r. ⌜ r ≡ savedRingBy ring act ⌝ }
+{
+    let atomic = acts_atomic(act);
+    if atomic {
+        return table::saved_ring(ring);
+    }
+    ring
+}
+
+fn msn_by(ends: bool, msn: Msn) -> Msn
+    ensures { λ r. ⌜ r ≡ msnBy ends msn ⌝ }
+{
+    if ends {
+        return msn.next();
+    }
+    msn
+}
+
+// The READ that is being answered afterwards.
+fn read_by(d: Decision, old: ReadAnswer, msn: Msn) -> ReadAnswer
+    ensures { λ r. ⌜ r ≡ readBy d old msn ⌝ }
+{
+    if d.responses == 0 {
+        return old;
+    }
+    let psn = d.psn;
+    ReadAnswer {
+        remaining: d.responses,
+        offset: d.at,
+        length: d.length,
+        psn,
+        msn,
+    }
+}
+
+fn short(n: usize) -> u32
+    ensures { λ r. ⌜ r ≡ n % 16777216 ⌝ }
+{
+    (n % 16777216) as u32
+}
+
+fn executed_pair(pair: Pair, d: Decision) -> Pair
+    ensures { λ r. ⌜ r ≡ executedPair pair d ⌝ }
+{
+    let expected = pair.expected.after(short(d.numbers));
+    let msn = msn_by(d.ends, pair.msn);
+    let held = pair.entries;
+    let entries = entries_by(d.completion.some, held);
+    let old = pair.read;
+    let read = read_by(d, old, msn);
+    let kept = pair.saved;
+    let saved = saved_ring_by(kept, d.act);
+    let message = d.message;
+    let mut next = pair;
+    next.expected = expected;
+    next.msn = msn;
+    next.mark = false;
+    next.message = message;
+    next.entries = entries;
+    next.read = read;
+    next.saved = saved;
+    next
+}
+
+fn after(pair: Pair, d: Decision, number: u8) -> Pair
+    ensures { λ r. ⌜ r ≡ after pair d number ⌝ }
+{
+    if number <= 3 {
+        return executed_pair(pair, d);
+    }
+    let mut next = pair;
+    if number == 4 {
+        let old = pair.read;
+        let read = read_by(d, old, pair.msn);
+        next.read = read;
+        return next;
+    }
+    if number == 16 {
+        next.mark = true;
+        return next;
+    }
+    if number == 19 {
+        next.mark = true;
+        return next;
+    }
+    if number == 17 {
+        next.state = pair::ERROR;
+        return next;
+    }
+    if number == 18 {
+        next.state = pair::ERROR;
+        return next;
+    }
+    next
+}
+
+// By the number of the answer.
+pub fn pair_after(pair: Pair, d: Decision) -> Pair
+    ensures { λ r. ⌜ r ≡ pairBy pair d ⌝ }
+{
+    let status = d.status;
+    let number = status.number();
+    after(pair, d, number)
+}

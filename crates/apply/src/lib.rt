@@ -1,0 +1,75 @@
+// What a decision does: to memory, to the saved atomics, to the pair, and the packet that it sends. The definitions and
+// their laws stand in the crate protocol.
+mod after;
+mod reply;
+
+pub use after::pair_after;
+pub use reply::reply;
+pub use reply::reply_bth;
+use protocol::Decision;
+use sequence::Psn;
+use table::Ring;
+ghost use mathlib.Core.Path.{_≡_};
+ghost use mathlib.Core.Bool.{cond};
+ghost use Prim.Native.Nat.{_-_, min};
+ghost use lib.ListN.{take, drop};
+ghost use Rattle.memory.specs.Memory.{placed};
+ghost use Rattle.table.specs.View.{savedRows};
+ghost use Rattle.protocol.specs.Apply.{memoryBy, actsAtomic};
+ghost use Rattle.protocol.specs.Reply.{valueBy};
+
+// The smaller of two.
+fn least(a: usize, b: usize) -> usize
+    ensures { λ r. ⌜ r ≡ min a b ⌝ }
+{
+    if a < b {
+        return a;
+    }
+    b
+}
+
+// Places the packet's bytes from start to end, as far as it has them, in memory from at on.
+fn place_part(mem: &mut [u8], at: usize, packet: &[u8], start: usize, end: usize)
+    ensures { λ _. ⌜ now (mem .exit) ≡ placed (now (mem .entry)) at (take (end - start) (drop start (now (packet .entry)))) ⌝ }
+{
+    let stop = least(end, packet.len());
+    let from = least(start, stop);
+    memory::place(mem, at, &packet[from..stop]);
+}
+
+// Changes memory, and answers the value that an atomic sends.
+pub fn change(mem: &mut [u8], packet: &[u8], d: Decision) -> u64
+    ensures { λ r. ⌜ r ≡ valueBy d (now (mem .entry)) ⌝ }
+    ensures { λ r. ⌜ now (mem .exit) ≡ memoryBy d (now (mem .entry)) (now (packet .entry)) ⌝ }
+{
+    if d.act == 1 {
+        place_part(mem, d.at, packet, d.start, d.end);
+        return d.value;
+    }
+    if d.act == 2 {
+        return memory::fetch_add(mem, d.at, d.swap);
+    }
+    if d.act == 3 {
+        return memory::cmp_swap(mem, d.at, d.compare, d.swap);
+    }
+    d.value
+}
+
+fn acts_atomic(act: u8) -> bool
+    ensures { λ r. ⌜ r ≡ actsAtomic act ⌝ }
+{
+    if act == 2 {
+        return true;
+    }
+    act == 3
+}
+
+// Saves the value that an atomic answered.
+pub fn keep(saved: &mut [[u64; 2]; 16], ring: Ring, act: u8, psn: Psn, value: u64)
+    ensures { λ _. ⌜ now (saved .exit) ≡ cond (actsAtomic act) (savedRows (now (saved .entry)) ring (psn .0) value) (now (saved .entry)) ⌝ }
+{
+    let atomic = acts_atomic(act);
+    if atomic {
+        table::save(saved, ring, psn, value);
+    }
+}

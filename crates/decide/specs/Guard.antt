@@ -1,0 +1,35 @@
+-- When the sums of a decision stay within 64 bits; and the decision of a pair whose timer code no set-up accepts.
+use Prim.Native.Nat.{ℕ, _+_, _-_, _^_, _<_}
+use mathlib.Core.Path.{_≡_}
+use mathlib.Core.Bool.{true, false, cond}
+use mathlib.Core.List.{List}
+use lib.Dec.{ltb}
+use lib.ListN.{getD}
+use Rattle.pair.specs.declared.OpenMessage.{OpenMessage}
+use Rattle.pair.specs.declared.Pair.{Pair}
+use Rattle.pair.specs.declared.Status.the-variants as status
+use Rattle.request.specs.Verdict.{carrying, keySpan, netOf}
+use Rattle.request.specs.declared.Packet.{Packet}
+use Rattle.protocol.specs.Decide.{quietly}
+use Rattle.protocol.specs.declared.Decision.{Decision}
+
+-- where bytes of a region lie in memory
+abbrev pub SpotFits : List ℕ → ℕ → ℕ → Type 0
+SpotFits region address span = 0 < span → getD region 3 0 + (address - getD region 1 0) < 2 ^ 64
+
+-- where the next bytes of a message go
+pub record PlaceFits (kind : ℕ) (m : OpenMessage) (entry region : List ℕ) : Type 0 where
+  pub send : kind ≡ 0 → getD entry 1 0 + m .placed < 2 ^ 64
+  pub address : (kind ≡ 0 → ⊥) → 0 < keySpan (m .length) (m .placed) → m .address + m .placed < 2 ^ 64
+  pub spots : (kind ≡ 0 → ⊥) → SpotFits region (m .address + m .placed) (keySpan (m .length) (m .placed))
+
+-- a packet that passed the checks
+pub record Executable (p : Packet) (m : OpenMessage) (entry region : List ℕ) : Type 0 where
+  pub end : p .start + netOf p < 2 ^ 64
+  pub total : carrying (p .kind) ≡ true → m .placed + netOf p < 2 ^ 64
+  pub place : carrying (p .kind) ≡ true → PlaceFits (p .kind) m entry region
+  pub own : carrying (p .kind) ≡ false → SpotFits region (m .address) (m .length)
+
+-- A not-ready NAK has a code of 5 bits to hold
+unfoldable pub guarded : Pair → Decision → Decision
+guarded q d = cond (ltb 31 (q .setup .timer)) (quietly status.OutOfRange) d

@@ -1,0 +1,279 @@
+// Decisions that execute a packet which passed every check.
+use crate::still::no_completion;
+use crate::still::no_message;
+use pair::OpenMessage;
+use pair::Status;
+use protocol::Completion;
+use protocol::Decision;
+use request::Packet;
+use sequence::Psn;
+ghost use mathlib.Core.Path.{_≡_};
+ghost use mathlib.Core.Bool.{cond};
+ghost use Prim.Native.Nat.{_+_, _<_, _^_};
+ghost use lib.Dec.{eqb};
+ghost use Rattle.request.specs.Verdict.{spot, netOf};
+ghost use Rattle.protocol.specs.Decide.{completes, completionOf, grown, placeOf, placing, swapping, reading, accepting, executing};
+ghost use Rattle.decide.specs.Guard.{SpotFits, PlaceFits, Executable};
+
+// The syndrome of every ACK.
+pub(crate) const ACK: u8 = 0x1f;
+
+fn completes(kind: u8, place: u8, immediate: bool) -> bool
+    ensures { λ r. ⌜ r ≡ completes kind place immediate ⌝ }
+{
+    let last = pieces::ends(place);
+    if last {
+        return judge::uses_entry(kind, immediate);
+    }
+    false
+}
+
+// The bytes of a message that ends: a SEND's are counted, a WRITE names its DMA length.
+fn counted(kind: u8, placed: usize, net: usize, length: usize) -> usize
+    requires { ⌜ placed + net < 2 ^ 64 ⌝ }
+    ensures { λ r. ⌜ r ≡ cond (eqb kind 0) (placed + net) length ⌝ }
+{
+    if kind == opcode::SEND {
+        return placed + net;
+    }
+    length
+}
+
+fn completion_of(p: Packet, m: OpenMessage, number: u64) -> Completion
+    requires { ⌜ m .placed + netOf p < 2 ^ 64 ⌝ }
+    ensures { λ r. ⌜ r ≡ completionOf p m number ⌝ }
+{
+    let done = completes(p.kind, p.place, p.operands.immediate);
+    if done {
+        let net = judge::less(p.raw, p.pad);
+        let length = counted(p.kind, m.placed, net, m.length);
+        return Completion {
+            some: true,
+            number,
+            length,
+            immediate: p.operands.immediate,
+            value: p.operands.value,
+        };
+    }
+    no_completion()
+}
+
+// The message after a packet of it.
+fn grown(place: u8, m: OpenMessage, net: usize) -> OpenMessage
+    requires { ⌜ m .placed + net < 2 ^ 64 ⌝ }
+    ensures { λ r. ⌜ r ≡ grown place m net ⌝ }
+{
+    let last = pieces::ends(place);
+    if last {
+        return no_message();
+    }
+    let mut next = m;
+    next.placed = m.placed + net;
+    next
+}
+
+fn wide(x: usize) -> u64
+    ensures { λ r. ⌜ r ≡ x ⌝ }
+{
+    x as u64
+}
+
+// How much a is above b, 0 where it is not.
+fn above(a: u64, b: u64) -> u64
+    ensures { λ r. ⌜ r ≡ a - b ⌝ }
+{
+    if a < b {
+        return 0;
+    }
+    a - b
+}
+
+// Where an address of a region lies in memory.
+pub(crate) fn spot(region: [u64; 7], address: u64, span: usize) -> usize
+    requires { ⌜ SpotFits region address span ⌝ }
+    ensures { λ r. ⌜ r ≡ spot region address span ⌝ }
+{
+    if span == 0 {
+        return 0;
+    }
+    let skip = above(address, region[1]);
+    (region[3] + skip) as usize
+}
+
+// Where the next bytes of a message go.
+fn place_of(kind: u8, m: OpenMessage, entry: [u64; 3], region: [u64; 7]) -> usize
+    requires { ⌜ PlaceFits kind m entry region ⌝ }
+    ensures { λ r. ⌜ r ≡ placeOf kind m entry region ⌝ }
+{
+    let placed = wide(m.placed);
+    if kind == opcode::SEND {
+        return (entry[1] + placed) as usize;
+    }
+    let span = judge::less(m.length, m.placed);
+    if span == 0 {
+        return 0;
+    }
+    spot(region, m.address + placed, span)
+}
+
+fn answer(ackreq: bool) -> Status
+    ensures { λ r. ⌜ r ≡ cond ackreq Status.Acknowledged Status.Executed ⌝ }
+{
+    if ackreq {
+        return Status::Acknowledged;
+    }
+    Status::Executed
+}
+
+// An ACK has 16 bytes.
+fn ack_length(ackreq: bool) -> usize
+    ensures { λ r. ⌜ r ≡ cond ackreq 16 0 ⌝ }
+{
+    if ackreq {
+        return 16;
+    }
+    0
+}
+
+// A SEND's or a WRITE's bytes are placed.
+fn placing(p: Packet, m: OpenMessage, entry: [u64; 3], region: [u64; 7]) -> Decision
+    requires { ⌜ p .start + netOf p < 2 ^ 64 ⌝ }
+    requires { ⌜ m .placed + netOf p < 2 ^ 64 ⌝ }
+    requires { ⌜ PlaceFits (p .kind) m entry region ⌝ }
+    ensures { λ r. ⌜ r ≡ placing p m entry region ⌝ }
+{
+    let net = judge::less(p.raw, p.pad);
+    let at = place_of(p.kind, m, entry, region);
+    let message = grown(p.place, m, net);
+    let completion = completion_of(p, m, entry[0]);
+    let ends = pieces::ends(p.place);
+    let status = answer(p.ackreq);
+    let sent = ack_length(p.ackreq);
+    let psn = p.psn;
+    Decision {
+        status,
+        act: 1,
+        at,
+        start: p.start,
+        end: p.start + net,
+        swap: 0,
+        compare: 0,
+        message,
+        numbers: 1,
+        ends,
+        completion,
+        responses: 0,
+        length: 0,
+        sent,
+        psn,
+        syndrome: ACK,
+        value: 0,
+    }
+}
+
+fn atomic_act(kind: u8) -> u8
+    ensures { λ r. ⌜ r ≡ cond (eqb kind 20) 2 3 ⌝ }
+{
+    if kind == opcode::FETCH_ADD {
+        return 2;
+    }
+    3
+}
+
+// An atomic is run, and its old value sent.
+fn swapping(p: Packet, m: OpenMessage, under: OpenMessage, region: [u64; 7]) -> Decision
+    requires { ⌜ SpotFits region (m .address) (m .length) ⌝ }
+    ensures { λ r. ⌜ r ≡ swapping p m under region ⌝ }
+{
+    let at = spot(region, m.address, m.length);
+    let act = atomic_act(p.kind);
+    let completion = no_completion();
+    let status = Status::AtomicExecuted;
+    let psn = p.psn;
+    Decision {
+        status,
+        act,
+        at,
+        start: 0,
+        end: 0,
+        swap: p.operands.swap,
+        compare: p.operands.compare,
+        message: under,
+        numbers: 1,
+        ends: true,
+        completion,
+        responses: 0,
+        length: 0,
+        sent: 24,
+        psn,
+        syndrome: ACK,
+        value: 0,
+    }
+}
+
+// A READ begins to be answered.
+pub(crate) fn reading(
+    status: Status,
+    message: OpenMessage,
+    at: usize,
+    length: usize,
+    numbers: usize,
+    ends: bool,
+    responses: usize,
+    psn: Psn,
+) -> Decision
+    ensures { λ r. ⌜ r ≡ reading status message at length numbers ends responses psn ⌝ }
+{
+    let completion = no_completion();
+    Decision {
+        status,
+        act: 0,
+        at,
+        start: 0,
+        end: 0,
+        swap: 0,
+        compare: 0,
+        message,
+        numbers,
+        ends,
+        completion,
+        responses,
+        length,
+        sent: 0,
+        psn,
+        syndrome: 0,
+        value: 0,
+    }
+}
+
+fn accepting(p: Packet, m: OpenMessage, under: OpenMessage, region: [u64; 7], pmtu: usize) -> Decision
+    requires { ⌜ SpotFits region (m .address) (m .length) ⌝ }
+    ensures { λ r. ⌜ r ≡ accepting p m under region pmtu ⌝ }
+{
+    let at = spot(region, m.address, m.length);
+    let count = pieces::count(m.length, pmtu);
+    let status = Status::ReadAccepted;
+    reading(status, under, at, m.length, count, true, count, p.psn)
+}
+
+// By the kind of a packet that passed every check, of the message m.
+pub(crate) fn executing(
+    p: Packet,
+    m: OpenMessage,
+    under: OpenMessage,
+    entry: [u64; 3],
+    region: [u64; 7],
+    pmtu: usize,
+) -> Decision
+    requires { ⌜ Executable p m entry region ⌝ }
+    ensures { λ r. ⌜ r ≡ executing p m under entry region pmtu ⌝ }
+{
+    let carries = judge::carrying(p.kind);
+    if carries {
+        return placing(p, m, entry, region);
+    }
+    if p.kind == opcode::READ {
+        return accepting(p, m, under, region, pmtu);
+    }
+    swapping(p, m, under, region)
+}

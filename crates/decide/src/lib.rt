@@ -1,0 +1,93 @@
+// What a request leads to on a reliable connection: a decision, which changes nothing yet. The definitions and their
+// laws stand in the crate protocol.
+mod again;
+mod execute;
+mod still;
+
+use header::Header;
+use pair::Pair;
+use pair::Status;
+use protocol::Decision;
+use request::Packet;
+use sequence::Class;
+ghost use mathlib.Core.Path.{_≡_};
+ghost use Prim.Native.Nat.{_≤_, _<_, _+_, _^_};
+ghost use Rattle.request.specs.Packet.{packetOf};
+ghost use Rattle.request.specs.Verdict.{netOf, current};
+ghost use Rattle.protocol.specs.Decide.{expectedDecision, regionFor, packetDecision, headEntry};
+ghost use Rattle.decide.specs.Guard.{guarded};
+
+// The row of the key's region; a SEND has no key, and a key that is nobody's an empty row.
+pub(crate) fn region_for(regions: &[[u64; 7]; 16], kind: u8, key: u32) -> [u64; 7]
+    ensures { λ r. ⌜ r ≡ regionFor kind key (now (regions .entry)) ⌝ }
+{
+    if kind == opcode::SEND {
+        return [0; 7];
+    }
+    let i = table::find(regions, false, wide(key));
+    if 16 <= i {
+        return [0; 7];
+    }
+    regions[i]
+}
+
+fn wide(x: u32) -> u64
+    ensures { λ r. ⌜ r ≡ x ⌝ }
+{
+    x as u64
+}
+
+// The expected packet: executed if it passes every check, else refused.
+fn expected(p: Packet, pair: Pair, entry: [u64; 3], region: [u64; 7]) -> Decision
+    requires { ⌜ p .start + netOf p < 2 ^ 64 ⌝ }
+    requires { ⌜ pair .setup .timer ≤ 31 ⌝ }
+    ensures { λ r. ⌜ r ≡ expectedDecision p (pair .setup) (pair .message) (pair .entries .count) entry region ⌝ }
+{
+    let setup = pair.setup;
+    let under = pair.message;
+    let code = judge::expected_code(setup, under, p, pair.entries.count, entry, region);
+    if code != 0 {
+        return still::failed(code, p.psn, setup.timer);
+    }
+    let m = judge::current(under, p);
+    execute::executing(p, m, under, entry, region, setup.pmtu)
+}
+
+// The same, by the tables: the entry at the head of its ring, and the region of its key.
+fn take(pair: Pair, regions: &[[u64; 7]; 16], entries: &[[u64; 3]; 16], p: Packet) -> Decision
+    requires { ⌜ p .start + netOf p < 2 ^ 64 ⌝ }
+    requires { ⌜ pair .setup .timer ≤ 31 ⌝ }
+    ensures { λ r. ⌜ r ≡ expectedDecision p (pair .setup) (pair .message) (pair .entries .count) (headEntry pair (now (entries .entry))) (regionFor (p .kind) (current (pair .message) p .key) (now (regions .entry))) ⌝ }
+{
+    let at = table::slot(pair.entries.head, 0);
+    let entry = entries[at];
+    let under = pair.message;
+    let m = judge::current(under, p);
+    let region = region_for(regions, p.kind, m.key);
+    expected(p, pair, entry, region)
+}
+
+// The decision on a packet of n bytes whose header passes the header checks.
+pub fn decision(
+    pair: Pair,
+    regions: &[[u64; 7]; 16],
+    entries: &[[u64; 3]; 16],
+    saved: &[[u64; 2]; 16],
+    h: Header,
+    n: usize,
+) -> Decision
+    ensures { λ r. ⌜ r ≡ guarded pair (packetDecision pair (now (regions .entry)) (now (entries .entry)) (now (saved .entry)) (packetOf h n)) ⌝ }
+{
+    if 31 < pair.setup.timer {
+        let status = Status::OutOfRange;
+        return still::quietly(status);
+    }
+    let p = judge::packet_of(h, n);
+    let psn = p.psn;
+    let class = psn.class(pair.expected);
+    match class {
+        Class::Expected => take(pair, regions, entries, p),
+        Class::Ahead => still::ahead(pair.mark, pair.expected),
+        Class::Duplicate => again::duplicate(p, pair, regions, saved),
+    }
+}

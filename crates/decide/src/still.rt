@@ -1,0 +1,108 @@
+// Decisions that execute nothing.
+use pair::OpenMessage;
+use pair::Status;
+use protocol::Completion;
+use protocol::Decision;
+use sequence::Psn;
+ghost use mathlib.Core.Path.{_≡_};
+ghost use Prim.Native.Nat.{_≤_};
+ghost use Rattle.pair.specs.Pair.{noMessage};
+ghost use Rattle.protocol.specs.Decide.{noCompletion, still, quietly, acknowledging, aheadDecision, failed};
+
+pub(crate) fn no_message() -> OpenMessage
+    ensures { λ r. ⌜ r ≡ noMessage ⌝ }
+{
+    OpenMessage {
+        kind: pair::CLOSED,
+        placed: 0,
+        address: 0,
+        key: 0,
+        length: 0,
+    }
+}
+
+pub(crate) fn no_completion() -> Completion
+    ensures { λ r. ⌜ r ≡ noCompletion ⌝ }
+{
+    Completion {
+        some: false,
+        number: 0,
+        length: 0,
+        immediate: false,
+        value: 0,
+    }
+}
+
+// The answer, and the packet that is sent.
+pub(crate) fn still(status: Status, sent: usize, psn: Psn, syndrome: u8, value: u64) -> Decision
+    ensures { λ r. ⌜ r ≡ still status sent psn syndrome value ⌝ }
+{
+    let message = no_message();
+    let completion = no_completion();
+    Decision {
+        status,
+        act: 0,
+        at: 0,
+        start: 0,
+        end: 0,
+        swap: 0,
+        compare: 0,
+        message,
+        numbers: 0,
+        ends: false,
+        completion,
+        responses: 0,
+        length: 0,
+        sent,
+        psn,
+        syndrome,
+        value,
+    }
+}
+
+pub(crate) fn quietly(status: Status) -> Decision
+    ensures { λ r. ⌜ r ≡ quietly status ⌝ }
+{
+    let psn = Psn(0);
+    still(status, 0, psn, 0, 0)
+}
+
+// An ACK or a NAK is sent.
+pub(crate) fn acknowledging(status: Status, psn: Psn, syndrome: u8) -> Decision
+    ensures { λ r. ⌜ r ≡ acknowledging status psn syndrome ⌝ }
+{
+    still(status, 16, psn, syndrome, 0)
+}
+
+// Ahead: a sequence NAK the first time, nothing while the mark stands.
+pub(crate) fn ahead(mark: bool, expected: Psn) -> Decision
+    ensures { λ r. ⌜ r ≡ aheadDecision mark expected ⌝ }
+{
+    if mark {
+        let status = Status::Dropped;
+        return quietly(status);
+    }
+    let status = Status::SequenceNak;
+    acknowledging(status, expected, 0x60)
+}
+
+// Expected, and refused by a check.
+pub(crate) fn failed(code: u8, psn: Psn, timer: u8) -> Decision
+    requires { ⌜ timer ≤ 31 ⌝ }
+    ensures { λ r. ⌜ r ≡ failed code psn timer ⌝ }
+{
+    if code == 17 {
+        let status = Status::InvalidRequestNak;
+        return acknowledging(status, psn, 0x61);
+    }
+    if code == 18 {
+        let status = Status::AccessNak;
+        return acknowledging(status, psn, 0x62);
+    }
+    if code == 19 {
+        let status = Status::NotReadyNak;
+        return acknowledging(status, psn, 0x20 + timer);
+    }
+    let status = Status::OutOfRange;
+    quietly(status)
+}

@@ -1,0 +1,21 @@
+-- The pair with its tables, before and after a call of the responder.
+use Prim.Native.Nat.{ℕ}
+use mathlib.Core.List.{List}
+use Rattle.pair.specs.Calls.{Whole}
+use Rattle.protocol.specs.Inbound.{inbound, inboundSaved}
+use Rattle.protocol.specs.Response.{nextResponse}
+
+-- inbound reads regions and entries, and writes the saved atomics
+unfoldable pub received : Whole → List ℕ → List ℕ → List ℕ → Whole
+received w m p out =
+    record {
+      pair = inbound (w .pair) (w .regions) (w .entries) (w .saved) m p out .pair;
+      regions = w .regions;
+      entries = w .entries;
+      saved = inboundSaved (w .pair) (w .regions) (w .entries) (w .saved) m p out;
+    }
+
+-- next response writes none of the tables
+unfoldable pub drained : Whole → List ℕ → List ℕ → Whole
+drained w m out =
+    record { pair = nextResponse (w .pair) m out .pair; regions = w .regions; entries = w .entries; saved = w .saved }

@@ -1,0 +1,11 @@
+pub mod Decide
+pub mod Apply
+pub mod Reply
+pub mod Inbound
+pub mod Response
+pub mod Calls
+pub mod Kept
+pub mod Effects
+pub mod Reads
+pub mod Replies
+pub mod Answers

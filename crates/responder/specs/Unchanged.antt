@@ -1,0 +1,21 @@
+-- Outcomes with no completion, and the bytes that a packet writer's answer counts.
+use Prim.Native.Nat.{ℕ}
+use Rattle.header.specs.declared.Answer.{Answer}
+use Rattle.header.specs.declared.Answer.the-variants.{Done, Refused}
+use Rattle.pair.specs.declared.Pair.{Pair}
+use Rattle.pair.specs.declared.Status.{Status}
+use Rattle.pair.specs.declared.Status.the-variants as status
+use Rattle.protocol.specs.Decide.{noCompletion}
+use Rattle.protocol.specs.declared.Outcome.{Outcome}
+
+-- the pair as it is, and nothing sent
+abbrev pub unchanged : Status → Pair → Outcome
+unchanged answer q = record { status = answer; pair = q; completion = noCompletion; sent = 0 }
+
+-- done, and n bytes sent
+abbrev pub sending : Pair → ℕ → Outcome
+sending q n = record { status = status.Executed; pair = q; completion = noCompletion; sent = n }
+
+abbrev pub doneBytes : Answer → ℕ
+doneBytes (Done n) = n
+doneBytes (Refused n) = 0

@@ -1,0 +1,154 @@
+// The responses of a READ, one a call.
+use crate::unchanged;
+use header::Aeth;
+use header::Answer;
+use header::Extension;
+use header::Header;
+use pair::Pair;
+use pair::ReadAnswer;
+use pair::Setup;
+use pair::Status;
+use protocol::Outcome;
+ghost use mathlib.Core.Path.{_≡_};
+ghost use Prim.Native.Nat.{_-_, _≤_, _%_};
+ghost use lib.ListN.{length};
+ghost use Rattle.protocol.specs.Apply.{with};
+ghost use Rattle.protocol.specs.Response.{indexOf, responseOpcode, responseExtension, responseHeader, nextStatus, oneFewer, nextResponse, nextOut};
+ghost use Rattle.responder.specs.Unchanged.{doneBytes, sending};
+
+// Which refusal the call gets, or that it is none.
+fn next_status(pair: Pair, memory: usize, room: usize) -> Status
+    ensures { λ r. ⌜ r ≡ nextStatus pair memory room ⌝ }
+{
+    if pair.read.remaining == 0 {
+        return Status::WrongState;
+    }
+    if room < 16 {
+        return Status::OutputShort;
+    }
+    if room - 16 < pair.setup.pmtu {
+        return Status::OutputShort;
+    }
+    if memory != pair.setup.memory {
+        return Status::OutOfRange;
+    }
+    let bad = pair::sound::unsound(pair);
+    if bad {
+        return Status::OutOfRange;
+    }
+    Status::Executed
+}
+
+fn less(a: usize, b: usize) -> usize
+    ensures { λ r. ⌜ r ≡ a - b ⌝ }
+{
+    if a < b {
+        return 0;
+    }
+    a - b
+}
+
+// Which response is next.
+fn index_of(a: ReadAnswer, pmtu: usize) -> usize
+    ensures { λ r. ⌜ r ≡ indexOf a pmtu ⌝ }
+{
+    let count = pieces::count(a.length, pmtu);
+    less(count, a.remaining)
+}
+
+fn response_opcode(place: u8) -> u8
+    requires { ⌜ place ≤ 4 ⌝ }
+    ensures { λ r. ⌜ r ≡ responseOpcode place ⌝ }
+{
+    if place == opcode::ONLY {
+        return opcode::READ_RESPONSE + 3;
+    }
+    opcode::READ_RESPONSE + place
+}
+
+// AETH on all but Middles.
+fn response_extension(place: u8, a: ReadAnswer) -> Extension
+    ensures { λ r. ⌜ r ≡ responseExtension place a ⌝ }
+{
+    if place == opcode::MIDDLE {
+        return Extension::Bare;
+    }
+    let msn = a.msn;
+    let aeth = Aeth {
+        syndrome: 0x1f,
+        msn,
+    };
+    Extension::Acknowledge(aeth)
+}
+
+fn short(n: usize) -> u32
+    ensures { λ r. ⌜ r ≡ n % 16777216 ⌝ }
+{
+    (n % 16777216) as u32
+}
+
+// The headers of response i, which carries n bytes.
+fn response_header(s: Setup, a: ReadAnswer, i: usize, n: usize) -> Header
+    ensures { λ r. ⌜ r ≡ responseHeader s a i n ⌝ }
+{
+    let count = pieces::count(a.length, s.pmtu);
+    let place = pieces::place(count, i);
+    let low = response_opcode(place);
+    let psn = a.psn.after(short(i));
+    let bth = apply::reply_bth(s, low, packet::pad(n), psn);
+    let extension = response_extension(place, a);
+    Header { bth, extension }
+}
+
+// How many bytes were written.
+fn done_bytes(answer: Answer) -> usize
+    ensures { λ r. ⌜ r ≡ doneBytes answer ⌝ }
+{
+    match answer {
+        Answer::Done(n) => n,
+        Answer::Refused(_) => 0,
+    }
+}
+
+// Writes the next response of the READ that is being answered, from memory as it is now.
+pub fn next_response(pair: Pair, mem: &[u8], out: &mut [u8]) -> Outcome
+    ensures { λ r. ⌜ r ≡ nextResponse pair (now (mem .entry)) (now (out .entry)) ⌝ }
+    ensures { λ r. ⌜ now (out .exit) ≡ nextOut pair (now (mem .entry)) (now (out .entry)) ⌝ }
+{
+    let status = next_status(pair, mem.len(), out.len());
+    if status.number() != 0 {
+        return unchanged(status, pair);
+    }
+    let setup = pair.setup;
+    let read = pair.read;
+    let i = index_of(read, setup.pmtu);
+    let span = pieces::part(read.length, setup.pmtu, i);
+    let from = read.offset + span.start;
+    let to = read.offset + span.end;
+    let h = response_header(setup, read, i, span.end - span.start);
+    let answer = packet::write(h, &mem[from..to], out);
+    let sent = done_bytes(answer);
+    let next = one_fewer(pair);
+    sending(next, sent)
+}
+
+// The pair with one response fewer to send.
+fn one_fewer(pair: Pair) -> Pair
+    ensures { λ r. ⌜ r ≡ with pair (pair .state) (pair .mark) (oneFewer (pair .read)) ⌝ }
+{
+    let mut read = pair.read;
+    read.remaining = less(pair.read.remaining, 1);
+    let mut next = pair;
+    next.read = read;
+    next
+}
+
+// Executed, and so many bytes sent.
+fn sending(pair: Pair, sent: usize) -> Outcome
+    ensures { λ r. ⌜ r ≡ sending pair sent ⌝ }
+{
+    let status = Status::Executed;
+    let mut o = unchanged(status, pair);
+    o.sent = sent;
+    o
+}
