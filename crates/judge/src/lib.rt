@@ -7,9 +7,9 @@ mod place;
 
 pub use key::key_fails;
 pub use operands::packet_of;
-pub use place::uses_entry;
 use pair::OpenMessage;
 use pair::Setup;
+pub use place::uses_entry;
 use request::Packet;
 ghost use mathlib.Core.Path.{_≡_};
 ghost use Prim.Native.Nat.{_-_};
