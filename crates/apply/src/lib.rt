@@ -1,13 +1,13 @@
 // What a decision does: to memory, to the saved atomics, to the pair, and the packet that it sends. The definitions and
 // their laws stand in the crate protocol.
-mod after;
-mod reply;
+mod answer;
+mod state;
 
-pub use after::pair_after;
-pub use reply::reply;
-pub use reply::reply_bth;
+pub use answer::reply;
+pub use answer::reply_bth;
 use protocol::Decision;
 use sequence::Psn;
+pub use state::pair_after;
 use table::Ring;
 ghost use mathlib.Core.Path.{_≡_};
 ghost use mathlib.Core.Bool.{cond};

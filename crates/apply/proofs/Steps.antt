@@ -1,0 +1,73 @@
+-- Laws of plain values behind the functions: numbers of packets, a part of a packet, an answer placed part by part.
+use Prim.Native.Nat.{ℕ, _+_, _-_, _%_, _≤_, min}
+use mathlib.Core.Path.{_≡_, refl, sym, ap, subst, _∙_}
+use mathlib.Core.Bool.{Bool, true, false}
+use mathlib.Core.List.{List, _++_, append-assoc}
+use native.Mathlib.Omega.{arith}
+use lib.Dec.{leb}
+use lib.ListN.{length, take, drop, length-append, length-drop}
+use lib.Seq.{take-all}
+use Rattle.laws.proofs.Auto.{tests}
+use Rattle.memory.specs.Memory.{placed}
+use Rattle.memory.proofs.Put.{placed-put, placed-placed, put-start}
+use Rattle.protocol.specs.Reply.{over}
+
+-- a count of numbers may be cut to its remainder
+pub after-rest : (x n : ℕ) → (x + n % 16777216) % 16777216 ≡ (x + n) % 16777216
+after-rest x n = omega arith
+
+-- no more is taken than there is
+take-cut : (n : ℕ) (l : List ℕ) → take (min n (length l)) l ≡ take n l
+take-cut n l = go (leb n (length l)) refl
+  where
+    go : (b : Bool) → leb n (length l) ≡ b → take (min n (length l)) l ≡ take n l
+    go true e =
+        let m : min n (length l) ≡ n = omega (arith, tests) in
+        ap (λ k. take k l) m
+    go false e = take-all (min n (length l)) l (omega (arith, tests)) ∙ sym (take-all n l (omega (arith, tests)))
+
+-- a part of a packet, cut off at the packet's end
+pub part-cut : (p : List ℕ) (start end stop from : ℕ) → stop ≡ min end (length p) → from ≡ min start stop
+    → take (stop - from) (drop from p) ≡ take (end - start) (drop start p)
+part-cut p start end stop from es ef =
+    let n : stop - from ≡ min (end - start) (length (drop start p)) = omega (arith, length-drop start p) in
+    go (leb start stop) refl ∙ (ap (λ k. take k (drop start p)) n ∙ take-cut (end - start) (drop start p))
+  where
+    go : (b : Bool) → leb start stop ≡ b → take (stop - from) (drop from p) ≡ take (stop - from) (drop start p)
+    go true e =
+        let f : from ≡ start = omega (arith, tests) in
+        ap (λ k. take (stop - from) (drop k p)) f
+    go false e =
+        let z : stop - from ≡ 0 = omega (arith, tests) in
+        ap (λ k. take k (drop from p)) z ∙ sym (ap (λ k. take k (drop start p)) z)
+
+-- bytes at the start of an output, and more behind them
+behind : (out d e : List ℕ) (n : ℕ) → length d ≡ n → n + length e ≤ length out
+    → placed (placed out 0 d) n e ≡ placed out 0 (d ++ e)
+behind out d e n l h =
+    let at : 0 + length d ≡ n = omega arith in
+    subst (λ k. placed (placed out 0 d) k e ≡ placed out 0 (d ++ e)) at (placed-placed out 0 d e (omega arith))
+
+-- the packet at the start, and what the output had past it
+at-start : (out d : List ℕ) → length d ≤ length out → placed out 0 d ≡ over d out
+unfolding over
+at-start out d h = placed-put out 0 d (omega arith) ∙ put-start out d
+
+-- a BTH's bytes b and an AETH's bytes a: the output is m after the first, w after both
+module _ (out b a m w : List ℕ) (lb : length b ≡ 12) (la : length a ≡ 4) (q : m ≡ placed out 0 b) (r : w ≡ placed m 12 a) where
+  size : length (b ++ a) ≡ 16
+  size = omega (arith, length-append b a)
+
+  both : 16 ≤ length out → w ≡ placed out 0 (b ++ a)
+  both h = r ∙ (ap (λ z. placed z 12 a) q ∙ behind out b a 12 lb (omega arith))
+
+  pub in-two : (x : List ℕ) → x ≡ b ++ a → 16 ≤ length out → w ≡ over x out
+  in-two x e h = both h ∙ (at-start out (b ++ a) (omega (arith, size)) ∙ ap (λ z. over z out) (sym e))
+
+  -- and the 8 bytes v of a value: the output is y after all three
+  pub in-three : (v y x : List ℕ) → length v ≡ 8 → y ≡ placed w 16 v → x ≡ b ++ (a ++ v) → 24 ≤ length out → y ≡ over x out
+  in-three v y x lv t e h =
+      let room : length ((b ++ a) ++ v) ≤ length out = omega (arith, size, length-append (b ++ a) v) in
+      t ∙ (ap (λ z. placed z 16 v) (both (omega arith))
+      ∙ (behind out (b ++ a) v 16 size (omega arith)
+      ∙ (at-start out ((b ++ a) ++ v) room ∙ ap (λ z. over z out) (append-assoc b a v ∙ sym e))))

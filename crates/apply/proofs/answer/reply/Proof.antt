@@ -1,0 +1,46 @@
+use borrow.Author.Tests.{lt-ltb, le-ltb, eq-eqb, ne-eqb}
+use Rattle.protocol.specs.Reply.{answerBytes, over}
+use borrow.Author.Needs.{needs}
+use Rattle.apply.proofs.answer.reply.Statement.{statement}
+use Rattle.apply.proofs.answer.reply.Tie as tie
+
+returns : tie.Need-returns
+unfolding answerBytes over
+returns c = simp (lt-ltb _ _ (c .if1 .taken))
+
+write-ack-requires : tie.Need-write-ack-requires
+write-ack-requires c κs = search needs
+
+same-length : tie.Need-same-length
+same-length c = search needs
+
+returns-2 : tie.Need-returns-2
+unfolding answerBytes over
+returns-2 c = simp (le-ltb _ _ (c .before .before .before .before .before .before .if1 .left), eq-eqb _ _ (c .before .before .before .before .if2 .taken), ← c .before .before .write-ack .ensures)
+
+write-value-requires : tie.Need-write-value-requires
+write-value-requires c κs = search needs
+
+same-length-2 : tie.Need-same-length-2
+same-length-2 c = search needs
+
+returns-3 : tie.Need-returns-3
+unfolding answerBytes over
+returns-3 c = simp (le-ltb _ _ (c .before .before .before .before .before .before .before .before .if1 .left), ne-eqb _ _ (c .before .before .before .before .before .before .if2 .left), eq-eqb _ _ (c .before .before .before .before .if3 .taken), ← c .before .before .write-value .ensures)
+
+returns-4 : tie.Need-returns-4
+unfolding answerBytes over
+returns-4 c = simp (le-ltb _ _ (c .before .before .before .before .if1 .left), ne-eqb _ _ (c .before .before .if2 .left), ne-eqb _ _ (c .if3 .left))
+
+pub reply-spec : {M : Type 1} → statement M
+reply-spec =
+    tie.close
+    (tie.spec
+    returns
+    write-ack-requires
+    same-length
+    returns-2
+    write-value-requires
+    same-length-2
+    returns-3
+    returns-4)

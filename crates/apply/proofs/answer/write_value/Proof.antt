@@ -1,0 +1,68 @@
+use mathlib.Core.Path.{sym, ap, _∙_}
+use mathlib.Core.List.{_++_}
+use lib.ListN.{length}
+use Rattle.header.specs.Write.{bthBytes, aethBytes, extensionBytes, headerBytes}
+use Rattle.protocol.specs.Reply.{replyHeader, atomicHeader}
+use Rattle.apply.proofs.Steps.{in-three}
+use borrow.Author.Needs.{needs}
+use Rattle.apply.proofs.answer.write_value.Statement.{statement}
+use Rattle.apply.proofs.answer.write_value.Tie as tie
+
+reply-bth-requires : tie.Need-reply-bth-requires
+reply-bth-requires c κs = search needs
+
+bth-bytes-requires : tie.Need-bth-bytes-requires
+bth-bytes-requires c κs = search needs
+
+slice-aggregate-place : tie.Need-slice-aggregate-place
+slice-aggregate-place c = search needs
+
+place-requires : tie.Need-place-requires
+place-requires c κs = search needs
+
+aeth-bytes-requires : tie.Need-aeth-bytes-requires
+aeth-bytes-requires c κs = search needs
+
+slice-aggregate-place-2 : tie.Need-slice-aggregate-place-2
+slice-aggregate-place-2 c = search needs
+
+place-requires-2 : tie.Need-place-requires-2
+place-requires-2 c κs = search needs
+
+value-bytes-requires : tie.Need-value-bytes-requires
+value-bytes-requires c κs = search needs
+
+slice-aggregate-place-3 : tie.Need-slice-aggregate-place-3
+slice-aggregate-place-3 c = search needs
+
+place-requires-3 : tie.Need-place-requires-3
+place-requires-3 c κs = search needs
+
+same-length : tie.Need-same-length
+same-length c = search needs
+
+returns : tie.Need-returns
+unfolding bthBytes aethBytes extensionBytes headerBytes replyHeader atomicHeader
+returns c =
+    let A = c .before .before .before .before .before .before .before .before .before .before .before .before .before .before .before .before .before .before .before .before .args in
+    let eb = c .before .before .before .before .before .before .before .before .before .before .before .before .before .before .before .before .before .bth-bytes .ensures ∙ ap bthBytes (c .before .before .before .before .before .before .before .before .before .before .before .before .before .before .before .before .before .before .reply-bth .ensures) in
+    let ea = c .before .before .before .before .before .before .before .before .before .before .before .aeth-bytes .ensures in
+    let ev = c .before .before .before .before .before .value-bytes .ensures in
+    in-three (A .out .now) _ _ _ _ (ap length eb) (ap length ea) (c .before .before .before .before .before .before .before .before .before .before .before .before .before .before .place .ensures) (c .before .before .before .before .before .before .before .before .place2 .ensures) _ _ _ (ap length ev) (c .before .before .place3 .ensures) (λ i. sym eb i ++ (sym ea i ++ sym ev i)) (c .before .before .before .before .before .before .before .before .before .before .before .before .before .before .before .before .before .before .before .before .pre)
+
+pub write-value-spec : {M : Type 1} → statement M
+write-value-spec =
+    tie.close
+    (tie.spec
+    reply-bth-requires
+    bth-bytes-requires
+    slice-aggregate-place
+    place-requires
+    aeth-bytes-requires
+    slice-aggregate-place-2
+    place-requires-2
+    value-bytes-requires
+    slice-aggregate-place-3
+    place-requires-3
+    same-length
+    returns)

@@ -1,0 +1,67 @@
+use borrow.Author.Tests.{eq-eqb, ne-eqb}
+use Rattle.protocol.specs.Apply.{memoryBy, actsAtomic}
+use Rattle.protocol.specs.Reply.{valueBy}
+use borrow.Author.Needs.{needs}
+use Rattle.apply.proofs.change.Statement.{statement}
+use Rattle.apply.proofs.change.Tie as tie
+
+place-part-requires : tie.Need-place-part-requires
+place-part-requires c κs = search needs
+
+same-length : tie.Need-same-length
+same-length c = search needs
+
+returns : tie.Need-returns
+unfolding memoryBy actsAtomic valueBy
+returns c =
+    let is = c .before .before .before .before .if1 .taken in
+    (simp is, simp (eq-eqb _ _ is, ← c .before .before .place-part .ensures))
+
+fetch-add-requires : tie.Need-fetch-add-requires
+fetch-add-requires c κs = search needs
+
+same-length-2 : tie.Need-same-length-2
+same-length-2 c = search needs
+
+returns-2 : tie.Need-returns-2
+unfolding memoryBy actsAtomic valueBy
+returns-2 c =
+    let is = eq-eqb _ _ (c .before .before .before .before .if2 .taken) in
+    let E = c .before .before .fetch-add .ensures in
+    (simp (is, ← E .0), simp (ne-eqb _ _ (c .before .before .before .before .before .before .if1 .left), is, ← E .1))
+
+cmp-swap-requires : tie.Need-cmp-swap-requires
+cmp-swap-requires c κs = search needs
+
+same-length-3 : tie.Need-same-length-3
+same-length-3 c = search needs
+
+returns-3 : tie.Need-returns-3
+unfolding memoryBy actsAtomic valueBy
+returns-3 c =
+    let other = ne-eqb _ _ (c .before .before .before .before .before .before .if2 .left) in
+    let is = eq-eqb _ _ (c .before .before .before .before .if3 .taken) in
+    let E = c .before .before .cmp-swap .ensures in
+    (simp (other, is, ← E .0), simp (ne-eqb _ _ (c .before .before .before .before .before .before .before .before .if1 .left), other, is, ← E .1))
+
+returns-4 : tie.Need-returns-4
+unfolding memoryBy actsAtomic valueBy
+returns-4 c =
+    let other = ne-eqb _ _ (c .before .before .if2 .left) in
+    let last = ne-eqb _ _ (c .if3 .left) in
+    (simp (other, last), simp (ne-eqb _ _ (c .before .before .before .before .if1 .left), other, last))
+
+pub change-spec : {M : Type 1} → statement M
+change-spec =
+    tie.close
+    (tie.spec
+    place-part-requires
+    same-length
+    returns
+    fetch-add-requires
+    same-length-2
+    returns-2
+    cmp-swap-requires
+    same-length-3
+    returns-3
+    returns-4)
