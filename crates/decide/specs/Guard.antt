@@ -3,8 +3,10 @@ use Prim.Native.Nat.{ℕ, _+_, _-_, _^_, _<_}
 use mathlib.Core.Path.{_≡_}
 use mathlib.Core.Bool.{true, false, cond}
 use mathlib.Core.List.{List}
+use mathlib.Core.Logic.{_⊎_}
 use lib.Dec.{ltb}
 use lib.ListN.{getD}
+use Rattle.pieces.specs.Pieces.{starts}
 use Rattle.pair.specs.declared.OpenMessage.{OpenMessage}
 use Rattle.pair.specs.declared.Pair.{Pair}
 use Rattle.pair.specs.declared.Status.the-variants as status
@@ -22,6 +24,11 @@ pub record PlaceFits (kind : ℕ) (m : OpenMessage) (entry region : List ℕ) : 
   pub send : kind ≡ 0 → getD entry 1 0 + m .placed < 2 ^ 64
   pub address : (kind ≡ 0 → ⊥) → 0 < keySpan (m .length) (m .placed) → m .address + m .placed < 2 ^ 64
   pub spots : (kind ≡ 0 → ⊥) → SpotFits region (m .address + m .placed) (keySpan (m .length) (m .placed))
+
+-- a packet as its bytes give it: it has an end, and READs and atomics are messages of one packet
+pub record Shaped (p : Packet) : Type 0 where
+  pub end : p .start + netOf p < 2 ^ 64
+  pub one : (p .kind ≡ 12) ⊎ ((p .kind ≡ 19) ⊎ (p .kind ≡ 20)) → starts (p .place) ≡ true
 
 -- a packet that passed the checks
 pub record Executable (p : Packet) (m : OpenMessage) (entry region : List ℕ) : Type 0 where

@@ -18,6 +18,7 @@ use table::Saved;
 ghost use mathlib.Core.Path.{_≡_};
 ghost use Rattle.request.specs.Verdict.{current};
 ghost use Rattle.table.specs.View.{newestSaved};
+ghost use Rattle.decide.specs.Guard.{Shaped};
 ghost use Rattle.protocol.specs.Decide.{psnBefore, againFails, readAgain, atomicAgain, isAtomic, duplicateDecision, regionFor};
 
 fn psn_before(psn: Psn) -> Psn
@@ -60,6 +61,7 @@ fn again_fails(p: Packet, s: Setup, m: OpenMessage, expected: Psn, region: [u64;
 }
 
 fn read_again(p: Packet, s: Setup, m: OpenMessage, expected: Psn, region: [u64; 7]) -> Decision
+    requires { ⌜ m .placed ≡ 0 ⌝ }
     ensures { λ r. ⌜ r ≡ readAgain p s m expected region ⌝ }
 {
     let fails = again_fails(p, s, m, expected, region);
@@ -99,6 +101,8 @@ fn is_atomic(kind: u8) -> bool
 }
 
 fn reread(p: Packet, pair: Pair, regions: &[[u64; 7]; 16]) -> Decision
+    requires { ⌜ Shaped p ⌝ }
+    requires { ⌜ p .kind ≡ 12 ⌝ }
     ensures { λ r. ⌜ r ≡ readAgain p (pair .setup) (current (pair .message) p) (pair .expected) (regionFor (p .kind) (current (pair .message) p .key) (now (regions .entry))) ⌝ }
 {
     let under = pair.message;
@@ -109,7 +113,13 @@ fn reread(p: Packet, pair: Pair, regions: &[[u64; 7]; 16]) -> Decision
 }
 
 // By the kind of the repeated packet. Only a READ's key is looked up, and only an atomic's value.
-pub(crate) fn duplicate(p: Packet, pair: Pair, regions: &[[u64; 7]; 16], saved: &[[u64; 2]; 16]) -> Decision
+pub(crate) fn duplicate(
+    p: Packet,
+    pair: Pair,
+    regions: &[[u64; 7]; 16],
+    saved: &[[u64; 2]; 16],
+) -> Decision
+    requires { ⌜ Shaped p ⌝ }
     ensures { λ r. ⌜ r ≡ duplicateDecision p (pair .setup) (pair .expected) (current (pair .message) p) (regionFor (p .kind) (current (pair .message) p .key) (now (regions .entry))) (newestSaved (p .psn .0) (now (saved .entry)) (pair .saved)) ⌝ }
 {
     let carries = judge::carrying(p.kind);

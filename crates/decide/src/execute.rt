@@ -9,7 +9,7 @@ use request::Packet;
 use sequence::Psn;
 ghost use mathlib.Core.Path.{_≡_};
 ghost use mathlib.Core.Bool.{cond};
-ghost use Prim.Native.Nat.{_+_, _<_, _^_};
+ghost use Prim.Native.Nat.{_+_, _-_, _<_, _^_};
 ghost use lib.Dec.{eqb};
 ghost use Rattle.request.specs.Verdict.{spot, netOf};
 ghost use Rattle.protocol.specs.Decide.{completes, completionOf, grown, placeOf, placing, swapping, reading, accepting, executing};
@@ -246,7 +246,13 @@ pub(crate) fn reading(
     }
 }
 
-fn accepting(p: Packet, m: OpenMessage, under: OpenMessage, region: [u64; 7], pmtu: usize) -> Decision
+fn accepting(
+    p: Packet,
+    m: OpenMessage,
+    under: OpenMessage,
+    region: [u64; 7],
+    pmtu: usize,
+) -> Decision
     requires { ⌜ SpotFits region (m .address) (m .length) ⌝ }
     ensures { λ r. ⌜ r ≡ accepting p m under region pmtu ⌝ }
 {

@@ -11,11 +11,11 @@ use protocol::Decision;
 use request::Packet;
 use sequence::Class;
 ghost use mathlib.Core.Path.{_≡_};
-ghost use Prim.Native.Nat.{_≤_, _<_, _+_, _^_};
+ghost use Prim.Native.Nat.{_≤_};
 ghost use Rattle.request.specs.Packet.{packetOf};
-ghost use Rattle.request.specs.Verdict.{netOf, current};
+ghost use Rattle.request.specs.Verdict.{current};
 ghost use Rattle.protocol.specs.Decide.{expectedDecision, regionFor, packetDecision, headEntry};
-ghost use Rattle.decide.specs.Guard.{guarded};
+ghost use Rattle.decide.specs.Guard.{Shaped, guarded};
 
 // The row of the key's region; a SEND has no key, and a key that is nobody's an empty row.
 pub(crate) fn region_for(regions: &[[u64; 7]; 16], kind: u8, key: u32) -> [u64; 7]
@@ -39,7 +39,7 @@ fn wide(x: u32) -> u64
 
 // The expected packet: executed if it passes every check, else refused.
 fn expected(p: Packet, pair: Pair, entry: [u64; 3], region: [u64; 7]) -> Decision
-    requires { ⌜ p .start + netOf p < 2 ^ 64 ⌝ }
+    requires { ⌜ Shaped p ⌝ }
     requires { ⌜ pair .setup .timer ≤ 31 ⌝ }
     ensures { λ r. ⌜ r ≡ expectedDecision p (pair .setup) (pair .message) (pair .entries .count) entry region ⌝ }
 {
@@ -55,7 +55,7 @@ fn expected(p: Packet, pair: Pair, entry: [u64; 3], region: [u64; 7]) -> Decisio
 
 // The same, by the tables: the entry at the head of its ring, and the region of its key.
 fn take(pair: Pair, regions: &[[u64; 7]; 16], entries: &[[u64; 3]; 16], p: Packet) -> Decision
-    requires { ⌜ p .start + netOf p < 2 ^ 64 ⌝ }
+    requires { ⌜ Shaped p ⌝ }
     requires { ⌜ pair .setup .timer ≤ 31 ⌝ }
     ensures { λ r. ⌜ r ≡ expectedDecision p (pair .setup) (pair .message) (pair .entries .count) (headEntry pair (now (entries .entry))) (regionFor (p .kind) (current (pair .message) p .key) (now (regions .entry))) ⌝ }
 {

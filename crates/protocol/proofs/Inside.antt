@@ -40,7 +40,7 @@ own-inside kind memory m region k h e =
     (subst (λ x. spot region x (m .length - m .placed) + (m .length - m .placed) ≤ memory) a (key-inside kind memory m region k h))
 
 -- the total of a message that carries bytes
-total : (p : Packet) (pmtu : ℕ) (m : OpenMessage) (most : ℕ) → carrying (p .kind) ≡ true → lengthsOff p pmtu m most ≡ false
+pub total : (p : Packet) (pmtu : ℕ) (m : OpenMessage) (most : ℕ) → carrying (p .kind) ≡ true → lengthsOff p pmtu m most ≡ false
     → totalOff (p .kind) (p .place) (m .placed) (netOf p) (m .length) most ≡ false
 unfolding lengthsOff
 total p pmtu m most c h =
@@ -52,7 +52,7 @@ send-total : (kind place placed net length most : ℕ) → eqb kind 0 ≡ true �
 unfolding totalOff
 send-total kind place placed net length most e h = ltb-false most (placed + net) (rw e at h)
 
-write-total : (kind place placed net length most : ℕ) → eqb kind 0 ≡ false → totalOff kind place placed net length most ≡ false
+pub write-total : (kind place placed net length most : ℕ) → eqb kind 0 ≡ false → totalOff kind place placed net length most ≡ false
     → net ≤ keySpan length placed
 unfolding totalOff keySpan
 write-total kind place placed net length most e h = go (ends place) (rw e at h)

@@ -1,0 +1,16 @@
+use borrow.Author.Needs.{needs}
+use Rattle.laws.proofs.Auto.{tested}
+use Rattle.protocol.specs.Decide.{isAtomic}
+use Rattle.decide.proofs.again.is_atomic.Statement.{statement}
+use Rattle.decide.proofs.again.is_atomic.Tie as tie
+
+returns : tie.Need-returns
+unfolding isAtomic
+returns c = search (needs, tested)
+
+returns-2 : tie.Need-returns-2
+unfolding isAtomic
+returns-2 c = search (needs, tested)
+
+pub is-atomic-spec : {M : Type 1} → statement M
+is-atomic-spec = tie.close (tie.spec returns returns-2)

@@ -1,0 +1,41 @@
+use Rattle.protocol.specs.Decide.{completionOf}
+use Rattle.request.specs.Verdict.{netOf}
+use borrow.Author.Needs.{needs}
+use Rattle.decide.proofs.execute.completion_of.Statement.{statement}
+use Rattle.decide.proofs.execute.completion_of.Tie as tie
+use Rattle.decide.proofs.execute.completes.Reads as completes-reads
+use Rattle.decide.proofs.execute.counted.Reads as counted-reads
+use Rattle.decide.proofs.still.no_completion.Reads as no-completion-reads
+use Rattle.judge.proofs.less.Reads as less-reads
+
+completes-requires : tie.Need-completes-requires
+completes-requires c κs = search needs
+
+less-requires : tie.Need-less-requires
+less-requires c κs = search needs
+
+counted-requires : tie.Need-counted-requires
+unfolding netOf
+counted-requires c κs = search needs
+
+returns : tie.Need-returns
+unfolding completionOf netOf
+returns c = simp (← c .before .before .before .completes .ensures, c .before .before .if1 .taken, ← c .before .less .ensures, ← c .counted .ensures)
+
+no-completion-requires : tie.Need-no-completion-requires
+no-completion-requires c κs = search needs
+
+returns-2 : tie.Need-returns-2
+unfolding completionOf netOf
+returns-2 c = simp (← c .before .before .completes .ensures, c .before .if1 .left, ← c .no-completion .ensures)
+
+pub completion-of-spec : {M : Type 1} → statement M
+completion-of-spec =
+    tie.close
+    (tie.spec
+    completes-requires
+    less-requires
+    counted-requires
+    returns
+    no-completion-requires
+    returns-2)

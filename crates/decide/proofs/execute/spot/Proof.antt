@@ -1,0 +1,35 @@
+use Prim.Native.Nat.{_<_}
+use native.Mathlib.Omega.{arith}
+use borrow.Author.Tests.{eq-eqb, ne-eqb}
+use Rattle.request.specs.Verdict.{spot}
+use borrow.Author.Needs.{needs}
+use Rattle.decide.proofs.execute.spot.Statement.{statement}
+use Rattle.decide.proofs.execute.spot.Tie as tie
+use Rattle.decide.proofs.execute.above.Reads as above-reads
+
+returns : tie.Need-returns
+unfolding spot
+returns c = simp (eq-eqb _ _ (c .if1 .taken))
+
+array-read-above : tie.Need-array-read-above
+array-read-above c = search needs
+
+above-requires : tie.Need-above-requires
+above-requires c κs = search needs
+
+array-read-result : tie.Need-array-read-result
+array-read-result c = search needs
+
+add-result : tie.Need-add-result
+add-result c =
+    let some : 0 < c .before .before .args .span = omega (arith, c .before .if1 .left) in
+    omega (arith, c .before .before .pre some, c .above .ensures)
+
+returns-2 : tie.Need-returns-2
+unfolding spot
+returns-2 c = simp (ne-eqb _ _ (c .before .if1 .left), ← c .above .ensures)
+
+pub spot-spec : {M : Type 1} → statement M
+spot-spec =
+    tie.close
+    (tie.spec returns array-read-above above-requires array-read-result add-result returns-2)

@@ -1,0 +1,17 @@
+use borrow.Author.Needs.{needs}
+use Rattle.decide.proofs.still.still.Statement.{statement}
+use Rattle.decide.proofs.still.still.Tie as tie
+use Rattle.decide.proofs.still.no_completion.Reads as no-completion-reads
+use Rattle.decide.proofs.still.no_message.Reads as no-message-reads
+
+no-message-requires : tie.Need-no-message-requires
+no-message-requires c κs = search needs
+
+no-completion-requires : tie.Need-no-completion-requires
+no-completion-requires c κs = search needs
+
+returns : tie.Need-returns
+returns c = simp (← c .before .no-message .ensures, ← c .no-completion .ensures)
+
+pub still-spec : {M : Type 1} → statement M
+still-spec = tie.close (tie.spec no-message-requires no-completion-requires returns)
