@@ -1,9 +1,14 @@
 // One line: the call it names, and what is printed of it.
 use crate::force;
+use crate::host::Host;
+use crate::host::with_pair;
+use crate::packets;
 use crate::print::decimal;
 use crate::print::text;
+use crate::read::IN;
 use crate::read::Line;
 use crate::show;
+use crate::store;
 use pair::HostOutcome;
 use pair::Pair;
 use pair::Setup;
@@ -34,6 +39,8 @@ const SHOW: u64 = 0x73686f77;
 const FORCE: u64 = 0x666f726365;
 
 const ROW: u64 = 0x726f77;
+
+const NEXT: u64 = 0x6e657874;
 
 const RC: u64 = 0x7263;
 
@@ -156,12 +163,16 @@ fn setup(line: Line) -> Setup {
     }
 }
 
-fn set_up(line: Line, pair: Pair, regions: &mut [[u64; 7]; 16]) -> Pair {
+// A set-up that is refused gives a pair of no memory.
+fn set_up(line: Line, host: Host, regions: &mut [[u64; 7]; 16], mem: &mut [u8]) -> Host {
     if !setup_fits(line) {
         unknown();
-        return pair;
+        return host;
     }
-    outcome(pair::host::set_up(setup(line), regions))
+    let pair = outcome(pair::host::set_up(setup(line), regions));
+    let n = pair.setup.memory;
+    store::start(mem, n);
+    Host { pair, memory: n }
 }
 
 fn region_fits(line: Line) -> bool {
@@ -292,9 +303,6 @@ fn pair_call(
     entries: &mut [[u64; 3]; 16],
 ) -> Pair {
     let c = line.command;
-    if c == PAIR {
-        return set_up(line, pair, regions);
-    }
     if c == RESET {
         return reset(line, pair, regions);
     }
@@ -322,8 +330,8 @@ fn empty(line: Line) -> bool {
     line.count == 0
 }
 
-// Does what a line says, and gives the pair to go on with.
-pub(crate) fn act(
+// The calls that need no memory.
+fn table_call(
     line: Line,
     pair: Pair,
     regions: &mut [[u64; 7]; 16],
@@ -362,4 +370,30 @@ pub(crate) fn act(
         return pair;
     }
     pair_call(line, pair, regions, entries)
+}
+
+// Does what a line says, and gives what the host goes on with.
+pub(crate) fn act(
+    line: Line,
+    host: Host,
+    regions: &mut [[u64; 7]; 16],
+    entries: &mut [[u64; 3]; 16],
+    saved: &mut [[u64; 2]; 16],
+    mem: &mut [u8],
+    bytes: &[u8],
+) -> Host {
+    let c = line.command;
+    if c == PAIR {
+        return set_up(line, host, regions, mem);
+    }
+    if c == IN {
+        return with_pair(
+            host,
+            packets::inbound(line, host, regions, entries, saved, mem, bytes),
+        );
+    }
+    if c == NEXT {
+        return with_pair(host, packets::next(line, host, mem));
+    }
+    with_pair(host, table_call(line, host.pair, regions, entries))
 }

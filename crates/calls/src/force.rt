@@ -50,6 +50,8 @@ const PLACED: u64 = 0x706c61636564;
 
 const ADDRESS: u64 = 0x61646472657373;
 
+const KEY: u64 = 0x6b6579;
+
 const LENGTH: u64 = 0x6c656e677468;
 
 const LEFT: u64 = 0x6c656674;
@@ -251,6 +253,11 @@ fn message(name: u64, n: u64, pair: Pair) -> Forced {
     }
     if name == ADDRESS {
         m.address = n;
+        p.message = m;
+        return hit(p);
+    }
+    if name == KEY {
+        m.key = low32(n);
         p.message = m;
         return hit(p);
     }

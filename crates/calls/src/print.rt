@@ -1,4 +1,4 @@
-// Text and numbers on standard output.
+// Text, numbers and bytes on standard output.
 use libc::STDOUT_FILENO;
 
 pub(crate) fn text(s: &[u8]) {
@@ -7,4 +7,21 @@ pub(crate) fn text(s: &[u8]) {
 
 pub(crate) fn decimal(n: u64) {
     io::print_decimal(STDOUT_FILENO, n);
+}
+
+pub(crate) fn hex(n: u64, digits: usize) {
+    io::print_hex(STDOUT_FILENO, n, digits);
+}
+
+fn wide(x: u8) -> u64 {
+    x as u64
+}
+
+// All bytes as hexadecimal digits, two each.
+pub(crate) fn bytes(s: &[u8]) {
+    let mut i = 0;
+    while i < s.len() {
+        hex(wide(s[i]), 2);
+        i += 1;
+    }
 }

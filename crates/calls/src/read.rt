@@ -1,11 +1,16 @@
-// Lines of words from standard input: a command, then numbers.
+// Lines of words from standard input: a command, then numbers, and a packet in the one call that has one.
+use crate::hex::Packet;
+use crate::hex::next_packet;
 use libc::STDIN_FILENO;
 
 // The end of the input, in place of a byte.
-const END: u32 = 256;
+pub(crate) const END: u32 = 256;
 
 // Numbers behind a command at most.
 pub(crate) const ARGS: usize = 13;
+
+// The letters of the call that has a packet, as its third argument.
+pub(crate) const IN: u64 = 0x696e;
 
 // A word: its first letters as one number, high byte first, and what number it is in decimal, if it is one that
 // fits 64 bits; and the byte that ended it.
@@ -18,22 +23,24 @@ struct Word {
 }
 
 // A line: the command's letters, its arguments as numbers, and how many. The first may be a name instead, and then
-// has letters and no number. Good is a line of at most 13 arguments in which no other is a name.
+// has letters and no number. Good is a line of at most 13 arguments in which no other is a name and a packet is one.
+// The packet's bytes are kept elsewhere, here is only how many they are. Stop is the byte that ended the line.
 pub(crate) struct Line {
     pub(crate) command: u64,
     pub(crate) name: u64,
     pub(crate) named: bool,
     pub(crate) args: [u64; 13],
     pub(crate) count: usize,
+    pub(crate) packet: usize,
     pub(crate) good: bool,
-    pub(crate) last: bool,
+    pub(crate) stop: u32,
 }
 
 fn wide(x: u8) -> u32 {
     x as u32
 }
 
-fn next_byte() -> u32 {
+pub(crate) fn next_byte() -> u32 {
     let mut one = [0u8; 1];
     let got = io::read_full(STDIN_FILENO, &mut one);
     if got == 0 {
@@ -42,7 +49,7 @@ fn next_byte() -> u32 {
     wide(one[0])
 }
 
-fn ends(b: u32) -> bool {
+pub(crate) fn ends(b: u32) -> bool {
     if b == 32 {
         return true;
     }
@@ -153,6 +160,12 @@ fn next_word() -> Word {
     w
 }
 
+// Passes the rest of a word over, and gives the byte that ends it.
+pub(crate) fn skip_word() -> u32 {
+    let w = next_word();
+    w.stop
+}
+
 // Whether a word is a number.
 fn is_number(w: Word) -> bool {
     if w.length == 0 {
@@ -164,8 +177,7 @@ fn is_number(w: Word) -> bool {
 // The line with one more argument.
 fn with_word(l: Line, w: Word) -> Line {
     let mut next = l;
-    let last = w.stop == END;
-    next.last = last;
+    next.stop = w.stop;
     let i = l.count;
     if ARGS <= i {
         next.good = false;
@@ -185,8 +197,36 @@ fn with_word(l: Line, w: Word) -> Line {
     next
 }
 
+// The line with a packet as one more argument.
+fn with_packet(l: Line, p: Packet) -> Line {
+    let mut next = l;
+    next.stop = p.stop;
+    next.packet = p.length;
+    next.count = 3;
+    if !p.good {
+        next.good = false;
+    }
+    next
+}
+
+// Whether the next argument is a packet.
+fn has_packet(l: Line) -> bool {
+    if l.command != IN {
+        return false;
+    }
+    l.count == 2
+}
+
+// The line with its next argument; a packet goes to the start of bytes.
+fn with_next(l: Line, bytes: &mut [u8]) -> Line {
+    if has_packet(l) {
+        return with_packet(l, next_packet(bytes));
+    }
+    with_word(l, next_word())
+}
+
 // The next line.
-pub(crate) fn next_line() -> Line {
+pub(crate) fn next_line(bytes: &mut [u8]) -> Line {
     let c = next_word();
     let mut l = Line {
         command: c.letters,
@@ -194,15 +234,13 @@ pub(crate) fn next_line() -> Line {
         named: false,
         args: [0; 13],
         count: 0,
+        packet: 0,
         good: true,
-        last: c.stop == END,
+        stop: c.stop,
     };
-    let mut stop = c.stop;
     let mut n: u64 = 0;
-    while n < u64::MAX && stop == 32 {
-        let w = next_word();
-        l = with_word(l, w);
-        stop = w.stop;
+    while n < u64::MAX && l.stop == 32 {
+        l = with_next(l, bytes);
         n += 1;
     }
     l

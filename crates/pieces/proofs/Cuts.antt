@@ -2,12 +2,14 @@
 use Prim.Native.Nat.{ℕ, zero, suc, _+_, _-_, _*_, _≤_, _<_, min}
 use mathlib.Core.Path.{_≡_, refl, sym, ap, subst, _∙_}
 use mathlib.Core.Bool.{Bool, true, false}
-use mathlib.Core.List.{List, [], _++_}
+use mathlib.Core.List.{List, [], _∷_, _++_}
 use native.Mathlib.Omega.{arith}
-use lib.Dec.{leb}
+use lib.Dec.{leb, eqb}
 use lib.ListN.{length, take, drop, length-take, length-drop, take-append-drop, drop-of-length-le}
-use lib.Seq.{drop-drop, take-all, take-nil}
+use lib.Seq.{drop-drop, take-all, take-nil, take-take}
 use borrow.Author.Tests.{leb-true, leb-false, eq-eqb, ne-eqb}
+use Rattle.laws.proofs.Tests.{cond-le}
+use Rattle.pieces.specs.declared.Span.{Span}
 use Rattle.pieces.specs.Pieces.{pieces, placeAt, pieceAt, partAt, joined}
 use Rattle.pieces.specs.Claims.{Joins, Full, Rest, AtMost, Parts, PartsWithin, Places}
 use Rattle.pieces.proofs.Counting.{counts, more, begins, begins-inside}
@@ -104,3 +106,32 @@ places count =
           let m : i + 1 ≡ count = omega arith in
           rw (ne-eqb count 1 n, ne-eqb i 0 z, eq-eqb (i + 1) count m);
     }
+
+pub place-bound : (count i : ℕ) → placeAt count i ≤ 4
+unfolding placeAt
+place-bound count i =
+    cond-le (eqb count 1) (omega arith) (cond-le (eqb i 0) (omega arith) (cond-le (eqb (i + 1) count) (omega arith) (omega arith)))
+
+-- a part of the first n bytes, that ends among them, is that part of all
+part-first : (s k n : ℕ) (l : List ℕ) → s + k ≤ n → take k (drop s (take n l)) ≡ take k (drop s l)
+part-first zero k n l h = take-take k n l (omega arith)
+part-first (suc s) k n [] h = ap (λ x. take k (drop (suc s) x)) (take-nil n)
+part-first (suc s) k zero (x ∷ l) h = absurd (omega arith)
+part-first (suc s) k (suc n) (x ∷ l) h = part-first s k n l (omega arith)
+
+-- piece i of the n bytes from o on, by where it begins and ends in all of them
+pub part-of : (l : List ℕ) (o n p i : ℕ) → o + n ≤ length l → (x : Span) → x ≡ partAt n p i
+    → take (o + x .end - (o + x .start)) (drop (o + x .start) l) ≡ pieceAt (take n (drop o l)) p i
+unfolding partAt
+part-of l o n p i h x e =
+    let d = take n (drop o l) in
+    let c : length d ≡ n = length-take n (drop o l) ∙ (ap (min n) (length-drop o l) ∙ omega arith) in
+    let s = min (i * p) n in
+    let k = min (i * p + p) n - min (i * p) n in
+    let a : o + min (i * p + p) n - (o + min (i * p) n) ≡ k = omega arith in
+    let w : s + k ≤ n = omega arith in
+    ap (λ y. take (o + y .end - (o + y .start)) (drop (o + y .start) l)) e
+    ∙ (ap (λ z. take z (drop (o + s) l)) a
+    ∙ (ap (take k) (sym (drop-drop s o l))
+    ∙ (sym (part-first s k n (drop o l) w)
+    ∙ (ap (λ z. take (min (i * p + p) z - min (i * p) z) (drop (min (i * p) z) d)) (sym c) ∙ parts d p i))))

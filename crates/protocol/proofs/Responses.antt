@@ -14,20 +14,21 @@ use Rattle.header.specs.Write.{followsBy, headerFits, headerLength}
 use Rattle.header.specs.Claims.{Widths}
 use Rattle.header.specs.declared.Header.{Header}
 use Rattle.header.specs.declared.HeaderRead.the-variants.{Accepted}
+use Rattle.header.specs.declared.Answer.the-variants.{Done}
 use Rattle.header.proofs.Widths.{bth-fits, extension-fits}
 use Rattle.header.proofs.Writes.{both-fit}
-use Rattle.packet.specs.Packet.{padOf, packetLength, payloadOf}
+use Rattle.packet.specs.Packet.{padOf, packetBytes, packetLength, packetWritten, packetOut, payloadOf}
 use Rattle.packet.specs.Claims.{Found}
 use Rattle.packet.proofs.Bytes.{length-packet}
 use Rattle.packet.proofs.Pads.{pad-small}
-use Rattle.packet.proofs.ReadBack.{found}
+use Rattle.packet.proofs.ReadBack.{found, writes}
 use Rattle.pieces.specs.Pieces.{pieces, placeAt, pieceAt, joined}
 use Rattle.pieces.proofs.Counting.{bounds}
 use Rattle.pieces.proofs.Cuts.{joins, at-most, places}
 use Rattle.pair.specs.Claims.{Sound}
 use Rattle.pair.specs.declared.Pair.{Pair}
 use Rattle.pair.specs.declared.ReadAnswer.{ReadAnswer}
-use Rattle.protocol.specs.Reply.{replyHeader}
+use Rattle.protocol.specs.Reply.{replyHeader, over}
 use Rattle.protocol.specs.Response.{responseOpcode, responseExtension, responsePayload, responseHeader, responseBytes}
 use Rattle.protocol.specs.Reads.{plainHeader, Answering, asked, ReadsAs, ResponsesRead, ResponsesJoin}
 
@@ -134,6 +135,16 @@ module _ (q : Pair) (m : List ℕ) (A : Answering q m) (i : ℕ) where
   pub room-for : length (responseBytes (q .setup) (q .read) m i) ≤ 16 + q .setup .pmtu
   unfolding h payload responseBytes
   room-for = omega (arith, length-packet h payload good, size)
+
+  -- the packet writer accepts it, and writes it whole
+  pub written : (out : List ℕ) → 16 + q .setup .pmtu ≤ length out
+      → (packetWritten (responseHeader (q .setup) (q .read) i (length (responsePayload (q .read) (q .setup .pmtu) m i))) (length (responsePayload (q .read) (q .setup .pmtu) m i)) (length out) ≡ Done (length (responseBytes (q .setup) (q .read) m i)))
+      × (packetOut (responseHeader (q .setup) (q .read) i (length (responsePayload (q .read) (q .setup .pmtu) m i))) (responsePayload (q .read) (q .setup .pmtu) m i) out ≡ over (responseBytes (q .setup) (q .read) m i) out)
+  unfolding h payload responseBytes over
+  written out room =
+      let W = writes h payload out good pad short (omega (arith, size)) in
+      let n = length-packet h payload good in
+      (W .0 ∙ ap Done (sym n), W .1 ∙ ap (λ k. packetBytes h payload ++ drop k out) (sym n))
 
   -- by its place
   reads-as : (place : ℕ) → placeAt (pieces (q .read .length) (q .setup .pmtu)) i ≡ place

@@ -2,12 +2,12 @@
 // laws stand in the crate protocol.
 mod response;
 
-pub use response::next_response;
 use header::HeaderRead;
 use pair::Pair;
 use pair::Status;
 use protocol::Completion;
 use protocol::Outcome;
+pub use response::next_response;
 ghost use mathlib.Core.Path.{_≡_};
 ghost use lib.ListN.{length};
 ghost use Rattle.protocol.specs.Decide.{readsFull, inboundRefusal};
@@ -81,7 +81,13 @@ pub fn inbound(
         return unchanged(refused, pair);
     }
     let setup = pair.setup;
-    let found = decode::admit(packet, setup.service, setup.ours, setup.pkey, pair.state == pair::READY);
+    let found = decode::admit(
+        packet,
+        setup.service,
+        setup.ours,
+        setup.pkey,
+        pair.state == pair::READY,
+    );
     let HeaderRead::Accepted(h) = found else {
         let dropped = Status::Dropped;
         return unchanged(dropped, pair);

@@ -10,11 +10,22 @@ use pair::Setup;
 use pair::Status;
 use protocol::Outcome;
 ghost use mathlib.Core.Path.{_≡_};
-ghost use Prim.Native.Nat.{_-_, _≤_, _%_};
+ghost use Prim.Native.Nat.{_+_, _≤_, _%_};
+ghost use lib.Dec.{ltb};
 ghost use lib.ListN.{length};
 ghost use Rattle.protocol.specs.Apply.{with};
 ghost use Rattle.protocol.specs.Response.{indexOf, responseOpcode, responseExtension, responseHeader, nextStatus, oneFewer, nextResponse, nextOut};
 ghost use Rattle.responder.specs.Unchanged.{doneBytes, sending};
+
+// Whether an output has no room for the longest response; no sum is made, so that none wraps.
+fn no_room(room: usize, pmtu: usize) -> bool
+    ensures { λ r. ⌜ r ≡ ltb room (16 + pmtu) ⌝ }
+{
+    if room < 16 {
+        return true;
+    }
+    room - 16 < pmtu
+}
 
 // Which refusal the call gets, or that it is none.
 fn next_status(pair: Pair, memory: usize, room: usize) -> Status
@@ -23,10 +34,8 @@ fn next_status(pair: Pair, memory: usize, room: usize) -> Status
     if pair.read.remaining == 0 {
         return Status::WrongState;
     }
-    if room < 16 {
-        return Status::OutputShort;
-    }
-    if room - 16 < pair.setup.pmtu {
+    let short = no_room(room, pair.setup.pmtu);
+    if short {
         return Status::OutputShort;
     }
     if memory != pair.setup.memory {
@@ -39,21 +48,12 @@ fn next_status(pair: Pair, memory: usize, room: usize) -> Status
     Status::Executed
 }
 
-fn less(a: usize, b: usize) -> usize
-    ensures { λ r. ⌜ r ≡ a - b ⌝ }
-{
-    if a < b {
-        return 0;
-    }
-    a - b
-}
-
 // Which response is next.
 fn index_of(a: ReadAnswer, pmtu: usize) -> usize
     ensures { λ r. ⌜ r ≡ indexOf a pmtu ⌝ }
 {
     let count = pieces::count(a.length, pmtu);
-    less(count, a.remaining)
+    judge::less(count, a.remaining)
 }
 
 fn response_opcode(place: u8) -> u8
@@ -137,7 +137,7 @@ fn one_fewer(pair: Pair) -> Pair
     ensures { λ r. ⌜ r ≡ with pair (pair .state) (pair .mark) (oneFewer (pair .read)) ⌝ }
 {
     let mut read = pair.read;
-    read.remaining = less(pair.read.remaining, 1);
+    read.remaining = judge::less(pair.read.remaining, 1);
     let mut next = pair;
     next.read = read;
     next

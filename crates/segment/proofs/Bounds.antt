@@ -14,11 +14,6 @@ use Rattle.segment.specs.Cut.{withImmediate, lowFor}
 use Rattle.segment.specs.declared.Request.{Request}
 use Rattle.segment.specs.declared.Request.the-variants.{Send, SendImmediate, Write, WriteImmediate, Read, CmpSwap, FetchAdd}
 
-pub place-bound : (count i : ℕ) → placeAt count i ≤ 4
-unfolding placeAt
-place-bound count i =
-    cond-le (eqb count 1) (omega arith) (cond-le (eqb i 0) (omega arith) (cond-le (eqb (i + 1) count) (omega arith) (omega arith)))
-
 pub immediate-bound : (place : ℕ) → place ≤ 4 → withImmediate place ≤ 5
 unfolding withImmediate
 immediate-bound place h = cond-le (ends place) (omega arith) (omega arith)

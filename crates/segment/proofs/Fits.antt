@@ -24,7 +24,8 @@ use Rattle.segment.specs.Cut.{lowFor, bthAt, sizeAt, headerAt, payloadAt
 use Rattle.segment.specs.Claims.{Carrier, Fit, Cuttable}
 use Rattle.segment.specs.declared.Connection.{Connection}
 use Rattle.segment.specs.declared.Request.{Request}
-use Rattle.segment.proofs.Bounds.{place-bound, low-bound, service-small}
+use Rattle.pieces.proofs.Cuts.{place-bound}
+use Rattle.segment.proofs.Bounds.{low-bound, service-small}
 use Rattle.segment.proofs.Fitting.{known}
 use Rattle.segment.proofs.Steps.{part-carried, span-inside}
 use Rattle.segment.proofs.Shapes.{shape, place-said, few, widths, carries-carrier, carrier-carries, in-limit, class-is}

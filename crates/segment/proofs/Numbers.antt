@@ -18,7 +18,8 @@ use Rattle.segment.specs.Claims.{Carrier, CutMarked, CutOpcodes, CutExte
 use Rattle.segment.specs.Numbers.{PsnsTaken, PsnAt, PsnFirst, PsnNext, NextMessage, NextIs}
 use Rattle.segment.specs.declared.Request.{Request}
 use Rattle.segment.specs.declared.Request.the-variants.{Send, SendImmediate, Write, WriteImmediate, Read, CmpSwap, FetchAdd}
-use Rattle.segment.proofs.Bounds.{place-bound, low-bound}
+use Rattle.pieces.proofs.Cuts.{place-bound}
+use Rattle.segment.proofs.Bounds.{low-bound}
 use Rattle.segment.proofs.Shapes.{shape, place-said, service-is}
 use Rattle.segment.proofs.Fits.{class-low, follows-said}
 

@@ -27,7 +27,8 @@ use Rattle.segment.specs.Claims.{Carrier, Fit, Cuttable, Refuses, CutUnf
 use Rattle.segment.specs.declared.Connection.{Connection}
 use Rattle.segment.specs.declared.Request.{Request}
 use Rattle.segment.specs.declared.Request.the-variants.{Send, SendImmediate, Write, WriteImmediate, Read, CmpSwap, FetchAdd}
-use Rattle.segment.proofs.Bounds.{place-bound, immediate-bound, low-bound}
+use Rattle.pieces.proofs.Cuts.{place-bound}
+use Rattle.segment.proofs.Bounds.{immediate-bound, low-bound}
 use Rattle.segment.proofs.Steps.{refused, length-carried}
 use Rattle.segment.proofs.Shapes.{place-said, carrier-carries, service-is, low-is}
 use Rattle.segment.proofs.Fitting.{refused-39, refused-34, not-refused}

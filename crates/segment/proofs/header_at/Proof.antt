@@ -1,6 +1,6 @@
 use Rattle.pieces.proofs.Cuts.{parts-within}
 use Rattle.segment.proofs.Steps.{bth-numbers, length-small, header-is}
-use Rattle.segment.proofs.Bounds.{place-bound}
+use Rattle.pieces.proofs.Cuts.{place-bound}
 use Prim.Native.Nat.{_≤_}
 use mathlib.Core.Path.{sym, subst}
 use native.Mathlib.Omega.{arith}

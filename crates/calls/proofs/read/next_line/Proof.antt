@@ -1,26 +1,25 @@
 use Prim.Native.Nat.{_-_, _^_}
+use lib.ListN.{length}
+use mathlib.Core.Path.{_≡_, refl}
 use native.Mathlib.Omega.{arith}
 use borrow.Author.Needs.{needs}
 use Rattle.calls.proofs.read.next_line.Statement.{statement}
 use Rattle.calls.proofs.read.next_line.Tie as tie
 
 abbrev Inv-loop : tie.InvT-loop
-Inv-loop l₀ stop₀ n₀ l stop n = Unit {0}
+Inv-loop bytes₀ l₀ n₀ bytes l n = length bytes ≡ length bytes₀
 
 abbrev μ-loop : tie.MeasureT-loop
-μ-loop l₀ stop₀ n₀ l stop n = 2 ^ 64 - n
+μ-loop bytes₀ l₀ n₀ bytes l n = 2 ^ 64 - n
 
 next-word-requires : tie.Need-next-word-requires Inv-loop μ-loop
 next-word-requires c κs = search needs
 
 loop-holds : tie.Need-loop-holds Inv-loop μ-loop
-loop-holds c = tt
+loop-holds c = refl
 
-next-word-requires-2 : tie.Need-next-word-requires-2 Inv-loop μ-loop
-next-word-requires-2 c κs = search needs
-
-with-word-requires : tie.Need-with-word-requires Inv-loop μ-loop
-with-word-requires c κs = search needs
+with-next-requires : tie.Need-with-next-requires Inv-loop μ-loop
+with-next-requires c κs = search needs
 
 add-n : tie.Need-add-n Inv-loop μ-loop
 add-n c = search needs
@@ -29,13 +28,19 @@ loop-less : tie.Need-loop-less Inv-loop μ-loop
 loop-less c = omega arith
 
 loop-again : tie.Need-loop-again Inv-loop μ-loop
-loop-again c = tt
+loop-again c = search needs
+
+same-length : tie.Need-same-length Inv-loop μ-loop
+same-length c = search needs
 
 returns : tie.Need-returns Inv-loop μ-loop
-returns c = tt
+returns c = search needs
+
+same-length-2 : tie.Need-same-length-2 Inv-loop μ-loop
+same-length-2 c = search needs
 
 returns-2 : tie.Need-returns-2 Inv-loop μ-loop
-returns-2 c = tt
+returns-2 c = search needs
 
 pub next-line-spec : {M : Type 1} → statement M
 next-line-spec =
@@ -45,10 +50,11 @@ next-line-spec =
     μ-loop
     next-word-requires
     loop-holds
-    next-word-requires-2
-    with-word-requires
+    with-next-requires
     add-n
     loop-less
     loop-again
+    same-length
     returns
+    same-length-2
     returns-2)

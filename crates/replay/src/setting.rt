@@ -1,0 +1,66 @@
+// The pair that the packets are for.
+use pair::Pair;
+use pair::Setup;
+use sequence::Psn;
+use table::Entry;
+use table::Region;
+
+fn setup() -> Setup {
+    let start = Psn(7);
+    Setup {
+        service: opcode::RC,
+        pmtu: 256,
+        ours: 0x12,
+        theirs: 0x34,
+        pkey: 0xffff,
+        start,
+        timer: 0,
+        send: true,
+        write: true,
+        read: true,
+        atomic: true,
+        memory: 4096,
+    }
+}
+
+fn region() -> Region {
+    Region {
+        key: 0x1000,
+        address: 0x10000,
+        length: 1024,
+        offset: 0,
+        write: true,
+        read: true,
+        atomic: true,
+    }
+}
+
+// Posts entries 0 to 15, of 128 bytes each.
+fn post_entries(start: Pair, entries: &mut [[u64; 3]; 16]) -> Pair {
+    let mut pair = start;
+    let mut i: u64 = 0;
+    while i < 16 {
+        let entry = Entry {
+            number: i,
+            offset: 2048 + 128 * i,
+            length: 128,
+        };
+        let o = pair::host::post_entry(pair, entries, entry);
+        pair = o.pair;
+        i += 1;
+    }
+    pair
+}
+
+// Makes the pair, with its tables. No call refuses these numbers. Were the region refused, the pair would be one that
+// drops every packet; the other calls leave what they refuse in the pair that they give.
+pub(crate) fn pair(regions: &mut [[u64; 7]; 16], entries: &mut [[u64; 3]; 16]) -> Pair {
+    let fresh = pair::host::set_up(setup(), regions);
+    let added = pair::host::add_region(fresh.pair, regions, region());
+    if added.number() != 0 {
+        return pair::blank();
+    }
+    let posted = post_entries(fresh.pair, entries);
+    let ready = pair::host::make_ready(posted);
+    ready.pair
+}

@@ -1,0 +1,149 @@
+-- The inbound call step by step: from what each function answered to what the definitions say.
+use Prim.Native.Nat.{ℕ, _≤_, _<_}
+use mathlib.Core.Path.{_≡_, refl, sym, ap, subst, _∙_}
+use mathlib.Core.Bool.{Bool, true, false, cond}
+use mathlib.Core.List.{List}
+use native.Mathlib.Omega.{arith}
+use lib.Dec.{eqb, ltb}
+use lib.ListN.{length}
+use borrow.Author.Tests.{eq-eqb, ne-eqb, le-ltb}
+use Rattle.sequence.specs.declared.Msn.{Msn}
+use Rattle.header.specs.Check.{admitted}
+use Rattle.header.specs.declared.Header.{Header}
+use Rattle.header.specs.declared.HeaderRead.{HeaderRead}
+use Rattle.header.specs.declared.HeaderRead.the-variants as read
+use Rattle.memory.specs.Word.{wordAt}
+use Rattle.table.specs.View.{savedRows}
+use Rattle.table.specs.declared.Ring.{Ring}
+use Rattle.pair.specs.Answer.{statusNumber, executed}
+use Rattle.pair.specs.declared.Pair.{Pair}
+use Rattle.pair.specs.declared.Status.{Status}
+use Rattle.pair.specs.declared.Status.the-variants as status
+use Rattle.request.specs.Packet.{packetOf}
+use Rattle.protocol.specs.declared.Decision.{Decision}
+use Rattle.protocol.specs.declared.Outcome.{Outcome}
+use Rattle.protocol.specs.Decide.{quietly, packetDecision, orDrop, inboundRefusal, decided}
+use Rattle.protocol.specs.Apply.{memoryBy, actsAtomic, savedBy, after, pairBy}
+use Rattle.protocol.specs.Reply.{answerBytes, valueBy, over, outBy}
+use Rattle.protocol.specs.Inbound.{outcomeBy, decision, inbound, inboundMemory, inboundSaved, inboundOut}
+use Rattle.protocol.proofs.Rows.Quiet.{dropped, short, range, unfinished}
+use Rattle.protocol.proofs.Rows.{Quiet, passed, refusal-quiet}
+use Rattle.decide.specs.Guard.{guarded}
+use Rattle.responder.specs.Unchanged.{unchanged}
+
+-- outcome, memory, saved atomics and output, as the promise lists them
+abbrev pub Leaves : Pair → List (List ℕ) → List (List ℕ) → List (List ℕ) → List ℕ → List ℕ → List ℕ → Outcome → List ℕ → List (List ℕ) → List ℕ → Type 0
+Leaves q regions entries saved m p out o m' saved' out' =
+    (o ≡ inbound q regions entries saved m p out)
+    × ((m' ≡ inboundMemory q regions entries saved m p out)
+    × ((saved' ≡ inboundSaved q regions entries saved m p out) × (out' ≡ inboundOut q regions entries saved m p out)))
+
+-- a decision, and what it does
+by : (q : Pair) (regions entries saved : List (List ℕ)) (m p out : List ℕ) (d : Decision) → decision q regions entries saved m p out ≡ d
+    → (o : Outcome) → o ≡ outcomeBy q d
+    → (m' : List ℕ) → m' ≡ memoryBy d m p
+    → (saved' : List (List ℕ)) → saved' ≡ savedBy (q .saved) d saved m
+    → (out' : List ℕ) → out' ≡ outBy (q .setup) d (pairBy q d .msn) m out
+    → Leaves q regions entries saved m p out o m' saved' out'
+unfolding inbound inboundMemory inboundSaved inboundOut
+by q regions entries saved m p out d e o a m' b saved' c out' f = (
+  a ∙ ap (outcomeBy q) (sym e),
+  (b ∙ ap (λ x. memoryBy x m p) (sym e), (c ∙ ap (λ x. savedBy (q .saved) x saved m) (sym e), f ∙ ap (λ x. outBy (q .setup) x (pairBy q x .msn) m out) (sym e))),
+)
+
+-- a quiet decision changes nothing
+quiet-outcome : (q : Pair) (t : Status) → Quiet t → unchanged t q ≡ outcomeBy q (quietly t)
+unfolding outcomeBy quietly pairBy after statusNumber
+quiet-outcome q t dropped = refl
+quiet-outcome q t short = refl
+quiet-outcome q t range = refl
+quiet-outcome q t unfinished = refl
+
+quiet-all : (q : Pair) (regions entries saved : List (List ℕ)) (m p out : List ℕ) (t : Status) → Quiet t
+    → decision q regions entries saved m p out ≡ quietly t
+    → (o : Outcome) → o ≡ unchanged t q → Leaves q regions entries saved m p out o m saved out
+unfolding quietly memoryBy savedBy actsAtomic outBy answerBytes over
+quiet-all q regions entries saved m p out t Q e o a =
+    by q regions entries saved m p out (quietly t) e o (a ∙ quiet-outcome q t Q) m refl saved refl out refl
+
+-- refused before the packet is looked at
+pub refused : (q : Pair) (regions entries saved : List (List ℕ)) (m p out : List ℕ) (t : Status) → t ≡ inboundRefusal q (length m) (length out)
+    → (n : ℕ) → n ≡ statusNumber t → (n ≡ 0 → ⊥)
+    → (o : Outcome) → o ≡ unchanged t q → Leaves q regions entries saved m p out o m saved out
+unfolding decision decided executed
+refused q regions entries saved m p out t is n number some o a =
+    let x : eqb (statusNumber (inboundRefusal q (length m) (length out))) 0 ≡ false = ap (λ s. eqb (statusNumber s) 0) (sym is) ∙ (ap (λ k. eqb k 0) (sym number) ∙ ne-eqb n 0 some) in
+    quiet-all q regions entries saved m p out t (subst Quiet (sym is) (refusal-quiet q (length m) (length out) x)) (rw x (ap quietly (sym is))) o a
+
+-- what holds after that
+record Willing (q : Pair) (m out : List ℕ) : Type 0 where
+  taken : executed (inboundRefusal q (length m) (length out)) ≡ true
+  room : 24 ≤ length out
+  timer : q .setup .timer ≤ 31
+
+willing : (q : Pair) (m out : List ℕ) (t : Status) → t ≡ inboundRefusal q (length m) (length out) → (n : ℕ) → n ≡ statusNumber t → n ≡ 0 → Willing q m out
+unfolding executed
+willing q m out t is n number none =
+    let x : eqb (statusNumber (inboundRefusal q (length m) (length out))) 0 ≡ true = ap (λ s. eqb (statusNumber s) 0) (sym is) ∙ (ap (λ k. eqb k 0) (sym number) ∙ eq-eqb n 0 none) in
+    let P = passed q (length m) (length out) x in
+    record { taken = x; room = P .0; timer = P .1 .setup .0 .timer }
+
+-- an atomic saves the value that it answers
+saved-value : (ring : Ring) (d : Decision) (saved : List (List ℕ)) (m : List ℕ)
+    → cond (actsAtomic (d .act)) (savedRows saved ring (d .psn .0) (valueBy d m)) saved ≡ savedBy ring d saved m
+unfolding savedBy valueBy
+saved-value ring d saved m = go (actsAtomic (d .act))
+  where
+    go : (b : Bool) → cond b (savedRows saved ring (d .psn .0) (cond b (wordAt m (d .at)) (d .value))) saved ≡ cond b (savedRows saved ring (d .psn .0) (wordAt m (d .at))) saved
+    go true = refl
+    go false = refl
+
+-- the header checks of the pair
+abbrev headerBy : Pair → List ℕ → HeaderRead
+headerBy q p = admitted (q .setup .service) (q .setup .ours) (q .setup .pkey) (eqb (q .state) 1) p
+
+module _ (q : Pair) (regions entries saved : List (List ℕ)) (m p out : List ℕ) (t : Status) (is : t ≡ inboundRefusal q (length m) (length out))
+    (n : ℕ) (number : n ≡ statusNumber t) (none : n ≡ 0) where
+  -- the decision, by what the header checks found
+  decided-by : (f : HeaderRead) → f ≡ headerBy q p
+      → decision q regions entries saved m p out ≡ orDrop f (λ h. packetDecision q regions entries saved (packetOf h (length p)))
+  unfolding decision decided
+  decided-by f e =
+      ap (λ b. cond b (orDrop (headerBy q p) (λ h. packetDecision q regions entries saved (packetOf h (length p)))) (quietly (inboundRefusal q (length m) (length out)))) (willing q m out t is n number none .taken)
+      ∙ ap (λ x. orDrop x (λ h. packetDecision q regions entries saved (packetOf h (length p)))) (sym e)
+
+  -- a header that does not pass is left at once
+  pub left-at-once : (f : HeaderRead) → f ≡ headerBy q p → (reason : ℕ) → f ≡ read.Dropped reason
+      → (o : Outcome) → o ≡ unchanged status.Dropped q → Leaves q regions entries saved m p out o m saved out
+  left-at-once f e reason d o a =
+      quiet-all q regions entries saved m p out status.Dropped dropped
+      (decided-by f e ∙ ap (λ x. orDrop x (λ h. packetDecision q regions entries saved (packetOf h (length p)))) d) o a
+
+  -- the timer code of a pair that is not refused is one
+  pub whole : (f : HeaderRead) → f ≡ headerBy q p → (h : Header) → f ≡ read.Accepted h
+      → (d : Decision) → d ≡ guarded q (packetDecision q regions entries saved (packetOf h (length p)))
+      → (m' : List ℕ) → m' ≡ memoryBy d m p → (value : ℕ) → value ≡ valueBy d m
+      → (saved' : List (List ℕ)) → saved' ≡ cond (actsAtomic (d .act)) (savedRows saved (q .saved) (d .psn .0) value) saved
+      → (next : Pair) → next ≡ pairBy q d
+      → (out' : List ℕ) → out' ≡ cond (ltb (length out) 24) out (over (answerBytes (q .setup) d (next .msn) value) out)
+      → Leaves q regions entries saved m p out (record { status = d .status; pair = next; completion = d .completion; sent = d .sent }) m' saved' out'
+  unfolding guarded outcomeBy outBy
+  whole f e h accepted d i m' a value v saved' b next k out' c =
+      by q regions entries saved m p out d (sym decision-is) _ (λ x. record { status = d .status; pair = k x; completion = d .completion; sent = d .sent }) m' a saved' (b ∙ kept) out' (c ∙ sent)
+    where
+      W : Willing q m out
+      W = willing q m out t is n number none
+
+      decision-is : d ≡ decision q regions entries saved m p out
+      decision-is =
+          i
+          ∙ (ap (λ x. cond x (quietly status.OutOfRange) (packetDecision q regions entries saved (packetOf h (length p)))) (le-ltb 31 (q .setup .timer) (W .timer))
+          ∙ sym (decided-by f e ∙ ap (λ x. orDrop x (λ h. packetDecision q regions entries saved (packetOf h (length p)))) accepted))
+
+      kept : cond (actsAtomic (d .act)) (savedRows saved (q .saved) (d .psn .0) value) saved ≡ savedBy (q .saved) d saved m
+      kept = ap (λ x. cond (actsAtomic (d .act)) (savedRows saved (q .saved) (d .psn .0) x) saved) v ∙ saved-value (q .saved) d saved m
+
+      sent : cond (ltb (length out) 24) out (over (answerBytes (q .setup) d (next .msn) value) out) ≡ over (answerBytes (q .setup) d (pairBy q d .msn) (valueBy d m)) out
+      sent =
+          ap (λ x. cond x out (over (answerBytes (q .setup) d (next .msn) value) out)) (le-ltb (length out) 24 (W .room))
+          ∙ (λ x. over (answerBytes (q .setup) d (k x .msn) (v x)) out)

@@ -1,0 +1,12 @@
+use borrow.Author.Needs.{needs}
+use Rattle.laws.proofs.Auto.{tested}
+use Rattle.protocol.specs.Decide.{readsFull}
+use Rattle.responder.proofs.reads_full.Statement.{statement}
+use Rattle.responder.proofs.reads_full.Tie as tie
+
+returns : tie.Need-returns
+unfolding readsFull
+returns c = search (needs, tested)
+
+pub reads-full-spec : {M : Type 1} → statement M
+reads-full-spec = tie.close (tie.spec returns)

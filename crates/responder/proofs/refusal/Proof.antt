@@ -1,0 +1,38 @@
+use borrow.Author.Tests.{eq-eqb, le-leb, le-ltb, lt-leb, lt-ltb, ne-eqb}
+use Rattle.protocol.specs.Decide.{inboundRefusal}
+use borrow.Author.Needs.{needs}
+use Rattle.responder.proofs.refusal.Statement.{statement}
+use Rattle.responder.proofs.refusal.Tie as tie
+use Rattle.pair.proofs.sound.unsound.Reads as unsound-reads
+use Rattle.responder.proofs.reads_full.Reads as reads-full-reads
+
+returns : tie.Need-returns
+unfolding inboundRefusal
+returns c = simp (lt-leb _ _ (c .if1 .taken), lt-ltb _ _ (c .if1 .taken))
+
+returns-2 : tie.Need-returns-2
+unfolding inboundRefusal
+returns-2 c = simp (le-ltb _ _ (c .before .before .if1 .left), le-leb _ _ (c .before .before .if1 .left), ne-eqb _ _ (c .if2 .taken))
+
+unsound-requires : tie.Need-unsound-requires
+unsound-requires c κs = search needs
+
+returns-3 : tie.Need-returns-3
+unfolding inboundRefusal
+returns-3 c = simp (le-ltb _ _ (c .before .before .before .before .if1 .left), le-leb _ _ (c .before .before .before .before .if1 .left), eq-eqb _ _ (c .before .before .if2 .left), ← c .before .unsound .ensures, c .if3 .taken)
+
+reads-full-requires : tie.Need-reads-full-requires
+reads-full-requires c κs = search needs
+
+returns-4 : tie.Need-returns-4
+unfolding inboundRefusal
+returns-4 c = simp (le-ltb _ _ (c .before .before .before .before .before .before .if1 .left), le-leb _ _ (c .before .before .before .before .before .before .if1 .left), eq-eqb _ _ (c .before .before .before .before .if2 .left), ← c .before .before .before .unsound .ensures, c .before .before .if3 .left, ← c .before .reads-full .ensures, c .if4 .taken)
+
+returns-5 : tie.Need-returns-5
+unfolding inboundRefusal
+returns-5 c = simp (le-ltb _ _ (c .before .before .before .before .before .before .if1 .left), le-leb _ _ (c .before .before .before .before .before .before .if1 .left), eq-eqb _ _ (c .before .before .before .before .if2 .left), ← c .before .before .before .unsound .ensures, c .before .before .if3 .left, ← c .before .reads-full .ensures, c .if4 .left)
+
+pub refusal-spec : {M : Type 1} → statement M
+refusal-spec =
+    tie.close
+    (tie.spec returns returns-2 unsound-requires returns-3 reads-full-requires returns-4 returns-5)

@@ -1,0 +1,17 @@
+use Rattle.protocol.specs.Response.{indexOf}
+use borrow.Author.Needs.{needs}
+use Rattle.responder.proofs.response.index_of.Statement.{statement}
+use Rattle.responder.proofs.response.index_of.Tie as tie
+
+count-requires : tie.Need-count-requires
+count-requires c κs = search needs
+
+less-requires : tie.Need-less-requires
+less-requires c κs = search needs
+
+returns : tie.Need-returns
+unfolding indexOf
+returns c = simp (← c .before .count .ensures, ← c .less .ensures)
+
+pub index-of-spec : {M : Type 1} → statement M
+index-of-spec = tie.close (tie.spec count-requires less-requires returns)

@@ -1,0 +1,36 @@
+use borrow.Author.Tests.{eq-eqb, ne-eqb}
+use Rattle.protocol.specs.Response.{nextStatus}
+use borrow.Author.Needs.{needs}
+use Rattle.responder.proofs.response.next_status.Statement.{statement}
+use Rattle.responder.proofs.response.next_status.Tie as tie
+
+returns : tie.Need-returns
+unfolding nextStatus
+returns c = simp (eq-eqb _ _ (c .if1 .taken))
+
+no-room-requires : tie.Need-no-room-requires
+no-room-requires c κs = search needs
+
+returns-2 : tie.Need-returns-2
+unfolding nextStatus
+returns-2 c = simp (ne-eqb _ _ (c .before .before .if1 .left), ← c .before .no-room .ensures, c .if2 .taken)
+
+returns-3 : tie.Need-returns-3
+unfolding nextStatus
+returns-3 c = simp (ne-eqb _ _ (c .before .before .before .before .if1 .left), ← c .before .before .before .no-room .ensures, c .before .before .if2 .left, ne-eqb _ _ (c .if3 .taken))
+
+unsound-requires : tie.Need-unsound-requires
+unsound-requires c κs = search needs
+
+returns-4 : tie.Need-returns-4
+unfolding nextStatus
+returns-4 c = simp (ne-eqb _ _ (c .before .before .before .before .before .before .if1 .left), ← c .before .before .before .before .before .no-room .ensures, c .before .before .before .before .if2 .left, eq-eqb _ _ (c .before .before .if3 .left), ← c .before .unsound .ensures, c .if4 .taken)
+
+returns-5 : tie.Need-returns-5
+unfolding nextStatus
+returns-5 c = simp (ne-eqb _ _ (c .before .before .before .before .before .before .if1 .left), ← c .before .before .before .before .before .no-room .ensures, c .before .before .before .before .if2 .left, eq-eqb _ _ (c .before .before .if3 .left), ← c .before .unsound .ensures, c .if4 .left)
+
+pub next-status-spec : {M : Type 1} → statement M
+next-status-spec =
+    tie.close
+    (tie.spec returns no-room-requires returns-2 returns-3 unsound-requires returns-4 returns-5)

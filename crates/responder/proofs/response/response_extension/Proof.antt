@@ -1,0 +1,16 @@
+use borrow.Author.Needs.{needs}
+use Rattle.laws.proofs.Auto.{tested}
+use Rattle.protocol.specs.Response.{responseExtension}
+use Rattle.responder.proofs.response.response_extension.Statement.{statement}
+use Rattle.responder.proofs.response.response_extension.Tie as tie
+
+returns : tie.Need-returns
+unfolding responseExtension
+returns c = search (needs, tested)
+
+returns-2 : tie.Need-returns-2
+unfolding responseExtension
+returns-2 c = search (needs, tested)
+
+pub response-extension-spec : {M : Type 1} → statement M
+response-extension-spec = tie.close (tie.spec returns returns-2)

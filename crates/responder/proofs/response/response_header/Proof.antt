@@ -1,0 +1,52 @@
+use Rattle.apply.proofs.Steps.{after-rest}
+use Rattle.pieces.proofs.Cuts.{place-bound}
+use mathlib.Core.Path.{sym, subst}
+use Prim.Native.Nat.{_≤_}
+use Rattle.protocol.specs.Response.{responseHeader}
+use Rattle.protocol.specs.Reply.{replyHeader}
+use borrow.Author.Needs.{needs}
+use Rattle.responder.proofs.response.response_header.Statement.{statement}
+use Rattle.responder.proofs.response.response_header.Tie as tie
+
+count-requires : tie.Need-count-requires
+count-requires c κs = search needs
+
+place-requires : tie.Need-place-requires
+place-requires c κs = search needs
+
+response-opcode-requires : tie.Need-response-opcode-requires
+response-opcode-requires c κs = subst (λ x. x ≤ 4) (sym (c .place .ensures)) (place-bound _ _)
+
+short-requires : tie.Need-short-requires
+short-requires c κs = search needs
+
+after-requires : tie.Need-after-requires
+after-requires c κs = search needs
+
+pad-requires : tie.Need-pad-requires
+pad-requires c κs = search needs
+
+reply-bth-requires : tie.Need-reply-bth-requires
+reply-bth-requires c κs = search needs
+
+response-extension-requires : tie.Need-response-extension-requires
+response-extension-requires c κs = search needs
+
+returns : tie.Need-returns
+unfolding responseHeader replyHeader
+returns c =
+    simp (c .before .before .before .before .before .before .before .count .ensures, c .before .before .before .before .before .before .place .ensures, c .before .before .before .before .before .response-opcode .ensures, c .before .before .before .before .short .ensures, c .before .before .before .after .ensures, c .before .before .pad .ensures, c .before .reply-bth .ensures, c .response-extension .ensures, after-rest)
+
+pub response-header-spec : {M : Type 1} → statement M
+response-header-spec =
+    tie.close
+    (tie.spec
+    count-requires
+    place-requires
+    response-opcode-requires
+    short-requires
+    after-requires
+    pad-requires
+    reply-bth-requires
+    response-extension-requires
+    returns)
