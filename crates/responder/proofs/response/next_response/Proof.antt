@@ -27,17 +27,17 @@ part-requires c κs = search needs
 
 add-from : tie.Need-add-from
 add-from c =
-    let I = inside (c .before .before .before .before .before .before .before .before .before .before .before .args .pair) (c .before .before .before .before .before .before .before .before .before .before .before .args .mem .now) (c .before .before .before .before .before .before .before .before .before .before .before .args .out .now) (c .before .before .before .before .before .before .before .before .next-status .result) (c .before .before .before .before .before .before .before .before .next-status .ensures) (c .before .before .before .before .before .before .before .number .result) (c .before .before .before .before .before .before .before .number .ensures) (c .before .before .before .before .before .before .if1 .left) (c .before .before .before .index-of .result) (c .before .before .part .result) (c .before .before .part .ensures) in
+    let I = inside (c .before .before .before .before .before .before .before .before .before .before .before .args .pair) (c .before .before .before .before .before .before .before .before .before .before .before .args .mem .now) (c .before .before .before .before .before .before .before .before .before .before .before .args .out .now) (c .before .before .before .before .before .before .before .before .next-status .result) (c .before .before .before .before .before .before .before .before .next-status .ensures) (c .before .before .before .before .before .before .before .number .result) (c .before .before .before .before .before .before .before .number .ensures) (c .before .before .before .before .before .before .if1 .left) _ (c .before .before .part .result) (c .before .before .part .ensures) in
     omega (arith, I .0, I .1, I .2)
 
 add-to : tie.Need-add-to
 add-to c =
-    let I = inside (c .before .before .before .before .before .before .before .before .before .before .before .before .before .args .pair) (c .before .before .before .before .before .before .before .before .before .before .before .before .before .args .mem .now) (c .before .before .before .before .before .before .before .before .before .before .before .before .before .args .out .now) (c .before .before .before .before .before .before .before .before .before .before .next-status .result) (c .before .before .before .before .before .before .before .before .before .before .next-status .ensures) (c .before .before .before .before .before .before .before .before .before .number .result) (c .before .before .before .before .before .before .before .before .before .number .ensures) (c .before .before .before .before .before .before .before .before .if1 .left) (c .before .before .before .before .before .index-of .result) (c .before .before .before .before .part .result) (c .before .before .before .before .part .ensures) in
+    let I = inside (c .before .before .before .before .before .before .before .before .before .before .before .before .before .args .pair) (c .before .before .before .before .before .before .before .before .before .before .before .before .before .args .mem .now) (c .before .before .before .before .before .before .before .before .before .before .before .before .before .args .out .now) (c .before .before .before .before .before .before .before .before .before .before .next-status .result) (c .before .before .before .before .before .before .before .before .before .before .next-status .ensures) (c .before .before .before .before .before .before .before .before .before .number .result) (c .before .before .before .before .before .before .before .before .before .number .ensures) (c .before .before .before .before .before .before .before .before .if1 .left) _ (c .before .before .before .before .part .result) (c .before .before .before .before .part .ensures) in
     omega (arith, I .0, I .1, I .2)
 
 sub-response-header : tie.Need-sub-response-header
 sub-response-header c =
-    let I = inside (c .before .before .before .before .before .before .before .before .before .before .before .before .before .before .args .pair) (c .before .before .before .before .before .before .before .before .before .before .before .before .before .before .args .mem .now) (c .before .before .before .before .before .before .before .before .before .before .before .before .before .before .args .out .now) (c .before .before .before .before .before .before .before .before .before .before .before .next-status .result) (c .before .before .before .before .before .before .before .before .before .before .before .next-status .ensures) (c .before .before .before .before .before .before .before .before .before .before .number .result) (c .before .before .before .before .before .before .before .before .before .before .number .ensures) (c .before .before .before .before .before .before .before .before .before .if1 .left) (c .before .before .before .before .before .before .index-of .result) (c .before .before .before .before .before .part .result) (c .before .before .before .before .before .part .ensures) in
+    let I = inside (c .before .before .before .before .before .before .before .before .before .before .before .before .before .before .args .pair) (c .before .before .before .before .before .before .before .before .before .before .before .before .before .before .args .mem .now) (c .before .before .before .before .before .before .before .before .before .before .before .before .before .before .args .out .now) (c .before .before .before .before .before .before .before .before .before .before .before .next-status .result) (c .before .before .before .before .before .before .before .before .before .before .before .next-status .ensures) (c .before .before .before .before .before .before .before .before .before .before .number .result) (c .before .before .before .before .before .before .before .before .before .before .number .ensures) (c .before .before .before .before .before .before .before .before .before .if1 .left) _ (c .before .before .before .before .before .part .result) (c .before .before .before .before .before .part .ensures) in
     omega (arith, I .0, I .1, I .2)
 
 response-header-requires : tie.Need-response-header-requires
@@ -45,17 +45,17 @@ response-header-requires c κs = search needs
 
 sub-write : tie.Need-sub-write
 sub-write c =
-    let I = inside (c .before .before .before .before .before .before .before .before .before .before .before .before .before .before .before .args .pair) (c .before .before .before .before .before .before .before .before .before .before .before .before .before .before .before .args .mem .now) (c .before .before .before .before .before .before .before .before .before .before .before .before .before .before .before .args .out .now) (c .before .before .before .before .before .before .before .before .before .before .before .before .next-status .result) (c .before .before .before .before .before .before .before .before .before .before .before .before .next-status .ensures) (c .before .before .before .before .before .before .before .before .before .before .before .number .result) (c .before .before .before .before .before .before .before .before .before .before .before .number .ensures) (c .before .before .before .before .before .before .before .before .before .before .if1 .left) (c .before .before .before .before .before .before .before .index-of .result) (c .before .before .before .before .before .before .part .result) (c .before .before .before .before .before .before .part .ensures) in
+    let I = inside (c .before .before .before .before .before .before .before .before .before .before .before .before .before .before .before .args .pair) (c .before .before .before .before .before .before .before .before .before .before .before .before .before .before .before .args .mem .now) (c .before .before .before .before .before .before .before .before .before .before .before .before .before .before .before .args .out .now) (c .before .before .before .before .before .before .before .before .before .before .before .before .next-status .result) (c .before .before .before .before .before .before .before .before .before .before .before .before .next-status .ensures) (c .before .before .before .before .before .before .before .before .before .before .before .number .result) (c .before .before .before .before .before .before .before .before .before .before .before .number .ensures) (c .before .before .before .before .before .before .before .before .before .before .if1 .left) _ (c .before .before .before .before .before .before .part .result) (c .before .before .before .before .before .before .part .ensures) in
     omega (arith, I .0, I .1, I .2)
 
 part-write-start : tie.Need-part-write-start
 part-write-start c =
-    let I = inside (c .before .before .before .before .before .before .before .before .before .before .before .before .before .before .before .args .pair) (c .before .before .before .before .before .before .before .before .before .before .before .before .before .before .before .args .mem .now) (c .before .before .before .before .before .before .before .before .before .before .before .before .before .before .before .args .out .now) (c .before .before .before .before .before .before .before .before .before .before .before .before .next-status .result) (c .before .before .before .before .before .before .before .before .before .before .before .before .next-status .ensures) (c .before .before .before .before .before .before .before .before .before .before .before .number .result) (c .before .before .before .before .before .before .before .before .before .before .before .number .ensures) (c .before .before .before .before .before .before .before .before .before .before .if1 .left) (c .before .before .before .before .before .before .before .index-of .result) (c .before .before .before .before .before .before .part .result) (c .before .before .before .before .before .before .part .ensures) in
+    let I = inside (c .before .before .before .before .before .before .before .before .before .before .before .before .before .before .before .args .pair) (c .before .before .before .before .before .before .before .before .before .before .before .before .before .before .before .args .mem .now) (c .before .before .before .before .before .before .before .before .before .before .before .before .before .before .before .args .out .now) (c .before .before .before .before .before .before .before .before .before .before .before .before .next-status .result) (c .before .before .before .before .before .before .before .before .before .before .before .before .next-status .ensures) (c .before .before .before .before .before .before .before .before .before .before .before .number .result) (c .before .before .before .before .before .before .before .before .before .before .before .number .ensures) (c .before .before .before .before .before .before .before .before .before .before .if1 .left) _ (c .before .before .before .before .before .before .part .result) (c .before .before .before .before .before .before .part .ensures) in
     omega (arith, I .0, I .1, I .2)
 
 part-write-end : tie.Need-part-write-end
 part-write-end c =
-    let I = inside (c .before .before .before .before .before .before .before .before .before .before .before .before .before .before .before .args .pair) (c .before .before .before .before .before .before .before .before .before .before .before .before .before .before .before .args .mem .now) (c .before .before .before .before .before .before .before .before .before .before .before .before .before .before .before .args .out .now) (c .before .before .before .before .before .before .before .before .before .before .before .before .next-status .result) (c .before .before .before .before .before .before .before .before .before .before .before .before .next-status .ensures) (c .before .before .before .before .before .before .before .before .before .before .before .number .result) (c .before .before .before .before .before .before .before .before .before .before .before .number .ensures) (c .before .before .before .before .before .before .before .before .before .before .if1 .left) (c .before .before .before .before .before .before .before .index-of .result) (c .before .before .before .before .before .before .part .result) (c .before .before .before .before .before .before .part .ensures) in
+    let I = inside (c .before .before .before .before .before .before .before .before .before .before .before .before .before .before .before .args .pair) (c .before .before .before .before .before .before .before .before .before .before .before .before .before .before .before .args .mem .now) (c .before .before .before .before .before .before .before .before .before .before .before .before .before .before .before .args .out .now) (c .before .before .before .before .before .before .before .before .before .before .before .before .next-status .result) (c .before .before .before .before .before .before .before .before .before .before .before .before .next-status .ensures) (c .before .before .before .before .before .before .before .before .before .before .before .number .result) (c .before .before .before .before .before .before .before .before .before .before .before .number .ensures) (c .before .before .before .before .before .before .before .before .before .before .if1 .left) _ (c .before .before .before .before .before .before .part .result) (c .before .before .before .before .before .before .part .ensures) in
     omega (arith, I .0, I .1, I .2)
 
 write-requires : tie.Need-write-requires
