@@ -8,6 +8,7 @@ pub use answer::reply_bth;
 use protocol::Decision;
 use sequence::Psn;
 pub use state::pair_after;
+pub use state::psn_after;
 use table::Ring;
 ghost use mathlib.Core.Path.{_≡_};
 ghost use mathlib.Core.Bool.{cond};

@@ -4,9 +4,11 @@ use pair::Pair;
 use pair::ReadAnswer;
 use protocol::Decision;
 use sequence::Msn;
+use sequence::Psn;
 use table::Ring;
 ghost use mathlib.Core.Path.{_≡_};
-ghost use Prim.Native.Nat.{_-_, _%_};
+ghost use Prim.Native.Nat.{_-_};
+ghost use Rattle.sequence.specs.Sequence.{psnAfter};
 ghost use Rattle.protocol.specs.Apply.{ringTaken, entriesBy, savedRingBy, msnBy, readBy, executedPair, after, pairBy};
 
 fn one_less(n: usize) -> usize
@@ -66,16 +68,17 @@ fn read_by(d: Decision, old: ReadAnswer, msn: Msn) -> ReadAnswer
     }
 }
 
-fn short(n: usize) -> u32
-    ensures { λ r. ⌜ r ≡ n % 16777216 ⌝ }
+// The PSN that comes n numbers later.
+pub fn psn_after(psn: Psn, n: usize) -> Psn
+    ensures { λ r. ⌜ r ≡ psnAfter psn n ⌝ }
 {
-    (n % 16777216) as u32
+    psn.after((n % 16777216) as u32)
 }
 
 fn executed_pair(pair: Pair, d: Decision) -> Pair
     ensures { λ r. ⌜ r ≡ executedPair pair d ⌝ }
 {
-    let expected = pair.expected.after(short(d.numbers));
+    let expected = psn_after(pair.expected, d.numbers);
     let msn = msn_by(d.ends, pair.msn);
     let held = pair.entries;
     let entries = entries_by(d.completion.some, held);

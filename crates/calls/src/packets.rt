@@ -5,6 +5,7 @@ use crate::host::Host;
 use crate::print::bytes;
 use crate::print::decimal;
 use crate::print::hex;
+use crate::print::number;
 use crate::print::text;
 use crate::read::Line;
 use crate::store::hash;
@@ -50,7 +51,7 @@ fn written(out: &[u8], n: usize) {
     }
 }
 
-// Behind the immediate stands the source, which no service has yet.
+// Behind the immediate stands the source, always -.
 fn completion(c: Completion) {
     if !c.some {
         text(b" -");
@@ -69,14 +70,14 @@ fn completion(c: Completion) {
     text(b":-");
 }
 
-// What a packet led to, but for the memory. The second word is the reason, which no answer has yet.
+// What a packet led to, but for the memory. The second word is always 0.
 fn taken(o: Outcome, out: &[u8]) {
     let status = o.status;
     decimal(status.number() as u64);
     text(b" 0 ");
-    decimal(o.pair.expected.0 as u64);
+    number(o.pair.expected.0);
     text(b" ");
-    decimal(o.pair.msn.0 as u64);
+    number(o.pair.msn.0);
     written(out, o.sent);
     let c = o.completion;
     completion(c);

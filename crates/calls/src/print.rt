@@ -9,6 +9,11 @@ pub(crate) fn decimal(n: u64) {
     io::print_decimal(STDOUT_FILENO, n);
 }
 
+// A number of 24 bits, as a PSN and an MSN hold it.
+pub(crate) fn number(n: u32) {
+    decimal(n as u64);
+}
+
 pub(crate) fn hex(n: u64, digits: usize) {
     io::print_hex(STDOUT_FILENO, n, digits);
 }

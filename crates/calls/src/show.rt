@@ -2,6 +2,7 @@
 use crate::act::numbers;
 use crate::act::unknown;
 use crate::print::decimal;
+use crate::print::number;
 use crate::print::text;
 use crate::read::Line;
 use pair::OpenMessage;
@@ -13,6 +14,12 @@ use table::Ring;
 fn next(n: u64) {
     text(b" ");
     decimal(n);
+}
+
+// A PSN or an MSN.
+fn short(n: u32) {
+    text(b" ");
+    number(n);
 }
 
 fn flag(b: bool) {
@@ -59,7 +66,7 @@ fn read(a: ReadAnswer) {
     next(a.msn.0 as u64);
 }
 
-// All numbers of the pair, in the order of its fields.
+// All numbers of the pair: the set-up's, then its own.
 pub(crate) fn show(line: Line, pair: Pair) -> Pair {
     if !numbers(line, 0) {
         unknown();
@@ -69,8 +76,8 @@ pub(crate) fn show(line: Line, pair: Pair) -> Pair {
     let s = pair.setup;
     setup(s);
     next(pair.state as u64);
-    next(pair.expected.0 as u64);
-    next(pair.msn.0 as u64);
+    short(pair.expected.0);
+    short(pair.msn.0);
     flag(pair.mark);
     let m = pair.message;
     message(m);

@@ -10,6 +10,7 @@ use pair::Status;
 use protocol::Decision;
 use request::Packet;
 use sequence::Class;
+pub use still::no_completion;
 ghost use mathlib.Core.Path.{_≡_};
 ghost use Prim.Native.Nat.{_≤_};
 ghost use Rattle.request.specs.Packet.{packetOf};

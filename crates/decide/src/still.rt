@@ -21,7 +21,8 @@ pub(crate) fn no_message() -> OpenMessage
     }
 }
 
-pub(crate) fn no_completion() -> Completion
+// Nothing completes.
+pub fn no_completion() -> Completion
     ensures { λ r. ⌜ r ≡ noCompletion ⌝ }
 {
     Completion {

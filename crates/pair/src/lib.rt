@@ -23,20 +23,21 @@ pub const CLOSED: u8 = 255;
 pub const LIMIT: usize = 1048576;
 
 // What set-up is given, and reset brings back: numbers of the connection, the functions that are enabled, and the
-// length of the memory that will be lent. The timer code goes into not-ready NAKs.
+// length of the memory that will be lent. The timer code goes into not-ready NAKs. Here and in the pair large fields
+// stand before small ones: gaps between fields would be copied with them.
 pub struct Setup {
-    pub service: u8,
     pub pmtu: usize,
+    pub memory: usize,
     pub ours: u32,
     pub theirs: u32,
-    pub pkey: u16,
     pub start: Psn,
+    pub pkey: u16,
+    pub service: u8,
     pub timer: u8,
     pub send: bool,
     pub write: bool,
     pub read: bool,
     pub atomic: bool,
-    pub memory: usize,
 }
 
 // A message of several packets that is under way: its kind, the bytes placed so far, and a WRITE's address, key and
@@ -63,14 +64,14 @@ pub struct ReadAnswer {
 // last two are in use. An open SEND holds the entry at the head of its ring.
 pub struct Pair {
     pub setup: Setup,
-    pub state: u8,
-    pub expected: Psn,
-    pub msn: Msn,
-    pub mark: bool,
     pub message: OpenMessage,
     pub entries: Ring,
     pub read: ReadAnswer,
     pub saved: Ring,
+    pub expected: Psn,
+    pub msn: Msn,
+    pub state: u8,
+    pub mark: bool,
 }
 
 // What a call answers; the rules' number of each is Status::number.

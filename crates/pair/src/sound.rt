@@ -52,7 +52,8 @@ pub fn setup_unsound(setup: Setup) -> bool
     crate::LIMIT < setup.memory
 }
 
-fn ring_unsound(head: usize, count: usize) -> bool
+// A table has 16 rows.
+pub fn ring_unsound(head: usize, count: usize) -> bool
     ensures { λ r. ⌜ r ≡ ringUnsound head count ⌝ }
 {
     if 16 <= head {
@@ -72,7 +73,7 @@ fn send_unsound(placed: usize, entries: usize) -> bool
 }
 
 // An open WRITE has bytes to come, within the limit, and its next byte has an address.
-fn message_unsound(kind: u8, placed: usize, address: u64, length: usize, entries: usize) -> bool
+pub fn message_unsound(kind: u8, placed: usize, address: u64, length: usize, entries: usize) -> bool
     ensures { λ r. ⌜ r ≡ messageUnsound kind placed address length entries ⌝ }
 {
     if kind == crate::CLOSED {
@@ -94,7 +95,7 @@ fn message_unsound(kind: u8, placed: usize, address: u64, length: usize, entries
 }
 
 // A read answer has no more responses to send than there are, lies in memory, and has numbers of 24 bits.
-fn read_unsound(
+pub fn read_unsound(
     remaining: usize,
     offset: usize,
     length: usize,
@@ -121,7 +122,8 @@ fn read_unsound(
     16777216 <= msn.0
 }
 
-fn numbers_unsound(state: u8, expected: Psn, msn: Msn) -> bool
+// The state is one of three, PSN and MSN have 24 bits.
+pub fn numbers_unsound(state: u8, expected: Psn, msn: Msn) -> bool
     ensures { λ r. ⌜ r ≡ numbersUnsound state (expected .0) (msn .0) ⌝ }
 {
     if 2 < state {

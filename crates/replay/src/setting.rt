@@ -52,8 +52,8 @@ fn post_entries(start: Pair, entries: &mut [[u64; 3]; 16]) -> Pair {
     pair
 }
 
-// Makes the pair, with its tables. No call refuses these numbers. Were the region refused, the pair would be one that
-// drops every packet; the other calls leave what they refuse in the pair that they give.
+// Makes the pair, with its tables. No call refuses these numbers; were the region refused, every packet would be too,
+// with 34, and no line would look like an answer to it.
 pub(crate) fn pair(regions: &mut [[u64; 7]; 16], entries: &mut [[u64; 3]; 16]) -> Pair {
     let fresh = pair::host::set_up(setup(), regions);
     let added = pair::host::add_region(fresh.pair, regions, region());

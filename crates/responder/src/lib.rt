@@ -1,58 +1,23 @@
 // The two calls of a responder: a packet comes in, and the next response of a READ goes out. The definitions and their
 // laws stand in the crate protocol.
+mod refuse;
 mod response;
 
 use header::HeaderRead;
 use pair::Pair;
 use pair::Status;
-use protocol::Completion;
 use protocol::Outcome;
 pub use response::next_response;
 ghost use mathlib.Core.Path.{_≡_};
 ghost use lib.ListN.{length};
-ghost use Rattle.protocol.specs.Decide.{readsFull, inboundRefusal};
 ghost use Rattle.protocol.specs.Inbound.{inbound, inboundMemory, inboundSaved, inboundOut};
 ghost use Rattle.responder.specs.Unchanged.{unchanged};
-
-// Whether a READ is still being answered.
-fn reads_full(pair: Pair) -> bool
-    ensures { λ r. ⌜ r ≡ readsFull pair ⌝ }
-{
-    pair.read.remaining != 0
-}
-
-// Which refusal the inbound call gets before its packet is looked at.
-fn refusal(pair: Pair, memory: usize, room: usize) -> Status
-    ensures { λ r. ⌜ r ≡ inboundRefusal pair memory room ⌝ }
-{
-    if room < 24 {
-        return Status::OutputShort;
-    }
-    if memory != pair.setup.memory {
-        return Status::OutOfRange;
-    }
-    let bad = pair::sound::unsound(pair);
-    if bad {
-        return Status::OutOfRange;
-    }
-    let full = reads_full(pair);
-    if full {
-        return Status::ReadUnfinished;
-    }
-    Status::Executed
-}
 
 // An answer with which nothing changes, completes or is sent.
 pub(crate) fn unchanged(status: Status, pair: Pair) -> Outcome
     ensures { λ r. ⌜ r ≡ unchanged status pair ⌝ }
 {
-    let completion = Completion {
-        some: false,
-        number: 0,
-        length: 0,
-        immediate: false,
-        value: 0,
-    };
+    let completion = decide::no_completion();
     Outcome {
         status,
         pair,
@@ -61,7 +26,8 @@ pub(crate) fn unchanged(status: Status, pair: Pair) -> Outcome
     }
 }
 
-// Takes a packet: the header checks, the decision, and what it does to memory, saved atomics, pair and output.
+// Takes a packet: the header checks, the decision, and what it does to memory, saved atomics, pair and output. The rules
+// are those of a reliable connection.
 pub fn inbound(
     pair: Pair,
     regions: &[[u64; 7]; 16],
@@ -76,7 +42,7 @@ pub fn inbound(
     ensures { λ r. ⌜ now (saved .exit) ≡ inboundSaved pair (now (regions .entry)) (now (entries .entry)) (now (saved .entry)) (now (mem .entry)) (now (packet .entry)) (now (out .entry)) ⌝ }
     ensures { λ r. ⌜ now (out .exit) ≡ inboundOut pair (now (regions .entry)) (now (entries .entry)) (now (saved .entry)) (now (mem .entry)) (now (packet .entry)) (now (out .entry)) ⌝ }
 {
-    let refused = refusal(pair, mem.len(), out.len());
+    let refused = refuse::refusal(pair, mem.len(), out.len());
     if refused.number() != 0 {
         return unchanged(refused, pair);
     }

@@ -10,7 +10,7 @@ use pair::Setup;
 use pair::Status;
 use protocol::Outcome;
 ghost use mathlib.Core.Path.{_≡_};
-ghost use Prim.Native.Nat.{_+_, _≤_, _%_};
+ghost use Prim.Native.Nat.{_+_, _≤_};
 ghost use lib.Dec.{ltb};
 ghost use lib.ListN.{length};
 ghost use Rattle.protocol.specs.Apply.{with};
@@ -81,12 +81,6 @@ fn response_extension(place: u8, a: ReadAnswer) -> Extension
     Extension::Acknowledge(aeth)
 }
 
-fn short(n: usize) -> u32
-    ensures { λ r. ⌜ r ≡ n % 16777216 ⌝ }
-{
-    (n % 16777216) as u32
-}
-
 // The headers of response i, which carries n bytes.
 fn response_header(s: Setup, a: ReadAnswer, i: usize, n: usize) -> Header
     ensures { λ r. ⌜ r ≡ responseHeader s a i n ⌝ }
@@ -94,7 +88,7 @@ fn response_header(s: Setup, a: ReadAnswer, i: usize, n: usize) -> Header
     let count = pieces::count(a.length, s.pmtu);
     let place = pieces::place(count, i);
     let low = response_opcode(place);
-    let psn = a.psn.after(short(i));
+    let psn = apply::psn_after(a.psn, i);
     let bth = apply::reply_bth(s, low, packet::pad(n), psn);
     let extension = response_extension(place, a);
     Header { bth, extension }

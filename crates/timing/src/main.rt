@@ -12,21 +12,23 @@ use table::Entry;
 use table::Region;
 use table::Ring;
 
-fn setup() -> Setup {
+// Every number is made with zero, which is 0 and comes from the input, so that none is known when this is compiled.
+fn setup(zero: u8) -> Setup {
     let start = Psn(7);
+    let on = zero == 0;
     Setup {
-        service: opcode::RC,
-        pmtu: 4096,
-        ours: 0x12,
-        theirs: 0x34,
-        pkey: 0xffff,
+        service: opcode::RC + zero % 2,
+        pmtu: 4096 + zero as usize,
+        ours: 0x12 + zero as u32,
+        theirs: 0x34 + zero as u32,
+        pkey: 0xff00 + zero as u16,
         start,
-        timer: 0,
-        send: true,
-        write: true,
-        read: true,
-        atomic: true,
-        memory: 65536,
+        timer: zero,
+        send: on,
+        write: on,
+        read: on,
+        atomic: on,
+        memory: 65536 + zero as usize,
     }
 }
 
@@ -43,8 +45,8 @@ fn region() -> Region {
 }
 
 // A pair that is Ready, with a region and an entry.
-fn ready(regions: &mut [[u64; 7]; 16], entries: &mut [[u64; 3]; 16]) -> Pair {
-    let fresh = pair::host::set_up(setup(), regions);
+fn ready(zero: u8, regions: &mut [[u64; 7]; 16], entries: &mut [[u64; 3]; 16]) -> Pair {
+    let fresh = pair::host::set_up(setup(zero), regions);
     pair::host::add_region(fresh.pair, regions, region());
     let entry = Entry {
         number: 1,
@@ -171,7 +173,7 @@ fn main() {
     let asked = read::line();
     let mut regions = [[0; 7]; 16];
     let mut entries = [[0; 3]; 16];
-    let pair = ready(&mut regions, &mut entries);
+    let pair = ready(asked.zero, &mut regions, &mut entries);
     let mut mem = io::large_buffer();
     let mut space = io::large_buffer();
     let mut out = io::large_buffer();

@@ -2,9 +2,11 @@
 use libc::STDIN_FILENO;
 ghost use Prim.Native.Nat.{_<_};
 
+// The last byte read, which is 0 unless the line is longer than any should be, is kept too.
 pub(crate) struct Asked {
     pub(crate) letter: u8,
     pub(crate) count: u64,
+    pub(crate) zero: u8,
 }
 
 fn wide(x: u8) -> u64
@@ -39,5 +41,6 @@ pub(crate) fn line() -> Asked {
     Asked {
         letter: text[0],
         count,
+        zero: text[15],
     }
 }

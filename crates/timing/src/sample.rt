@@ -65,7 +65,7 @@ pub(crate) fn make(letter: u8, mem: &[u8], space: &mut [u8]) -> usize {
     let to = Connection {
         service: opcode::RC,
         pmtu: 4096,
-        pkey: 0xffff,
+        pkey: 0xff00,
         dest: 0x12,
     };
     let n = length(letter);

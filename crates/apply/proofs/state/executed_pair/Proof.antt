@@ -1,14 +1,10 @@
-use Rattle.apply.proofs.Steps.{after-rest}
 use Rattle.protocol.specs.Apply.{executedPair}
 use borrow.Author.Needs.{needs}
 use Rattle.apply.proofs.state.executed_pair.Statement.{statement}
 use Rattle.apply.proofs.state.executed_pair.Tie as tie
 
-short-requires : tie.Need-short-requires
-short-requires c κs = search needs
-
-after-requires : tie.Need-after-requires
-after-requires c κs = search needs
+psn-after-requires : tie.Need-psn-after-requires
+psn-after-requires c κs = search needs
 
 msn-by-requires : tie.Need-msn-by-requires
 msn-by-requires c κs = search needs
@@ -24,14 +20,13 @@ saved-ring-by-requires c κs = search needs
 
 returns : tie.Need-returns
 unfolding executedPair
-returns c = simp (c .before .before .before .before .before .before .before .before .after .ensures, c .before .before .before .before .before .before .before .before .before .short .ensures, after-rest, ← c .before .before .before .before .before .before .before .msn-by .ensures, ← c .before .before .before .before .before .entries-by .ensures, ← c .before .before .before .read-by .ensures, ← c .before .saved-ring-by .ensures)
+returns c = simp (c .before .before .before .before .before .before .before .before .psn-after .ensures, ← c .before .before .before .before .before .before .before .msn-by .ensures, ← c .before .before .before .before .before .entries-by .ensures, ← c .before .before .before .read-by .ensures, ← c .before .saved-ring-by .ensures)
 
 pub executed-pair-spec : {M : Type 1} → statement M
 executed-pair-spec =
     tie.close
     (tie.spec
-    short-requires
-    after-requires
+    psn-after-requires
     msn-by-requires
     entries-by-requires
     read-by-requires

@@ -1,4 +1,3 @@
-use Rattle.apply.proofs.Steps.{after-rest}
 use Rattle.pieces.proofs.Cuts.{place-bound}
 use mathlib.Core.Path.{sym, subst}
 use Prim.Native.Nat.{_≤_}
@@ -17,11 +16,8 @@ place-requires c κs = search needs
 response-opcode-requires : tie.Need-response-opcode-requires
 response-opcode-requires c κs = subst (λ x. x ≤ 4) (sym (c .place .ensures)) (place-bound _ _)
 
-short-requires : tie.Need-short-requires
-short-requires c κs = search needs
-
-after-requires : tie.Need-after-requires
-after-requires c κs = search needs
+psn-after-requires : tie.Need-psn-after-requires
+psn-after-requires c κs = search needs
 
 pad-requires : tie.Need-pad-requires
 pad-requires c κs = search needs
@@ -35,7 +31,7 @@ response-extension-requires c κs = search needs
 returns : tie.Need-returns
 unfolding responseHeader replyHeader
 returns c =
-    simp (c .before .before .before .before .before .before .before .count .ensures, c .before .before .before .before .before .before .place .ensures, c .before .before .before .before .before .response-opcode .ensures, c .before .before .before .before .short .ensures, c .before .before .before .after .ensures, c .before .before .pad .ensures, c .before .reply-bth .ensures, c .response-extension .ensures, after-rest)
+    simp (c .before .before .before .before .before .before .count .ensures, c .before .before .before .before .before .place .ensures, c .before .before .before .before .response-opcode .ensures, c .before .before .before .psn-after .ensures, c .before .before .pad .ensures, c .before .reply-bth .ensures, c .response-extension .ensures)
 
 pub response-header-spec : {M : Type 1} → statement M
 response-header-spec =
@@ -44,8 +40,7 @@ response-header-spec =
     count-requires
     place-requires
     response-opcode-requires
-    short-requires
-    after-requires
+    psn-after-requires
     pad-requires
     reply-bth-requires
     response-extension-requires

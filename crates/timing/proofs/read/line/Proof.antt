@@ -37,6 +37,9 @@ loop-again c = tt
 array-read-t13 : tie.Need-array-read-t13 Inv-loop μ-loop
 array-read-t13 c = search needs
 
+array-read-t16 : tie.Need-array-read-t16 Inv-loop μ-loop
+array-read-t16 c = search needs
+
 returns : tie.Need-returns Inv-loop μ-loop
 returns c = tt
 
@@ -55,4 +58,5 @@ line-spec =
     loop-less
     loop-again
     array-read-t13
+    array-read-t16
     returns)

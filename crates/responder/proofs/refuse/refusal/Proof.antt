@@ -1,10 +1,8 @@
 use borrow.Author.Tests.{eq-eqb, le-leb, le-ltb, lt-leb, lt-ltb, ne-eqb}
 use Rattle.protocol.specs.Decide.{inboundRefusal}
 use borrow.Author.Needs.{needs}
-use Rattle.responder.proofs.refusal.Statement.{statement}
-use Rattle.responder.proofs.refusal.Tie as tie
-use Rattle.pair.proofs.sound.unsound.Reads as unsound-reads
-use Rattle.responder.proofs.reads_full.Reads as reads-full-reads
+use Rattle.responder.proofs.refuse.refusal.Statement.{statement}
+use Rattle.responder.proofs.refuse.refusal.Tie as tie
 
 returns : tie.Need-returns
 unfolding inboundRefusal

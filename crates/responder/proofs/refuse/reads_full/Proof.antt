@@ -1,8 +1,8 @@
 use borrow.Author.Needs.{needs}
 use Rattle.laws.proofs.Auto.{tested}
 use Rattle.protocol.specs.Decide.{readsFull}
-use Rattle.responder.proofs.reads_full.Statement.{statement}
-use Rattle.responder.proofs.reads_full.Tie as tie
+use Rattle.responder.proofs.refuse.reads_full.Statement.{statement}
+use Rattle.responder.proofs.refuse.reads_full.Tie as tie
 
 returns : tie.Need-returns
 unfolding readsFull
