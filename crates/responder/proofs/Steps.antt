@@ -29,7 +29,7 @@ use Rattle.protocol.specs.Inbound.{outcomeBy, decision, inbound, inboundMemory,
 use Rattle.protocol.proofs.Rows.Quiet.{dropped, short, range, unfinished}
 use Rattle.protocol.proofs.Rows.{Quiet, passed, refusal-quiet}
 use Rattle.decide.specs.Guard.{guarded}
-use Rattle.responder.specs.Unchanged.{unchanged}
+use Rattle.responder.specs.Unchanged.{unchanged, told}
 
 -- outcome, memory, saved atomics and output, as the promise lists them
 abbrev pub Leaves : Pair → List (List ℕ) → List (List ℕ) → List (List ℕ) → List ℕ → List ℕ → List ℕ → Outcome → List ℕ → List (List ℕ) → List ℕ → Type 0
@@ -126,10 +126,10 @@ module _ (q : Pair) (regions entries saved : List (List ℕ)) (m p out : List �
       → (saved' : List (List ℕ)) → saved' ≡ cond (actsAtomic (d .act)) (savedRows saved (q .saved) (d .psn .0) value) saved
       → (next : Pair) → next ≡ pairBy q d
       → (out' : List ℕ) → out' ≡ cond (ltb (length out) 24) out (over (answerBytes (q .setup) d (next .msn) value) out)
-      → Leaves q regions entries saved m p out (record { status = d .status; pair = next; completion = d .completion; sent = d .sent }) m' saved' out'
+      → (o : Outcome) → o ≡ told next d → Leaves q regions entries saved m p out o m' saved' out'
   unfolding guarded outcomeBy outBy
-  whole f e h accepted d i m' a value v saved' b next k out' c =
-      by q regions entries saved m p out d (sym decision-is) _ (λ x. record { status = d .status; pair = k x; completion = d .completion; sent = d .sent }) m' a saved' (b ∙ kept) out' (c ∙ sent)
+  whole f e h accepted d i m' a value v saved' b next k out' c o t' =
+      by q regions entries saved m p out d (sym decision-is) o (t' ∙ ap (λ x. told x d) k) m' a saved' (b ∙ kept) out' (c ∙ sent)
     where
       W : Willing q m out
       W = willing q m out t is n number none

@@ -1,4 +1,4 @@
--- Outcomes with no completion, and the bytes that a packet writer's answer counts.
+-- Outcomes, and the bytes that a packet writer's answer counts.
 use Prim.Native.Nat.{ℕ}
 use Rattle.header.specs.declared.Answer.{Answer}
 use Rattle.header.specs.declared.Answer.the-variants.{Done, Refused}
@@ -6,11 +6,16 @@ use Rattle.pair.specs.declared.Pair.{Pair}
 use Rattle.pair.specs.declared.Status.{Status}
 use Rattle.pair.specs.declared.Status.the-variants as status
 use Rattle.protocol.specs.Decide.{noCompletion}
+use Rattle.protocol.specs.declared.Decision.{Decision}
 use Rattle.protocol.specs.declared.Outcome.{Outcome}
 
 -- the pair as it is, and nothing sent
 abbrev pub unchanged : Status → Pair → Outcome
 unchanged answer q = record { status = answer; pair = q; completion = noCompletion; sent = 0 }
+
+-- what a decision answers, with the pair that it left
+abbrev pub told : Pair → Decision → Outcome
+told q d = record { status = d .status; pair = q; completion = d .completion; sent = d .sent }
 
 -- done, and n bytes sent
 abbrev pub sending : Pair → ℕ → Outcome

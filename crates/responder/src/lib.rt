@@ -6,12 +6,13 @@ mod response;
 use header::HeaderRead;
 use pair::Pair;
 use pair::Status;
+use protocol::Decision;
 use protocol::Outcome;
 pub use response::next_response;
 ghost use mathlib.Core.Path.{_≡_};
 ghost use lib.ListN.{length};
 ghost use Rattle.protocol.specs.Inbound.{inbound, inboundMemory, inboundSaved, inboundOut};
-ghost use Rattle.responder.specs.Unchanged.{unchanged};
+ghost use Rattle.responder.specs.Unchanged.{unchanged, told};
 
 // An answer with which nothing changes, completes or is sent.
 pub(crate) fn unchanged(status: Status, pair: Pair) -> Outcome
@@ -23,6 +24,20 @@ pub(crate) fn unchanged(status: Status, pair: Pair) -> Outcome
         pair,
         completion,
         sent: 0,
+    }
+}
+
+// What the caller is told of a decision, with the pair that it left.
+fn told(pair: Pair, d: Decision) -> Outcome
+    ensures { λ r. ⌜ r ≡ told pair d ⌝ }
+{
+    let status = d.status;
+    let completion = d.completion;
+    Outcome {
+        status,
+        pair,
+        completion,
+        sent: d.sent,
     }
 }
 
@@ -46,12 +61,11 @@ pub fn inbound(
     if refused.number() != 0 {
         return unchanged(refused, pair);
     }
-    let setup = pair.setup;
     let found = decode::admit(
         packet,
-        setup.service,
-        setup.ours,
-        setup.pkey,
+        pair.setup.service,
+        pair.setup.ours,
+        pair.setup.pkey,
         pair.state == pair::READY,
     );
     let HeaderRead::Accepted(h) = found else {
@@ -60,16 +74,8 @@ pub fn inbound(
     };
     let d = decide::decision(pair, regions, entries, saved, h, packet.len());
     let value = apply::change(mem, packet, d);
-    let ring = pair.saved;
-    apply::keep(saved, ring, d.act, d.psn, value);
+    apply::keep(saved, pair.saved, d.act, d.psn, value);
     let next = apply::pair_after(pair, d);
-    apply::reply(out, setup, d, next.msn, value);
-    let status = d.status;
-    let completion = d.completion;
-    Outcome {
-        status,
-        pair: next,
-        completion,
-        sent: d.sent,
-    }
+    apply::reply(out, pair.setup, d, next.msn, value);
+    told(next, d)
 }
