@@ -45,8 +45,8 @@ fn completion_of(p: Packet, m: OpenMessage, number: u64) -> Completion
 {
     let done = completes(p.kind, p.place, p.operands.immediate);
     if done {
-        let net = judge::less(p.raw, p.pad);
-        let length = counted(p.kind, m.placed, net, m.length);
+        let carried = judge::less(p.raw, p.pad);
+        let length = counted(p.kind, m.placed, carried, m.length);
         return Completion {
             some: true,
             number,
