@@ -11,9 +11,9 @@ def data(seed, count):
     return bytes((seed + 17 * i + 101 * (i // 256)) % 256 for i in range(count))
 
 
-def begin(expected=7, pmtu=256, functions="1 1 1 1", timer=5, memory=4096, pkey=65535, regions=(ALL,), entries=0, ready=True):
+def begin(expected=7, pmtu=256, functions="1 1 1 1", timer=5, memory=4096, pkey=65535, regions=(ALL,), entries=0, ready=True, service="rc"):
     """A pair with its regions and that many entries of 600 bytes, numbered from 11."""
-    yield f"pair rc {pmtu} 18 52 {pkey} {expected} {timer} {functions} {memory} 0"
+    yield f"pair {service} {pmtu} 18 52 {pkey} {expected} {timer} {functions} {memory} 0"
     for region in regions:
         yield f"region {region}"
     for i in range(entries):

@@ -1,4 +1,4 @@
-"""A pair by the rules on paper: the calls of its host, the reliable responder, and packets to hand in.
+"""A pair by the rules on paper: the calls of its host, both responders, and packets to hand in.
 
 It stands on no other code of the project, so that a mistake in either shows where the two differ.
 """
@@ -8,11 +8,12 @@ TOP = 1 << 64
 PSNS = 1 << 24
 HALF = 1 << 23
 ROWS = 16
+RELIABLE, UNRELIABLE = 0, 1
 INIT, READY, ERROR = 0, 1, 2
 SETUP = ("service", "pmtu", "ours", "theirs", "pkey", "start", "timer", "send", "write", "read", "atomic", "memory")
 
 # Answers and refusals.
-QUIET, ACKED, READ_TAKEN, ATOMIC_DONE, REPEATED, DROPPED = 0, 1, 2, 3, 4, 5
+QUIET, ACKED, READ_TAKEN, ATOMIC_DONE, REPEATED, DROPPED, ABANDONED = range(7)
 OUT_OF_ORDER, INVALID, NO_ACCESS, NOT_READY = 16, 17, 18, 19
 UNFINISHED, FULL, RANGE, SHORT, STATE, NO_KEY, KEY_IN_USE, BAD_NUMBER = 32, 33, 34, 35, 36, 37, 38, 39
 SYNDROME = {OUT_OF_ORDER: 0x60, INVALID: 0x61, NO_ACCESS: 0x62, NOT_READY: 0x20}
@@ -158,7 +159,7 @@ class Node:
 
     def numbers_good(self, s):
         return (
-            s["pmtu"] in PMTUS and s["service"] in (0, 1) and s["timer"] <= 31 and s["pkey"] & 0x7FFF != 0
+            s["pmtu"] in PMTUS and s["service"] in (RELIABLE, UNRELIABLE) and s["timer"] <= 31 and s["pkey"] & 0x7FFF != 0
             and all(s[name] < 1 << 24 for name in ("ours", "theirs", "start"))
         )
 
@@ -236,9 +237,9 @@ class Node:
             refuse_if(self.now["left"] > 0, UNFINISHED)
             if not self.admits(data):
                 return DROPPED, None, b""
-            # the rules of the unreliable connection are not worked out here
-            assert self.setup["service"] == 0 and lent == len(self.memory)
-            return self.received(Request(data))
+            assert lent == len(self.memory)
+            take = self.received if self.setup["service"] == RELIABLE else self.unreliable
+            return take(Request(data))
         except Refused as refusal:
             return refusal.args[0], None, b""
 
@@ -254,7 +255,7 @@ class Node:
             and (pkey | self.setup["pkey"]) & 0x8000 != 0
             and data[0] >> 5 == self.setup["service"]
             and not 13 <= data[0] % 32 <= 18
-            and not (self.setup["service"] == 1 and data[0] % 32 > 11)
+            and not (self.setup["service"] == UNRELIABLE and data[0] % 32 > 11)
             and len(data) >= 12 + extension_size(data[0])
             and self.now["state"] == READY
         )
@@ -276,6 +277,32 @@ class Node:
                 self.now["state"] = ERROR
             return wrong, None, self.nak(wrong, p.psn)
         return self.executed(p)
+
+    def unreliable(self, p):
+        """The unreliable connection: what fails closes the open message, and nothing is sent."""
+        n, before = self.now, dict(self.now)
+        failed = DROPPED if n["kind"] == NO_MESSAGE else ABANDONED
+        if p.starts:
+            self.close()
+        try:
+            # a Middle or Last with no message of its kind open fails the first of the request checks
+            wrong = not p.starts and p.psn != n["expected"] or self.failed_check(p)
+        except Refused:
+            # nothing changes, so what was closed is open again
+            self.now = before
+            raise
+        if wrong:
+            self.close()
+            return failed, None, b""
+        # a First or Only is taken whatever number was expected
+        n["expected"] = p.psn
+        _, completion, _ = self.executed(p)
+        return QUIET, completion, b""
+
+    def close(self):
+        """Ends the open message, if there is one; an entry that it holds is at the head and stays there."""
+        if self.now["kind"] != NO_MESSAGE:
+            self.now.update(kind=NO_MESSAGE, placed=0, address=0, key=0, length=0)
 
     # The request checks, in their order.
 
@@ -400,7 +427,7 @@ class Node:
             completion = (self.entry()[0], n["placed"], p.immediate)
             n["head"] = (n["head"] + 1) % ROWS
             n["count"] -= 1
-        n.update(kind=NO_MESSAGE, placed=0, address=0, key=0, length=0)
+        self.close()
         return completion
 
     def put(self, at, data):

@@ -31,7 +31,7 @@ use Rattle.segment.proofs.Fits.{none-carried}
 use Rattle.segment.proofs.Shapes.{cut-one}
 use Rattle.request.specs.Verdict.{carrying, notEnabled, overLimit, keyFails, current}
 use Rattle.protocol.specs.Kept.{Steady}
-use Rattle.protocol.specs.Decide.{ackSyndrome, quietly, acknowledging, reading, psnBefore, aheadDecision, againFails, readAgain, atomicAgain, isAtomic, duplicateDecision, headEntry, regionFor, expectedDecision, classed, packetDecision}
+use Rattle.protocol.specs.Decide.{ackSyndrome, quietly, acknowledging, reading, psnBefore, aheadDecision, againFails, readAgain, atomicAgain, isAtomic, duplicateDecision, headEntry, regionFor, expectedDecision, classed, rcDecision, packetDecision}
 use Rattle.protocol.specs.Apply.{memoryBy, actsAtomic, savedBy, pairBy, readBy}
 use Rattle.protocol.specs.Apply as apply
 use Rattle.protocol.specs.declared.Decision.{Decision}
@@ -217,10 +217,15 @@ module _ (ms : List Message) (S : List Slot) (p : Plain) (x : Run) (L : Link ms 
     abbrev by : Class → Decision
     by c = classed c (x .whole .pair) (cutPacket t) (headEntry (x .whole .pair) (x .whole .entries)) region v
 
+    -- the pair is a reliable one
+    reliably : decides ≡ by (psnClass (cutPacket t .psn .0) (x .whole .pair .expected .0))
+    unfolding packetDecision rcDecision
+    reliably = rw (ne-eqb (x .whole .pair .setup .service) 1 (λ z. absurd (omega (arith, L .reliable))))
+
     pub arrives : length (p .memory) ≡ x .whole .pair .setup .memory → Near (along S j) (along S (p .k))
         → Link ms S (delivered (x .whole .regions) S p j) (stepBy x decides (packetAt t))
-    unfolding packetDecision order
-    arrives ml D = subst (λ c. Link ms S (delivered (x .whole .regions) S p j) (stepBy x (by c) (packetAt t))) (sym (class-is D)) (go (eqb j (p .k)) (ltb j (p .k)) refl refl)
+    unfolding order
+    arrives ml D = subst (λ d. Link ms S (delivered (x .whole .regions) S p j) (stepBy x d (packetAt t))) (sym (reliably ∙ ap by (class-is D))) (go (eqb j (p .k)) (ltb j (p .k)) refl refl)
       where
         go : (a b : Bool) → eqb j (p .k) ≡ a → ltb j (p .k) ≡ b
             → Link ms S (cond a (reached (x .whole .regions) p t) (cond (b && isRead (t .message .request)) (sending p (span t)) p)) (stepBy x (by (order (along S j) (along S (p .k)))) (packetAt t))

@@ -42,7 +42,7 @@ unfolding apply.after executedPair
 after-setup q d n =
     either (leb n 3) (record { is = refl })
     (either (eqb n 4) (record { is = refl })
-    (either (eqb n 16 || eqb n 19) (record { is = refl }) (either (eqb n 17 || eqb n 18) (record { is = refl }) (record { is = refl }))))
+    (either (eqb n 16 || eqb n 19) (record { is = refl }) (either (eqb n 17 || eqb n 18) (record { is = refl }) (either (eqb n 6) (record { is = refl }) (record { is = refl })))))
 
 pub setup-kept : (S : List Slot) (x : Run) (c : Call) → Same (x .whole .pair .setup) (step S x c .whole .pair)
 unfolding step received inbound outcomeBy pairBy drained nextResponse called posted

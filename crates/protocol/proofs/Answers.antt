@@ -34,7 +34,7 @@ use Rattle.request.proofs.Conditions.{limit-tested, key-tested, of-not}
 use Rattle.request.proofs.Order.{current-one, order}
 use Rattle.request.proofs.Taken.{any-place}
 use Rattle.request.specs.declared.Packet.{Packet}
-use Rattle.protocol.specs.Decide.{reading, quietly, acknowledging, aheadDecision, failed, placing, swapping, accepting, executing, settled, expectedDecision, againFails, readAgain, isAtomic, duplicateDecision, regionFor, headEntry, classed, packetDecision, readsFull, inboundRefusal, decided}
+use Rattle.protocol.specs.Decide.{reading, quietly, acknowledging, aheadDecision, failed, placing, swapping, accepting, executing, settled, expectedDecision, againFails, readAgain, isAtomic, duplicateDecision, regionFor, headEntry, classed, rcDecision, packetDecision, readsFull, inboundRefusal, decided}
 use Rattle.protocol.specs.Inbound.{outcomeBy, decision, inbound}
 use Rattle.protocol.specs.Answers.{Willing, headerBy, HeaderDropped, firstEntry, Expects, Aheads, Again, Repeats, Classed, HeaderPassed, SentAgain, RepeatedSent}
 use Rattle.protocol.proofs.Codes.{Codes, codes}
@@ -300,26 +300,28 @@ duplicate-by q regions rows k t K e =
     plain n = not-atomic (k .kind) (λ a. n (inr (inr a)))
 
 -- by the class of the PSN
-classed-by : (q : Pair) (regions entries rows : List (List ℕ)) (k : Packet) (c : Class) → psnClass (k .psn .0) (q .expected .0) ≡ c
+classed-by : (q : Pair) (regions entries rows : List (List ℕ)) (k : Packet) (c : Class) → q .setup .service ≡ 0 → psnClass (k .psn .0) (q .expected .0) ≡ c
     → packetDecision q regions entries rows k
     ≡ classed c q k (headEntry q entries) (regionFor (k .kind) (current (q .message) k .key) regions) (newestSaved (k .psn .0) rows (q .saved))
-unfolding packetDecision
-classed-by q regions entries rows k c e =
-    ap (λ x. classed x q k (headEntry q entries) (regionFor (k .kind) (current (q .message) k .key) regions) (newestSaved (k .psn .0) rows (q .saved))) e
+unfolding packetDecision rcDecision
+classed-by q regions entries rows k c r e =
+    rw (ne-eqb (q .setup .service) 1 (λ z. absurd (omega arith)))
+    (ap (λ x. classed x q k (headEntry q entries) (regionFor (k .kind) (current (q .message) k .key) regions) (newestSaved (k .psn .0) rows (q .saved))) e)
 
-packet-by : (q : Pair) (regions entries rows : List (List ℕ)) (k : Packet) (t : OpenMessage) → Sound q → Place (k .place) → Carries (k .kind) ⊎ (12 ≤ k .kind)
+packet-by : (q : Pair) (regions entries rows : List (List ℕ)) (k : Packet) (t : OpenMessage) → q .setup .service ≡ 0 → Sound q → Place (k .place)
+    → Carries (k .kind) ⊎ (12 ≤ k .kind)
     → IsCurrent (q .message) k t
     → Classed q regions entries rows k t (statusNumber (packetDecision q regions entries rows k .status))
-packet-by q regions entries rows k t S P K C =
+packet-by q regions entries rows k t r S P K C =
     record {
       expected =
-          λ e. subst (λ d. Expects q regions entries k t (statusNumber (d .status))) (sym (classed-by q regions entries rows k class.Expected e))
+          λ e. subst (λ d. Expects q regions entries k t (statusNumber (d .status))) (sym (classed-by q regions entries rows k class.Expected r e))
           (expected-by q regions entries k t S P C);
       ahead =
-          λ e. subst (λ d. Aheads (q .mark) (statusNumber (d .status))) (sym (classed-by q regions entries rows k class.Ahead e))
+          λ e. subst (λ d. Aheads (q .mark) (statusNumber (d .status))) (sym (classed-by q regions entries rows k class.Ahead r e))
           (ahead-by (q .mark) (q .expected));
       duplicate =
-          λ e. subst (λ d. Repeats q regions rows k t (statusNumber (d .status))) (sym (classed-by q regions entries rows k class.Duplicate e))
+          λ e. subst (λ d. Repeats q regions rows k t (statusNumber (d .status))) (sym (classed-by q regions entries rows k class.Duplicate r e))
           (duplicate-by q regions rows k t K (sym (current-one (q .message) k t P C)));
     }
 
@@ -344,13 +346,13 @@ sent-by q rows k t region =
 
 pub repeated-sent : RepeatedSent
 unfolding inbound outcomeBy decision decided
-repeated-sent q regions entries saved m p out W h e c =
+repeated-sent q regions entries saved m p out W r h e c =
     rw (goes q m out W, e)
-    (subst (λ d. SentAgain q saved (packetOf h (length p)) (d .sent)) (sym (classed-by q regions entries saved (packetOf h (length p)) class.Duplicate c))
+    (subst (λ d. SentAgain q saved (packetOf h (length p)) (d .sent)) (sym (classed-by q regions entries saved (packetOf h (length p)) class.Duplicate r c))
     (sent-by q saved (packetOf h (length p)) (current (q .message) (packetOf h (length p))) _))
 
 pub header-passed : HeaderPassed
 unfolding packetOf
-header-passed q regions entries saved m p out W h e t C =
+header-passed q regions entries saved m p out W r h e t C =
     subst (Classed q regions entries saved (packetOf h (length p)) t) (sym (looked q regions entries saved m p out W h e))
-    (packet-by q regions entries saved (packetOf h (length p)) t (W .sound) (any-place (h .bth .opcode)) (some-kind (h .bth .opcode)) C)
+    (packet-by q regions entries saved (packetOf h (length p)) t r (W .sound) (any-place (h .bth .opcode)) (some-kind (h .bth .opcode)) C)

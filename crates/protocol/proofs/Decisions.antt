@@ -1,14 +1,14 @@
 -- Whatever is decided leads to a steady pair.
-use Prim.Native.Nat.{ℕ, _+_, _^_, _<_}
-use mathlib.Core.Path.{_≡_, refl, ap}
+use Prim.Native.Nat.{ℕ, _+_, _^_, _≤_, _<_}
+use mathlib.Core.Path.{_≡_, refl, sym, ap, subst, _∙_}
 use mathlib.Core.Bool.{Bool, true, false, cond, not, true≢false}
 use mathlib.Core.List.{List}
 use native.Mathlib.Omega.{arith}
 use lib.Dec.{eqb, leb, ltb}
-use lib.ListN.{length}
+use lib.ListN.{length, getD}
 use borrow.Author.Tests.{eqb-true}
 use Rattle.laws.proofs.Tests.{or-left, or-right}
-use Rattle.sequence.specs.Sequence.{psnClass}
+use Rattle.sequence.specs.Sequence.{distance, psnClass}
 use Rattle.sequence.specs.declared.Psn.{Psn}
 use Rattle.sequence.specs.declared.Class.{Class}
 use Rattle.sequence.specs.declared.Class.the-variants as class
@@ -23,16 +23,18 @@ use Rattle.table.specs.declared.Saved.the-variants.{Value, Nothing}
 use Rattle.pair.specs.Answer.{statusNumber, executed}
 use Rattle.pair.specs.Calls.{Whole}
 use Rattle.pair.specs.Sound.{pairUnsound}
+use Rattle.pair.specs.Pair.{noMessage}
 use Rattle.pair.specs.declared.OpenMessage.{OpenMessage}
 use Rattle.pair.specs.declared.Status.the-variants as status
 use Rattle.request.specs.Packet.{packetOf}
 use Rattle.request.specs.declared.Packet.{Packet}
-use Rattle.request.specs.Verdict.{carrying, notEnabled, overLimit, keyFails, current, expectedCode}
-use Rattle.protocol.specs.Decide.{aheadDecision, failed, settled, expectedDecision, psnBefore, againFails, readAgain, atomicAgain, isAtomic, duplicateDecision, regionFor, headEntry, ackSyndrome, classed, packetDecision, orDrop, readsFull, inboundRefusal, decided}
+use Rattle.request.specs.Verdict.{carrying, notEnabled, overLimit, keyFails, current, requestCode, expectedCode}
+use Rattle.protocol.specs.Decide.{aheadDecision, failed, settled, expectedDecision, psnBefore, againFails, readAgain, atomicAgain, isAtomic, duplicateDecision, regionFor, headEntry, ackSyndrome, classed, rcDecision, orphaned, strays, closedBy, abandoning, unanswered, placing, delivering, ucSettled, ucDecision, packetDecision, orDrop, readsFull, inboundRefusal, decided}
 use Rattle.protocol.specs.Kept.{Steady}
-use Rattle.protocol.proofs.Checked.{checked, begins}
-use Rattle.protocol.proofs.Leads.{Leads, branch, still-leads, quiet-leads, ack-leads, again-leads}
-use Rattle.protocol.proofs.Executes.{whole-in, executing-leads}
+use Rattle.protocol.proofs.Checked.{Checked, checked, begins}
+use Rattle.protocol.proofs.Leads.{beside, Leads, branch, Does, does-leads, still-leads, quiet-leads, ack-leads, again-leads}
+use Rattle.protocol.proofs.Executes.{whole-in, placing-does, executing-leads}
+use Rattle.protocol.proofs.Views.{viewed, viewed-sound, current-closed, same-code}
 
 -- a READ begins a message
 read-low : (low : ℕ) → kindOf low ≡ 12 → starts (placeOf low) ≡ true
@@ -63,6 +65,44 @@ read-starts opcode = go (eqb (serviceOf opcode) 0) (eqb (serviceOf opcode) 1) (u
     go false true true h = read-low (lowOf opcode) h
     go false true false h = absurd (omega arith)
     go false false few h = absurd (omega arith)
+
+-- a packet of the unreliable connection that passed the checks does to a steady pair what it would do to one with the
+-- message closed
+viewed-steady : (w : Whole) → Steady w → (place : ℕ) → Steady (beside w (viewed place (w .pair)))
+unfolding closedBy
+viewed-steady w W place =
+    record {
+      pair = viewed-sound place (w .pair) (W .pair);
+      regions = W .regions;
+      entries = W .entries;
+      held = go (starts place);
+    }
+  where
+    go : (b : Bool) → cond b noMessage (w .pair .message) .kind ≡ 0
+        → cond b noMessage (w .pair .message) .placed ≤ getD (headEntry (w .pair) (w .entries)) 2 0
+    go true e = absurd (omega arith)
+    go false e = W .held e
+
+module _ (w : Whole) (W : Steady w) (p : Packet) where
+  abbrev At : OpenMessage → Type 0
+  At m =
+      Checked (w .pair .setup) (closedBy (p .place) (w .pair .message)) p (w .pair .entries .count) (headEntry (w .pair) (w .entries))
+      (regionFor (p .kind) (m .key) (w .regions))
+      → carrying (p .kind) ≡ true
+      → Does w
+      (unanswered (1 + distance (p .psn .0) (w .pair .expected .0))
+      (placing p m (headEntry (w .pair) (w .entries)) (regionFor (p .kind) (m .key) (w .regions))))
+
+  took-closed : At (current (closedBy (p .place) (w .pair .message)) p)
+  unfolding statusNumber
+  took-closed C c =
+      let D =
+      placing-does (beside w (viewed (p .place) (w .pair))) (viewed-steady w W (p .place)) p
+      C c in
+      record { number = refl; entry = D .entry; message = D .message; read = D .read; psn = D .psn }
+
+  took : At (current (w .pair .message) p)
+  took = subst At (current-closed (w .pair .message) p) took-closed
 
 module _ (w : Whole) (W : Steady w) where
   ahead-leads : Leads w (aheadDecision (w .pair .mark) (w .pair .expected))
@@ -118,14 +158,35 @@ module _ (w : Whole) (W : Steady w) where
         (λ e. branch w (eqb (p .kind) 12) _ _ (λ f. again (eqb-true (p .kind) 12 f))
         (λ f. branch w (isAtomic (p .kind)) _ _ (λ g. atomic-leads v (p .psn)) (λ g. quiet-leads w W status.Dropped refl)))
 
-    packet-leads : Leads w (packetDecision (w .pair) (w .regions) (w .entries) (w .saved) p)
-    unfolding packetDecision
-    packet-leads = go (psnClass (p .psn .0) (w .pair .expected .0))
+    rc-leads : Leads w (rcDecision (w .pair) (w .regions) (w .entries) (w .saved) p)
+    unfolding rcDecision
+    rc-leads = go (psnClass (p .psn .0) (w .pair .expected .0))
       where
         go : (c : Class) → Leads w (classed c (w .pair) p (headEntry (w .pair) (w .entries)) region (newestSaved (p .psn .0) (w .saved) (w .pair .saved)))
         go class.Expected = expected-leads
         go class.Ahead = ahead-leads
         go class.Duplicate = duplicate-leads (newestSaved (p .psn .0) (w .saved) (w .pair .saved))
+
+    -- on the unreliable connection it finds the message that it leaves open
+    uc-leads : Leads w (ucDecision p (w .pair .setup) (w .pair .expected) (w .pair .message) (w .pair .entries .count) (headEntry (w .pair) (w .entries)) region)
+    unfolding ucDecision ucSettled delivering abandoning statusNumber
+    uc-leads =
+        let entry = headEntry (w .pair) (w .entries) in
+        let under = closedBy (p .place) (w .pair .message) in
+        let code = requestCode (w .pair .setup) under p (w .pair .entries .count) entry region in
+        branch w (orphaned (p .place) (w .pair .message .kind)) _ _ (λ o. quiet-leads w W status.Dropped refl)
+        (λ o. branch w (strays p (w .pair .expected) (w .pair .message .kind)) _ _ (λ t. quiet-leads w W status.Abandoned refl)
+        (λ t. branch w (eqb code 0) _ _
+        (λ z. branch w (carrying (p .kind)) _ _
+        (λ c. does-leads w W _ (took w W p (checked (w .pair .setup) under p (w .pair .entries .count) entry region
+        (same-code (w .pair .setup) (w .pair .message) p (w .pair .expected) (w .pair .entries .count) entry region t ∙ eqb-true code 0 z)) c))
+        (λ c. quiet-leads w W status.Dropped refl))
+        (λ z. branch w (eqb code 34) _ _ (λ e. quiet-leads w W status.OutOfRange refl)
+        (λ e. branch w (eqb (w .pair .message .kind) 255) _ _ (λ f. quiet-leads w W status.Dropped refl) (λ f. quiet-leads w W status.Abandoned refl)))))
+
+    packet-leads : Leads w (packetDecision (w .pair) (w .regions) (w .entries) (w .saved) p)
+    unfolding packetDecision
+    packet-leads = branch w (eqb (w .pair .setup .service) 1) _ _ (λ e. uc-leads) (λ e. rc-leads)
 
   -- a refusal is none of the answers that change the pair
   refused : (memory room : ℕ) → executed (inboundRefusal (w .pair) memory room) ≡ false → leb (statusNumber (inboundRefusal (w .pair) memory room)) 3 ≡ false

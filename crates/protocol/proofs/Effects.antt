@@ -7,8 +7,8 @@ use mathlib.Core.Logic.{_⊎_, inl, inr}
 use native.Mathlib.Omega.{arith}
 use lib.Dec.{eqb}
 use lib.ListN.{length, take, drop, getD, length-take}
-use borrow.Author.Tests.{eq-eqb, ne-eqb, lt-leb, le-leb}
-use Rattle.sequence.specs.Sequence.{psnAfter, msnNext}
+use borrow.Author.Tests.{eq-eqb, ne-eqb, lt-leb, le-leb, eqb-true, eqb-false}
+use Rattle.sequence.specs.Sequence.{distance, psnAfter, msnNext}
 use Rattle.sequence.specs.declared.Psn.{Psn}
 use Rattle.sequence.specs.declared.Msn.{Msn}
 use Rattle.opcode.specs.Opcode.{followsOf, lowClass}
@@ -36,16 +36,19 @@ use Rattle.request.specs.Verdict.{spot, netOf}
 use Rattle.request.specs.declared.Operands.{Operands}
 use Rattle.request.specs.declared.Packet.{Packet}
 use Rattle.protocol.specs.declared.Decision.{Decision}
-use Rattle.protocol.specs.Decide.{noCompletion, noPsn, still, quietly, acknowledging, psnBefore, completes, completionOf, grown, placeOf, reading, placing, swapping, decided}
+use Rattle.protocol.specs.Decide.{noCompletion, noPsn, still, quietly, acknowledging, psnBefore, completes, completionOf, grown, placeOf, reading, placing, swapping, unanswered, decided}
 use Rattle.protocol.specs.Apply.{memoryBy, actsAtomic, savedBy, savedRingBy, ringTaken, entriesBy, msnBy, readBy, executedPair, with, after, pairBy}
 use Rattle.protocol.specs.Reply.{answerBytes, valueBy, over, outBy}
 use Rattle.protocol.specs.Inbound.{outcomeBy, decision, inbound, inboundMemory, inboundSaved, inboundOut}
-use Rattle.protocol.specs.Effects.{Left, leaving, Silent, Still, Unchanged, Fixed, MarkAlone, ErrorAlone, Begun, Repeated, Executes, Places, Accepts, OnWord, Swaps, Table, InboundTable, OneOf, InboundNumbers}
+use Rattle.protocol.specs.Effects.{Left, leaving, Silent, Still, Unchanged, Fixed, MarkAlone, ErrorAlone, Begun, Repeated, Abandons, Executes, Places, Accepts, OnWord, Swaps, Table, InboundTable, OneOf, InboundNumbers, UcNumbers}
 use Rattle.protocol.proofs.Codes.Bare.{reads, swaps, adds}
 use Rattle.protocol.proofs.Codes.{Bare, class-is}
 use Rattle.protocol.proofs.Rows.Quiet.{dropped, short, range, unfinished}
 use Rattle.protocol.proofs.Rows.Row.{quiet, ahead, invalid, access, unready, again, reread, reswap, place, begin, swap}
-use Rattle.protocol.proofs.Rows.{Quiet, Asks, Row, either, numbersOf, decided-row}
+use Rattle.protocol.proofs.Rows.UcRow.{unheard, abandon, deliver}
+use Rattle.protocol.proofs.Rows.AnyRow.{reliable, unreliable}
+use Rattle.protocol.proofs.Rows.{Quiet, Asks, Row, UcRow, AnyRow, either, numbersOf, decided-row}
+use Rattle.protocol.proofs.Views.{number-taken}
 
 pub silent : Silent noCompletion
 silent = record { some = refl; number = refl; length = refl; immediate = refl; value = refl }
@@ -74,7 +77,7 @@ module _ (q : Pair) (regions saved : List (List ℕ)) (m p out : List ℕ) where
   Effect status.AtomicExecuted l = Swaps q saved m p l
   Effect status.DuplicateAnswered l = Repeated q regions saved m p out l
   Effect status.Dropped l = Unchanged q saved m out l
-  Effect status.Abandoned l = ⊥
+  Effect status.Abandoned l = Abandons q saved m out l
   Effect status.SequenceNak l = MarkAlone q saved m l
   Effect status.InvalidRequestNak l = ErrorAlone q saved m l
   Effect status.AccessNak l = ErrorAlone q saved m l
@@ -102,11 +105,11 @@ module _ (q : Pair) (regions saved : List (List ℕ)) (m p out : List ℕ) where
   fixed-with : (state : ℕ) (mark : Bool) (a : ReadAnswer) → Fixed q (with q state mark a)
   fixed-with state mark a = record { setup = refl; expected = refl; msn = refl; message = refl; entries = refl; saved = refl }
 
-  fixed-by : (d : Decision) → 3 < statusNumber (d .status) → Fixed q (pairBy q d)
+  fixed-by : (d : Decision) → 3 < statusNumber (d .status) → (statusNumber (d .status) ≡ 6 → ⊥) → Fixed q (pairBy q d)
   unfolding pairBy after
-  fixed-by d h =
+  fixed-by d h k =
       let n = statusNumber (d .status) in
-      rw (lt-leb n 3 h)
+      rw (lt-leb n 3 h, ne-eqb n 6 k)
       (either (Fixed q) (eqb n 4) (fixed-with _ _ _)
       (either (Fixed q) (eqb n 16 || eqb n 19) (fixed-with _ _ _)
       (either (Fixed q) (eqb n 17 || eqb n 18) (fixed-with _ _ _) (fixed-with (q .state) (q .mark) (q .read)))))
@@ -148,6 +151,29 @@ module _ (q : Pair) (regions saved : List (List ℕ)) (m p out : List ℕ) where
   remaining-by : (d : Decision) (old : ReadAnswer) (msn : Msn) → 0 < d .responses → readBy d old msn .remaining ≡ d .responses
   unfolding readBy
   remaining-by d old msn h = rw (ne-eqb (d .responses) 0 (λ z. omega arith))
+
+  -- the decision with another answer, another count of PSNs taken and of bytes sent
+  abbrev answering : Status → ℕ → ℕ → Decision → Decision
+  answering a numbers sent d =
+      record {
+        status = a;
+        act = d .act;
+        at = d .at;
+        start = d .start;
+        end = d .end;
+        swap = d .swap;
+        compare = d .compare;
+        message = d .message;
+        numbers = numbers;
+        ends = d .ends;
+        completion = d .completion;
+        responses = d .responses;
+        length = d .length;
+        sent = sent;
+        psn = d .psn;
+        syndrome = d .syndrome;
+        value = d .value;
+      }
 
   status-of : (ackreq : Bool) (l : Left) → Places q saved m p l → l .sent ≡ cond ackreq 16 0 → (ackreq ≡ false → l .out ≡ out)
       → Effect (cond ackreq status.Acknowledged status.Executed) l
@@ -208,16 +234,21 @@ module _ (q : Pair) (regions saved : List (List ℕ)) (m p out : List ℕ) where
   unfolding entriesBy
   entries-by b c e = rw e
 
-  places-by : (t : OpenMessage) (entry region : List ℕ) → placeOf (numbersOf p .kind) t entry region + netOf (numbersOf p) ≤ q .setup .memory
-      → Places q saved m p (L (placing (numbersOf p) t entry region))
+  -- whatever the answer and however many PSNs are taken, by the rule of the service
+  places-by : (a : Status) (n sent : ℕ) (t : OpenMessage) (entry region : List ℕ) → statusNumber a ≤ 3
+      → ((q .setup .service ≡ 1 → ⊥) → psnAfter (q .expected) n ≡ psnAfter (q .expected) 1)
+      → (q .setup .service ≡ 1 → psnAfter (q .expected) n ≡ psnAfter (bthOf p .psn) 1)
+      → placeOf (numbersOf p .kind) t entry region + netOf (numbersOf p) ≤ q .setup .memory
+      → Places q saved m p (L (answering a n sent (placing (numbersOf p) t entry region)))
   unfolding leftBy outcomeBy placing executedPair readBy savedRingBy savedBy actsAtomic memoryBy ringTaken slotAt packetOf headerOf
-  places-by t entry region w =
+  places-by a n sent t entry region few rc uc w =
       let k = numbersOf p in
-      let d = placing k t entry region in
-      let e : pairBy q d ≡ executedPair q d = ran d (place-few (k .ackreq)) in
+      let d = answering a n sent (placing k t entry region) in
+      let e : pairBy q d ≡ executedPair q d = ran d few in
       record {
         executed = subst (Executes q) (sym e) (executes-by d);
-        expected = ap (λ x. x .expected) e;
+        expected = λ h. ap (λ x. x .expected) e ∙ rc h;
+        taken = λ h. ap (λ x. x .expected) e ∙ uc h;
         memory = (d .at, omega (arith, w, payload-most), ap (placed m (d .at)) payload-by);
         ends = λ h. (ap (λ x. x .msn) e ∙ ended (k .place) h, ap (λ x. x .message) e ∙ message-by t (k .place) (netOf k) h);
         onward = λ h. (ap (λ x. x .msn) e ∙ goes-on (k .place) h, silent-by k t (getD entry 0 0) h);
@@ -228,14 +259,28 @@ module _ (q : Pair) (regions saved : List (List ℕ)) (m p out : List ℕ) where
         saved = refl;
       }
 
-  place-by : (t : OpenMessage) (entry region : List ℕ) → placeOf (numbersOf p .kind) t entry region + netOf (numbersOf p) ≤ q .setup .memory
+  place-by : eqb (q .setup .service) 1 ≡ false → (t : OpenMessage) (entry region : List ℕ)
+      → placeOf (numbersOf p .kind) t entry region + netOf (numbersOf p) ≤ q .setup .memory
       → Effect (cond (numbersOf p .ackreq) status.Acknowledged status.Executed) (L (placing (numbersOf p) t entry region))
   unfolding leftBy outcomeBy placing
-  place-by t entry region w =
+  place-by r t entry region w =
       let k = numbersOf p in
       let d = placing k t entry region in
-      status-of (k .ackreq) (L d) (places-by t entry region w) refl
+      status-of (k .ackreq) (L d)
+      (places-by (d .status) 1 (d .sent) t entry region (place-few (k .ackreq)) (λ h. refl) (λ h. absurd (eqb-false (q .setup .service) 1 r h)) w) refl
       (λ e. nothing-out d (pairBy q d .msn) (ap (λ b. cond b 16 0) e))
+
+  deliver-by : eqb (q .setup .service) 1 ≡ true → (t : OpenMessage) (entry region : List ℕ)
+      → placeOf (numbersOf p .kind) t entry region + netOf (numbersOf p) ≤ q .setup .memory
+      → Effect status.Executed (L (unanswered (1 + distance (bthOf p .psn .0) (q .expected .0)) (placing (numbersOf p) t entry region)))
+  unfolding leftBy outcomeBy statusNumber
+  deliver-by r t entry region w =
+      let n = 1 + distance (bthOf p .psn .0) (q .expected .0) in
+      let d = unanswered n (placing (numbersOf p) t entry region) in (
+        places-by status.Executed n 0 t entry region (omega arith) (λ h. absurd (h (eqb-true (q .setup .service) 1 r))) (λ h. number-taken (bthOf p .psn) (q .expected)) w,
+        refl,
+        nothing-out d (pairBy q d .msn) refl,
+      )
 
   -- its operands are those of the AtomicETH
   operand-by : (f : Operands → ℕ) (k : ℕ) → Bare k → numbersOf p .kind ≡ k → f (numbersOf p .operands) ≡ f (operandsOf (extensionOf (lowClass k .follows) p))
@@ -299,32 +344,62 @@ module _ (q : Pair) (regions saved : List (List ℕ)) (m p out : List ℕ) where
         out = refl;
       }
 
-  effect : (d : Decision) → Row Quiet q regions saved (numbersOf p) d → Effect (d .status) (L d)
+  effect : eqb (q .setup .service) 1 ≡ false → (d : Decision) → Row Quiet q regions saved (numbersOf p) d → Effect (d .status) (L d)
   unfolding leftBy outcomeBy acknowledging pairBy after statusNumber memoryBy savedBy actsAtomic quietly placing swapping outBy over answerBytes readBy packetOf headerOf
-  effect d (quiet a k) = quiet-by a k
-  effect d ahead =
-      record { mark = refl; fixed = fixed-by d (omega arith); state = refl; read = refl; still = still-by status.SequenceNak 16 (q .expected) 96 0; sent = refl }
-  effect d invalid =
-      record { state = refl; fixed = fixed-by d (omega arith); mark = refl; read = refl; still = still-by status.InvalidRequestNak 16 (bthOf p .psn) 97 0; sent = refl }
-  effect d access =
-      record { state = refl; fixed = fixed-by d (omega arith); mark = refl; read = refl; still = still-by status.AccessNak 16 (bthOf p .psn) 98 0; sent = refl }
-  effect d unready =
-      record { mark = refl; fixed = fixed-by d (omega arith); state = refl; read = refl; still = still-by status.NotReadyNak 16 (bthOf p .psn) (32 + q .setup .timer) 0; sent = refl }
-  effect d again =
-      record { fixed = fixed-by d (omega arith); state = refl; mark = refl; still = still-by status.DuplicateAnswered 16 (psnBefore (q .expected)) 31 0; answer = inl (inl refl, refl) }
-  effect d (reread at n a s) =
+  effect c d (quiet a k) = quiet-by a k
+  effect c d ahead =
+      record { mark = refl; fixed = fixed-by d (omega arith) (λ e. absurd (omega arith)); state = refl; read = refl; still = still-by status.SequenceNak 16 (q .expected) 96 0; sent = refl }
+  effect c d invalid =
+      record { state = refl; fixed = fixed-by d (omega arith) (λ e. absurd (omega arith)); mark = refl; read = refl; still = still-by status.InvalidRequestNak 16 (bthOf p .psn) 97 0; sent = refl }
+  effect c d access =
+      record { state = refl; fixed = fixed-by d (omega arith) (λ e. absurd (omega arith)); mark = refl; read = refl; still = still-by status.AccessNak 16 (bthOf p .psn) 98 0; sent = refl }
+  effect c d unready =
+      record { mark = refl; fixed = fixed-by d (omega arith) (λ e. absurd (omega arith)); state = refl; read = refl; still = still-by status.NotReadyNak 16 (bthOf p .psn) (32 + q .setup .timer) 0; sent = refl }
+  effect c d again =
+      record { fixed = fixed-by d (omega arith) (λ e. absurd (omega arith)); state = refl; mark = refl; still = still-by status.DuplicateAnswered 16 (psnBefore (q .expected)) 31 0; answer = inl (inl refl, refl) }
+  effect c d (reread at n a s) =
       record {
-        fixed = fixed-by d (omega arith);
+        fixed = fixed-by d (omega arith) (λ e. absurd (omega arith));
         state = refl;
         mark = refl;
         still = record { memory = refl; saved = refl; completion = silent };
         answer = inr (refl, refl, begun-by d (q .read) (q .msn) s refl refl a);
       }
-  effect d (reswap v e) =
-      record { fixed = fixed-by d (omega arith); state = refl; mark = refl; still = still-by status.DuplicateAnswered 24 (bthOf p .psn) 31 v; answer = inl (inr refl, refl) }
-  effect d (place t entry region w) = place-by t entry region w
-  effect d (begin at n a s) = begin-by at n a s
-  effect d (swap t region w) = swap-by t region w
+  effect c d (reswap v e) =
+      record { fixed = fixed-by d (omega arith) (λ e. absurd (omega arith)); state = refl; mark = refl; still = still-by status.DuplicateAnswered 24 (bthOf p .psn) 31 v; answer = inl (inr refl, refl) }
+  effect c d (place t entry region w) = place-by c t entry region w
+  effect c d (begin at n a s) = begin-by at n a s
+  effect c d (swap t region w) = swap-by t region w
+
+  -- and on the unreliable connection
+  abandoned : Still saved m (L (quietly status.Abandoned))
+  unfolding quietly
+  abandoned = still-by status.Abandoned 0 noPsn 0 0
+
+  uc-effect : eqb (q .setup .service) 1 ≡ true → (d : Decision) → UcRow Quiet q (numbersOf p) d → Effect (d .status) (L d)
+  unfolding leftBy outcomeBy pairBy after statusNumber quietly outBy over answerBytes packetOf headerOf
+  uc-effect c d (unheard a k) = quiet-by a k
+  uc-effect c d (abandon h) =
+      record {
+        under = h;
+        message = refl;
+        setup = refl;
+        state = refl;
+        expected = refl;
+        msn = refl;
+        mark = refl;
+        entries = refl;
+        read = refl;
+        ring = refl;
+        still = abandoned;
+        sent = refl;
+        out = refl;
+      }
+  uc-effect c d (deliver t entry region w) = deliver-by c t entry region w
+
+  any-effect : (d : Decision) → AnyRow Quiet q regions saved (numbersOf p) d → Effect (d .status) (L d)
+  any-effect d (reliable c r) = effect c d r
+  any-effect d (unreliable c r) = uc-effect c d r
 
   -- which answer it is, by its number
   is : (a : Status) (l : Left) (n : ℕ) → statusNumber a ≡ n → Effect a l → Effect (statusOf n) l
@@ -338,7 +413,7 @@ module _ (q : Pair) (regions saved : List (List ℕ)) (m p out : List ℕ) where
   over-32 status.AtomicExecuted l h x = absurd (omega arith)
   over-32 status.DuplicateAnswered l h x = absurd (omega arith)
   over-32 status.Dropped l h x = x
-  over-32 status.Abandoned l h x = absurd x
+  over-32 status.Abandoned l h x = absurd (omega arith)
   over-32 status.SequenceNak l h x = absurd (omega arith)
   over-32 status.InvalidRequestNak l h x = absurd (omega arith)
   over-32 status.AccessNak l h x = absurd (omega arith)
@@ -359,6 +434,7 @@ module _ (q : Pair) (regions saved : List (List ℕ)) (m p out : List ℕ) where
         quiet = λ h. quiets h;
         marks = λ h. mark h;
         errs = λ h. err h;
+        abandons = λ h. is a l 6 (sym e ∙ h) x;
         repeats = λ h. is a l 4 (sym e ∙ h) x;
         swaps = λ h. is a l 3 (sym e ∙ h) x;
         accepts = λ h. is a l 2 (sym e ∙ h) x;
@@ -378,38 +454,66 @@ module _ (q : Pair) (regions saved : List (List ℕ)) (m p out : List ℕ) where
       err (inl h) = is a l 17 (sym e ∙ h) x
       err (inr h) = is a l 18 (sym e ∙ h) x
 
-  numbers : (a : Status) (l : Left) → Effect a l → OneOf (0 ∷ 1 ∷ 2 ∷ 3 ∷ 4 ∷ 5 ∷ 16 ∷ 17 ∷ 18 ∷ 19 ∷ 32 ∷ 34 ∷ 35 ∷ []) (statusNumber a)
+  -- which numbers there are
+  abbrev Rc : ℕ → Type 0
+  Rc = OneOf (0 ∷ 1 ∷ 2 ∷ 3 ∷ 4 ∷ 5 ∷ 16 ∷ 17 ∷ 18 ∷ 19 ∷ 32 ∷ 34 ∷ 35 ∷ [])
+
+  abbrev Uc : ℕ → Type 0
+  Uc = OneOf (0 ∷ 5 ∷ 6 ∷ 32 ∷ 34 ∷ 35 ∷ [])
+
+  quiet-numbers : (a : Status) → Quiet a → Rc (statusNumber a) × Uc (statusNumber a)
   unfolding statusNumber
-  numbers status.Executed l x = inl refl
-  numbers status.Acknowledged l x = inr (inl refl)
-  numbers status.ReadAccepted l x = inr (inr (inl refl))
-  numbers status.AtomicExecuted l x = inr (inr (inr (inl refl)))
-  numbers status.DuplicateAnswered l x = inr (inr (inr (inr (inl refl))))
-  numbers status.Dropped l x = inr (inr (inr (inr (inr (inl refl)))))
-  numbers status.Abandoned l x = absurd x
-  numbers status.SequenceNak l x = inr (inr (inr (inr (inr (inr (inl refl))))))
-  numbers status.InvalidRequestNak l x = inr (inr (inr (inr (inr (inr (inr (inl refl)))))))
-  numbers status.AccessNak l x = inr (inr (inr (inr (inr (inr (inr (inr (inl refl))))))))
-  numbers status.NotReadyNak l x = inr (inr (inr (inr (inr (inr (inr (inr (inr (inl refl)))))))))
-  numbers status.ReadUnfinished l x = inr (inr (inr (inr (inr (inr (inr (inr (inr (inr (inl refl))))))))))
-  numbers status.TableFull l x = absurd x
-  numbers status.OutOfRange l x = inr (inr (inr (inr (inr (inr (inr (inr (inr (inr (inr (inl refl)))))))))))
-  numbers status.OutputShort l x = inr (inr (inr (inr (inr (inr (inr (inr (inr (inr (inr (inr (inl refl))))))))))))
-  numbers status.WrongState l x = absurd x
-  numbers status.NoSuchKey l x = absurd x
-  numbers status.KeyInUse l x = absurd x
-  numbers status.BadNumber l x = absurd x
+  quiet-numbers a dropped = (inr (inr (inr (inr (inr (inl refl))))), inr (inl refl))
+  quiet-numbers a short =
+      (inr (inr (inr (inr (inr (inr (inr (inr (inr (inr (inr (inr (inl refl)))))))))))), inr (inr (inr (inr (inr (inl refl))))))
+  quiet-numbers a range = (inr (inr (inr (inr (inr (inr (inr (inr (inr (inr (inr (inl refl))))))))))), inr (inr (inr (inr (inl refl)))))
+  quiet-numbers a unfinished = (inr (inr (inr (inr (inr (inr (inr (inr (inr (inr (inl refl)))))))))), inr (inr (inr (inl refl))))
+
+  place-numbers : (b : Bool) → Rc (statusNumber (cond b status.Acknowledged status.Executed))
+  unfolding statusNumber
+  place-numbers true = inr (inl refl)
+  place-numbers false = inl refl
+
+  numbers : (d : Decision) → Row Quiet q regions saved (numbersOf p) d → Rc (statusNumber (d .status))
+  unfolding statusNumber quietly acknowledging placing swapping
+  numbers d (quiet a k) = quiet-numbers a k .0
+  numbers d ahead = inr (inr (inr (inr (inr (inr (inl refl))))))
+  numbers d invalid = inr (inr (inr (inr (inr (inr (inr (inl refl)))))))
+  numbers d access = inr (inr (inr (inr (inr (inr (inr (inr (inl refl))))))))
+  numbers d unready = inr (inr (inr (inr (inr (inr (inr (inr (inr (inl refl)))))))))
+  numbers d again = inr (inr (inr (inr (inl refl))))
+  numbers d (reread at n a s) = inr (inr (inr (inr (inl refl))))
+  numbers d (reswap v e) = inr (inr (inr (inr (inl refl))))
+  numbers d (place t entry region w) = place-numbers (numbersOf p .ackreq)
+  numbers d (begin at n a s) = inr (inr (inl refl))
+  numbers d (swap t region w) = inr (inr (inr (inl refl)))
+
+  uc-numbers : (d : Decision) → UcRow Quiet q (numbersOf p) d → Uc (statusNumber (d .status))
+  unfolding statusNumber quietly
+  uc-numbers d (unheard a k) = quiet-numbers a k .1
+  uc-numbers d (abandon h) = inr (inr (inl refl))
+  uc-numbers d (deliver t entry region w) = inl refl
+
+  any-numbers : (d : Decision) → AnyRow Quiet q regions saved (numbersOf p) d
+      → ((q .setup .service ≡ 1 → ⊥) → Rc (statusNumber (d .status))) × (q .setup .service ≡ 1 → Uc (statusNumber (d .status)))
+  any-numbers d (reliable c r) = (λ h. numbers d r, λ h. absurd (eqb-false (q .setup .service) 1 c h))
+  any-numbers d (unreliable c r) = (λ h. absurd (h (eqb-true (q .setup .service) 1 c)), λ h. uc-numbers d r)
 
 pub inbound-table : InboundTable
 unfolding inbound inboundMemory inboundSaved inboundOut decision leftBy outcomeBy
 inbound-table q regions entries saved m p out =
     let d = decided q regions entries saved (length m) p (length out) in
     table q regions saved m p out (d .status) (leftBy q saved m p out d) refl
-    (effect q regions saved m p out d (decided-row q regions entries saved (length m) p (length out)))
+    (any-effect q regions saved m p out d (decided-row q regions entries saved (length m) p (length out)))
 
 pub inbound-numbers : InboundNumbers
 unfolding inbound decision outcomeBy
 inbound-numbers q regions entries saved m p out =
     let d = decided q regions entries saved (length m) p (length out) in
-    numbers q regions saved m p out (d .status) (leftBy q saved m p out d)
-    (effect q regions saved m p out d (decided-row q regions entries saved (length m) p (length out)))
+    any-numbers q regions saved m p out d (decided-row q regions entries saved (length m) p (length out)) .0
+
+pub uc-answers : UcNumbers
+unfolding inbound decision outcomeBy
+uc-answers q regions entries saved m p out =
+    let d = decided q regions entries saved (length m) p (length out) in
+    any-numbers q regions saved m p out d (decided-row q regions entries saved (length m) p (length out)) .1

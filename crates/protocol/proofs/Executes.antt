@@ -193,7 +193,7 @@ module _ (w : Whole) (W : Steady w) where
               let a = write-fits k c e in
               inr (inr (same-kind ∙ k, a, write-limit k, write-top k a))
 
-      placing-does : carrying (p .kind) ≡ true → Does w (placing p message entry region)
+      pub placing-does : carrying (p .kind) ≡ true → Does w (placing p message entry region)
       unfolding placing completionOf actsAtomic statusNumber
       placing-does c =
           record {

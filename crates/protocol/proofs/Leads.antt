@@ -27,7 +27,7 @@ use Rattle.pair.specs.declared.Status.the-variants as status
 use Rattle.pair.specs.Pair.{noMessage}
 use Rattle.protocol.specs.declared.Decision.{Decision}
 use Rattle.protocol.specs.Decide.{noPsn, still, quietly, acknowledging, reading, headEntry}
-use Rattle.protocol.specs.Apply.{actsAtomic, savedRingBy, ringTaken, entriesBy, msnBy, readBy, executedPair, with, after, pairBy}
+use Rattle.protocol.specs.Apply.{actsAtomic, savedRingBy, ringTaken, entriesBy, msnBy, readBy, executedPair, with, closing, after, pairBy}
 use Rattle.protocol.specs.Kept.{Steady}
 
 -- the same tables beside another pair
@@ -77,6 +77,27 @@ with-steady w state mark a W h r =
       held = W .held;
     }
 
+-- no message open
+pub closed-steady : (w : Whole) → Steady w → Steady (beside w (closing (w .pair)))
+closed-steady w W =
+    let S = W .pair in
+    record {
+      pair =
+          record {
+            setup = S .setup;
+            state = S .state;
+            expected = S .expected;
+            msn = S .msn;
+            entries = S .entries;
+            saved = S .saved;
+            message = inl refl;
+            read = S .read;
+          };
+      regions = W .regions;
+      entries = W .entries;
+      held = λ e. absurd (omega arith);
+    }
+
 -- a steady pair that has saved no more
 pub record Lasting (w : Whole) (q : Pair) : Type 0 where
   pub steady : Steady (beside w q)
@@ -102,7 +123,8 @@ module _ (w : Whole) (W : Steady w) where
           rw h
           (either w (eqb (statusNumber s) 4) _ _ (lasts (w .pair .state) _ (W .pair .state))
           (either w (eqb (statusNumber s) 16 || eqb (statusNumber s) 19) _ _ (lasts (w .pair .state) _ (W .pair .state))
-          (either w (eqb (statusNumber s) 17 || eqb (statusNumber s) 18) _ _ (lasts 2 _ (omega arith)) (lasts (w .pair .state) _ (W .pair .state)))))
+          (either w (eqb (statusNumber s) 17 || eqb (statusNumber s) 18) _ _ (lasts 2 _ (omega arith))
+          (either w (eqb (statusNumber s) 6) _ _ (record { steady = closed-steady w W; saved = refl }) (lasts (w .pair .state) _ (W .pair .state))))))
 
   pub quiet-leads : (s : Status) → leb (statusNumber s) 3 ≡ false → Leads w (quietly s)
   unfolding quietly

@@ -5,6 +5,7 @@ pub mod Decisions
 pub mod Kept
 pub mod Codes
 pub mod Inside
+pub mod Views
 pub mod Rows
 pub mod Effects
 pub mod Sizes

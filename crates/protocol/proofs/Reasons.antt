@@ -149,7 +149,7 @@ module _ (q : Pair) (regions entries saved : List (List ℕ)) (p : List ℕ) (t 
 
 pub inbound-reason : InboundReason
 unfolding admitted
-inbound-reason q regions entries saved m p out W t C = go (headerBy q p) refl
+inbound-reason q regions entries saved m p out W rc t C = go (headerBy q p) refl
   where
     go : (r : HeaderRead) → headerBy q p ≡ r → Reason q regions entries saved p t (statusNumber (inbound q regions entries saved m p out .status))
     go (read.Dropped reason) e =
@@ -158,4 +158,4 @@ inbound-reason q regions entries saved m p out W t C = go (headerBy q p) refl
         let i = accepted-by (headerReason (q .setup .service) (q .setup .ours) (q .setup .pkey) (eqb (q .state) 1) p) p h e .1 in
         let f : headerBy q p ≡ read.Accepted (headerOf p) = subst (λ x. headerBy q p ≡ read.Accepted x) (sym i) e in
         passed-reason q regions entries saved p t (statusNumber (inbound q regions entries saved m p out .status)) f
-        (header-passed q regions entries saved m p out W (headerOf p) f t C)
+        (header-passed q regions entries saved m p out W rc (headerOf p) f t C)

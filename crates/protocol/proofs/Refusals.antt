@@ -25,7 +25,10 @@ use Rattle.protocol.specs.Inbound.{outcomeBy, decision, inbound}
 use Rattle.protocol.specs.Effects.{InboundShort, InboundRange, InboundUnfinished, InboundTaken, InboundAnswered, InboundMeant, NextRefused, NextNone, NextShort, NextRange, NextDone, NextAnswers}
 use Rattle.protocol.proofs.Rows.Late.{unread, outside}
 use Rattle.protocol.proofs.Rows.Row.{quiet, ahead, invalid, access, unready, again, reread, reswap, place, begin, swap}
-use Rattle.protocol.proofs.Rows.{Late, Row, numbersOf, taken-row}
+use Rattle.protocol.proofs.Rows.UcRow.{unheard, abandon, deliver}
+use Rattle.protocol.proofs.Rows.AnyRow.{reliable, unreliable}
+use Rattle.protocol.proofs.Rows.{UcRow, AnyRow, Late, Row, numbersOf, taken-row}
+use Rattle.protocol.proofs.Views.{viewed, viewed-sound}
 use Rattle.protocol.proofs.Codes.{never-34}
 use Rattle.protocol.proofs.Effects.{silent}
 
@@ -83,6 +86,18 @@ late Q T f g q regions saved k d (place t entry region w) = go (k .ackreq)
 late Q T f g q regions saved k d (begin at n a s) = g status.ReadAccepted (omega arith)
 late Q T f g q regions saved k d (swap t region w) = g status.AtomicExecuted (omega arith)
 
+uc-late : (Q T : Status → Type 0) → ((a : Status) → Q a → T a) → ((a : Status) → statusNumber a ≤ 19 → T a)
+    → (q : Pair) (k : Packet) (d : Decision) → UcRow Q q k d → T (d .status)
+unfolding statusNumber quietly
+uc-late Q T f g q k d (unheard a x) = f a x
+uc-late Q T f g q k d (abandon h) = g status.Abandoned (omega arith)
+uc-late Q T f g q k d (deliver t entry region w) = g status.Executed (omega arith)
+
+any-late : (Q T : Status → Type 0) → ((a : Status) → Q a → T a) → ((a : Status) → statusNumber a ≤ 19 → T a)
+    → (q : Pair) (regions saved : List (List ℕ)) (k : Packet) (d : Decision) → AnyRow Q q regions saved k d → T (d .status)
+any-late Q T f g q regions saved k d (reliable e r) = late Q T f g q regions saved k d r
+any-late Q T f g q regions saved k d (unreliable e r) = uc-late Q T f g q k d r
+
 goes : (q : Pair) (m out : List ℕ) → 24 ≤ length out → length m ≡ q .setup .memory → Sound q → q .read .remaining ≡ 0
     → executed (inboundRefusal q (length m) (length out)) ≡ true
 unfolding inboundRefusal readsFull executed statusNumber
@@ -97,9 +112,9 @@ late-number a outside = inr refl
 pub inbound-taken : InboundTaken
 unfolding inbound outcomeBy decision
 inbound-taken q regions entries saved m p out h e S r =
-    late Late (λ a. (statusNumber a ≤ 19) ⊎ (statusNumber a ≡ 34)) late-number (λ a z. inl z) q regions saved (numbersOf p)
+    any-late Late (λ a. (statusNumber a ≤ 19) ⊎ (statusNumber a ≡ 34)) late-number (λ a z. inl z) q regions saved (numbersOf p)
     (decided q regions entries saved (length m) p (length out))
-    (taken-row Late unread q regions entries saved (length m) p (length out) (λ region z. outside) (goes q m out h e S r))
+    (taken-row Late unread q regions entries saved (length m) p (length out) (record { rc = λ region z. outside; uc = λ region z. outside }) (goes q m out h e S r))
 
 data Unread : Status → Type 0 where
   away : Unread status.Dropped
@@ -111,8 +126,15 @@ unread-number a away = omega arith
 pub inbound-answered : InboundAnswered
 unfolding inbound outcomeBy decision
 inbound-answered q regions entries saved m p out h e S r E =
-    late Unread (λ a. statusNumber a ≤ 19) unread-number (λ a z. z) q regions saved (numbersOf p) (decided q regions entries saved (length m) p (length out))
-    (taken-row Unread away q regions entries saved (length m) p (length out) (λ region z. absurd (never-34 q entries (numbersOf p) region S E z)) (goes q m out h e S r))
+    any-late Unread (λ a. statusNumber a ≤ 19) unread-number (λ a z. z) q regions saved (numbersOf p) (decided q regions entries saved (length m) p (length out))
+    (taken-row Unread away q regions entries saved (length m) p (length out) (record {
+      rc = λ region z. absurd (never-34 q entries (numbersOf p) region S E z);
+      uc =
+          λ region z. absurd
+          (never-34 (viewed (numbersOf p .place) q) entries (numbersOf p) region (viewed-sound (numbersOf p .place) q S)
+          (record { rows16 = E .rows16; each = E .each }) z);
+    })
+    (goes q m out h e S r))
 
 -- the other way round: what was not refused
 pub inbound-meant : InboundMeant

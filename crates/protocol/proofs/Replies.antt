@@ -49,7 +49,9 @@ use Rattle.protocol.specs.Replies.{AckSent, ValueSent, Replies, InboundR
 use Rattle.protocol.proofs.Rows.Quiet.{dropped, short, range, unfinished}
 use Rattle.protocol.proofs.Rows.Late.{unread, outside}
 use Rattle.protocol.proofs.Rows.Row.{quiet, ahead, invalid, access, unready, again, reread, reswap, place, begin, swap}
-use Rattle.protocol.proofs.Rows.{Quiet, Late, Row, either, numbersOf, passed, refusal-quiet, taken-row}
+use Rattle.protocol.proofs.Rows.UcRow.{unheard, abandon, deliver}
+use Rattle.protocol.proofs.Rows.AnyRow.{reliable, unreliable}
+use Rattle.protocol.proofs.Rows.{UcRow, AnyRow, Quiet, Late, Row, either, numbersOf, passed, refusal-quiet, taken-row}
 use Rattle.protocol.proofs.Effects.{leftBy, act-by}
 use Rattle.protocol.specs.Decide.{acknowledging, still, psnBefore, placing, swapping, quietly, inboundRefusal, decided}
 use Rattle.protocol.specs.Reply.{replyHeader, ackHeader, atomicHeader, answerBytes, valueBy, over, outBy}
@@ -169,7 +171,7 @@ msn-small : (q : Pair) (d : Decision) → Sound q → Fine (pairBy q d)
 unfolding pairBy after
 msn-small q d S =
     let n = statusNumber (d .status) in
-    either Fine (leb n 3) (executed-small q d S) (either Fine (eqb n 4) (S .msn) (either Fine (eqb n 16 || eqb n 19) (S .msn) (either Fine (eqb n 17 || eqb n 18) (S .msn) (S .msn))))
+    either Fine (leb n 3) (executed-small q d S) (either Fine (eqb n 4) (S .msn) (either Fine (eqb n 16 || eqb n 19) (S .msn) (either Fine (eqb n 17 || eqb n 18) (S .msn) (either Fine (eqb n 6) (S .msn) (S .msn)))))
 
 module _ (q : Pair) (saved : List (List ℕ)) (m p out : List ℕ) (S : Sound q) (P : q .setup .pkey < 2 ^ 16) where
   wide : (d : Decision) → d .psn .0 < 2 ^ 24 → d .syndrome < 2 ^ 8 → Wide (q .setup) (d .psn) (d .syndrome) (pairBy q d .msn)
@@ -262,6 +264,18 @@ module _ (q : Pair) (saved : List (List ℕ)) (m p out : List ℕ) where
     reply regions d (begin at n a s) = tt
     reply regions d (swap t region w) = swap-reply t region
 
+    -- the unreliable connection sends nothing
+    uc-reply : (d : Decision) → UcRow Late q (numbersOf p) d → Reply (d .status) (leftBy q saved m p out d)
+    unfolding quietly
+    uc-reply d (unheard a unread) = tt
+    uc-reply d (unheard a outside) = tt
+    uc-reply d (abandon h) = tt
+    uc-reply d (deliver t entry region w) = tt
+
+    any-reply : (regions : List (List ℕ)) (d : Decision) → AnyRow Late q regions saved (numbersOf p) d → Reply (d .status) (leftBy q saved m p out d)
+    any-reply regions d (reliable e r) = reply regions d r
+    any-reply regions d (unreliable e r) = uc-reply d r
+
   -- refused at once, nothing is sent
   quiet-reply : (a : Status) (l : Left) → Quiet a → Reply a l
   quiet-reply a l dropped = tt
@@ -301,7 +315,7 @@ inbound-replies q regions entries saved m p out P M B W =
 
     go : (b : Bool) → executed (inboundRefusal q (length m) (length out)) ≡ b → Reply q saved m p out (d .status) (leftBy q saved m p out d)
     go true e =
-        reply q saved m p out (passed q (length m) (length out) e .1) P M B W regions d (taken-row Late unread q regions entries saved (length m) p (length out) (λ region z. outside) e)
+        any-reply q saved m p out (passed q (length m) (length out) e .1) P M B W regions d (taken-row Late unread q regions entries saved (length m) p (length out) (record { rc = λ region z. outside; uc = λ region z. outside }) e)
     go false e =
         subst (λ a. Reply q saved m p out a (leftBy q saved m p out d)) (sym (refused-status q regions entries saved (length m) p (length out) e))
         (quiet-reply q saved m p out (inboundRefusal q (length m) (length out)) (leftBy q saved m p out d) (refusal-quiet q (length m) (length out) e))

@@ -7,9 +7,9 @@ use mathlib.Core.Logic.{_⊎_, inl, inr}
 use native.Mathlib.Omega.{arith}
 use lib.Dec.{eqb, ltb}
 use lib.ListN.{length}
-use borrow.Author.Tests.{ltb-false, eqb-true, ne-eqb}
+use borrow.Author.Tests.{ltb-false, eqb-true, eqb-false, ne-eqb}
 use Rattle.laws.proofs.Tests.{or-left, or-right}
-use Rattle.sequence.specs.Sequence.{psnClass}
+use Rattle.sequence.specs.Sequence.{distance, psnClass}
 use Rattle.sequence.specs.declared.Class.{Class}
 use Rattle.sequence.specs.declared.Class.the-variants as class
 use Rattle.opcode.specs.Opcode.{followsOf, lowClass, classOf}
@@ -35,13 +35,14 @@ use Rattle.pair.specs.declared.Status.{Status}
 use Rattle.pair.specs.declared.Status.the-variants as status
 use Rattle.pair.proofs.Tests.{tested}
 use Rattle.request.specs.Packet.{operandsOf, packetOf}
-use Rattle.request.specs.Verdict.{carrying, notEnabled, overLimit, keyFails, spot, netOf, current, expectedCode}
+use Rattle.request.specs.Verdict.{carrying, notEnabled, overLimit, keyFails, spot, netOf, current, requestCode, expectedCode}
 use Rattle.request.specs.declared.Packet.{Packet}
 use Rattle.protocol.specs.declared.Decision.{Decision}
-use Rattle.protocol.specs.Decide.{still, quietly, acknowledging, aheadDecision, failed, placeOf, placing, swapping, reading, accepting, executing, settled, expectedDecision, psnBefore, againFails, readAgain, atomicAgain, isAtomic, duplicateDecision, regionFor, headEntry, classed, packetDecision, orDrop, readsFull, inboundRefusal, decided}
+use Rattle.protocol.specs.Decide.{still, quietly, acknowledging, aheadDecision, failed, placeOf, placing, swapping, reading, accepting, executing, settled, expectedDecision, psnBefore, againFails, readAgain, atomicAgain, isAtomic, duplicateDecision, regionFor, headEntry, classed, rcDecision, orphaned, strays, closedBy, abandoning, unanswered, delivering, ucSettled, ucDecision, packetDecision, orDrop, readsFull, inboundRefusal, decided}
 use Rattle.protocol.proofs.Codes.Bare.{reads, swaps, adds}
 use Rattle.protocol.proofs.Codes.{Codes, codes, Passed, passes, Bare, class-is}
 use Rattle.protocol.proofs.Inside.{own-inside, place-inside}
+use Rattle.protocol.proofs.Views.{viewed, current-closed, same-code, stray-open}
 
 -- the answers with nothing sent and nothing done, and those of them that come after the packet was looked at
 pub data Quiet : Status → Type 0 where
@@ -228,9 +229,73 @@ module _ (Q : Status → Type 0) (shut : Q status.Dropped) (q : Pair) (regions e
   classed-row class.Ahead = ahead-row
   classed-row class.Duplicate = duplicate-row
 
-  packet-row : R (packetDecision q regions entries saved p)
-  unfolding packetDecision
-  packet-row = classed-row (psnClass (p .psn .0) (q .expected .0))
+  rc-row : R (rcDecision q regions entries saved p)
+  unfolding rcDecision
+  rc-row = classed-row (psnClass (p .psn .0) (q .expected .0))
+
+-- on the unreliable connection: quiet, abandoned, or placed
+pub data UcRow (Q : Status → Type 0) (q : Pair) (p : Packet) : Decision → Type 0 where
+  unheard : (a : Status) → Q a → UcRow Q q p (quietly a)
+  abandon : (q .message .kind ≡ 255 → ⊥) → UcRow Q q p (quietly status.Abandoned)
+  deliver : (m : OpenMessage) (entry region : List ℕ) → placeOf (p .kind) m entry region + netOf p ≤ q .setup .memory
+      → UcRow Q q p (unanswered (1 + distance (p .psn .0) (q .expected .0)) (placing p m entry region))
+
+module _ (Q : Status → Type 0) (shut : Q status.Dropped) (q : Pair) (regions entries : List (List ℕ)) (p : Packet)
+    (off : Off Q (viewed (p .place) q) entries p) where
+  abbrev U : Decision → Type 0
+  U = UcRow Q q p
+
+  uc-settled : (entry region : List ℕ) (code : ℕ) → (code ≡ 0 → Passed (q .setup) (closedBy (p .place) (q .message)) p entry region)
+      → (code ≡ 34 → Q status.OutOfRange)
+      → U (ucSettled code p (q .expected) (q .message) entry region)
+  unfolding ucSettled delivering abandoning
+  uc-settled entry region code P o =
+      branch U (eqb code 0)
+      (λ z. branch U (carrying (p .kind))
+      (λ c. deliver (current (q .message) p) entry region
+      (subst (λ m. placeOf (p .kind) m entry region + netOf p ≤ q .setup .memory) (current-closed (q .message) p)
+      (place-inside (q .setup) (closedBy (p .place) (q .message)) p entry region (P (eqb-true code 0 z)) c)))
+      (λ c. unheard status.Dropped shut))
+      (λ z. branch U (eqb code 34) (λ e. unheard status.OutOfRange (o (eqb-true code 34 e)))
+      (λ e. branch U (eqb (q .message .kind) 255) (λ f. unheard status.Dropped shut) (λ f. abandon (eqb-false (q .message .kind) 255 f))))
+
+  uc-row : U (ucDecision p (q .setup) (q .expected) (q .message) (q .entries .count) (headEntry q entries) (regionBy q regions p))
+  unfolding ucDecision
+  uc-row =
+      let entry = headEntry q entries in
+      let region = regionBy q regions p in
+      let under = closedBy (p .place) (q .message) in
+      let code = requestCode (q .setup) under p (q .entries .count) entry region in
+      branch U (orphaned (p .place) (q .message .kind)) (λ h. unheard status.Dropped shut)
+      (λ h. branch U (strays p (q .expected) (q .message .kind)) (λ t. abandon (stray-open p (q .expected) (q .message .kind) h t))
+      (λ t.
+      let e = same-code (q .setup) (q .message) p (q .expected) (q .entries .count) entry region t in
+      uc-settled entry region code (λ z. passes (q .setup) under p (q .entries .count) entry region (e ∙ z)) (λ z. off region (e ∙ z))))
+
+-- by the service
+pub data AnyRow (Q : Status → Type 0) (q : Pair) (regions saved : List (List ℕ)) (p : Packet) (d : Decision) : Type 0 where
+  reliable : eqb (q .setup .service) 1 ≡ false → Row Q q regions saved p d → AnyRow Q q regions saved p d
+  unreliable : eqb (q .setup .service) 1 ≡ true → UcRow Q q p d → AnyRow Q q regions saved p d
+
+-- when 34 comes after the packet was looked at, by either service
+pub record AnyOff (Q : Status → Type 0) (q : Pair) (entries : List (List ℕ)) (p : Packet) : Type 0 where
+  pub rc : Off Q q entries p
+  pub uc : Off Q (viewed (p .place) q) entries p
+
+quiet-row : (Q : Status → Type 0) (q : Pair) (regions saved : List (List ℕ)) (p : Packet) (a : Status) → Q a → AnyRow Q q regions saved p (quietly a)
+quiet-row Q q regions saved p a h = go (eqb (q .setup .service) 1) refl
+  where
+    go : (b : Bool) → eqb (q .setup .service) 1 ≡ b → AnyRow Q q regions saved p (quietly a)
+    go true e = unreliable e (unheard a h)
+    go false e = reliable e (quiet a h)
+
+packet-row : (Q : Status → Type 0) → Q status.Dropped → (q : Pair) (regions entries saved : List (List ℕ)) → Sound q → (p : Packet)
+    → AnyOff Q q entries p → Formed p
+    → AnyRow Q q regions saved p (packetDecision q regions entries saved p)
+unfolding packetDecision
+packet-row Q shut q regions entries saved S p off F =
+    branch (AnyRow Q q regions saved p) (eqb (q .setup .service) 1) (λ e. unreliable e (uc-row Q shut q regions entries p (off .uc)))
+    (λ e. reliable e (rc-row Q shut q regions entries saved S p (off .rc) F))
 
 -- the tests before the packet is looked at
 pub passed : (q : Pair) (memory room : ℕ) → executed (inboundRefusal q memory room) ≡ true → (24 ≤ room) × Sound q
@@ -288,18 +353,18 @@ formed p = record { one = first; eight = eights }
     eights (inr e) = subst (λ c. operandsOf (extensionOf (c .follows) p) .length ≡ 8) (sym (class-is o 20 adds e)) (atomic-eight p .1)
 
 admitted-row : (Q : Status → Type 0) → Q status.Dropped → (q : Pair) (regions entries saved : List (List ℕ)) → Sound q → (p : List ℕ)
-    → Off Q q entries (numbersOf p) → (r : HeaderRead)
+    → AnyOff Q q entries (numbersOf p) → (r : HeaderRead)
     → admitted (q .setup .service) (q .setup .ours) (q .setup .pkey) (eqb (q .state) 1) p ≡ r
-    → Row Q q regions saved (numbersOf p) (orDrop r (λ h. packetDecision q regions entries saved (packetOf h (length p))))
+    → AnyRow Q q regions saved (numbersOf p) (orDrop r (λ h. packetDecision q regions entries saved (packetOf h (length p))))
 unfolding admitted
 admitted-row Q shut q regions entries saved S p off (read.Accepted h) e =
     let reason = headerReason (q .setup .service) (q .setup .ours) (q .setup .pkey) (eqb (q .state) 1) p in
-    subst (λ x. Row Q q regions saved (numbersOf p) (packetDecision q regions entries saved (packetOf x (length p)))) (accepted-by reason p h e .1)
+    subst (λ x. AnyRow Q q regions saved (numbersOf p) (packetDecision q regions entries saved (packetOf x (length p)))) (accepted-by reason p h e .1)
     (packet-row Q shut q regions entries saved S (numbersOf p) off (formed p))
-admitted-row Q shut q regions entries saved S p off (read.Dropped reason) e = quiet status.Dropped shut
+admitted-row Q shut q regions entries saved S p off (read.Dropped reason) e = quiet-row Q q regions saved (numbersOf p) status.Dropped shut
 
 pub decided-row : (q : Pair) (regions entries saved : List (List ℕ)) (memory : ℕ) (p : List ℕ) (room : ℕ)
-    → Row Quiet q regions saved (numbersOf p) (decided q regions entries saved memory p room)
+    → AnyRow Quiet q regions saved (numbersOf p) (decided q regions entries saved memory p room)
 unfolding decided
 decided-row q regions entries saved memory p room = go (executed (inboundRefusal q memory room)) refl
   where
@@ -310,14 +375,14 @@ decided-row q regions entries saved memory p room = go (executed (inboundRefusal
     A = admitted (q .setup .service) (q .setup .ours) (q .setup .pkey) (eqb (q .state) 1) p
 
     go : (b : Bool) → executed (inboundRefusal q memory room) ≡ b
-        → Row Quiet q regions saved (numbersOf p) (cond b (D A) (quietly (inboundRefusal q memory room)))
-    go true e = admitted-row Quiet dropped q regions entries saved (passed q memory room e .1) p (λ region z. range) A refl
-    go false e = quiet (inboundRefusal q memory room) (refusal-quiet q memory room e)
+        → AnyRow Quiet q regions saved (numbersOf p) (cond b (D A) (quietly (inboundRefusal q memory room)))
+    go true e = admitted-row Quiet dropped q regions entries saved (passed q memory room e .1) p (record { rc = λ region z. range; uc = λ region z. range }) A refl
+    go false e = quiet-row Quiet q regions saved (numbersOf p) (inboundRefusal q memory room) (refusal-quiet q memory room e)
 
 -- not refused at once
 pub taken-row : (Q : Status → Type 0) → Q status.Dropped → (q : Pair) (regions entries saved : List (List ℕ)) (memory : ℕ) (p : List ℕ) (room : ℕ)
-    → Off Q q entries (numbersOf p) → executed (inboundRefusal q memory room) ≡ true
-    → Row Q q regions saved (numbersOf p) (decided q regions entries saved memory p room)
+    → AnyOff Q q entries (numbersOf p) → executed (inboundRefusal q memory room) ≡ true
+    → AnyRow Q q regions saved (numbersOf p) (decided q regions entries saved memory p room)
 unfolding decided
 taken-row Q shut q regions entries saved memory p room off e =
     rw e

@@ -32,7 +32,7 @@ use Rattle.request.proofs.Order.{current-one, order}
 use Rattle.request.proofs.Taken.{any-place}
 use Rattle.request.specs.declared.Packet.{Packet}
 use Rattle.protocol.specs.declared.Decision.{Decision}
-use Rattle.protocol.specs.Decide.{completes, completionOf, grown, placeOf, placing, swapping, regionFor, headEntry, decided}
+use Rattle.protocol.specs.Decide.{completes, completionOf, grown, placeOf, placing, swapping, regionFor, headEntry, unanswered, decided}
 use Rattle.protocol.specs.Apply.{savedBy, memoryBy, executedPair, after, pairBy}
 use Rattle.protocol.specs.Inbound.{outcomeBy, decision, inbound, inboundMemory, inboundSaved, inboundOut}
 use Rattle.protocol.specs.Effects.{Silent}
@@ -42,8 +42,9 @@ use Rattle.protocol.proofs.Codes.{class-is}
 use Rattle.protocol.proofs.Refusals.{inbound-meant}
 use Rattle.protocol.proofs.Effects.{silent, leftBy}
 use Rattle.protocol.proofs.Answers.{head-first, code-by, high}
-use Rattle.protocol.proofs.Ways.Way.{away, places, exchanges}
+use Rattle.protocol.proofs.Ways.Way.{away, places, exchanges, delivers}
 use Rattle.protocol.proofs.Ways.{acts, regionBy, codeBy, decided-way, only-by, only-placed, payload-size, payload-is, ends-true, ends-false, few, which, which-atomic, region-is, or-true, and-false, Way}
+use Rattle.protocol.proofs.Views.{viewed, viewed-sound, current-closed}
 
 -- Placing
 module _ (q : Pair) (regions entries saved : List (List ℕ)) (m p : List ℕ) (S : Sound q) (n : length m ≡ q .setup .memory)
@@ -287,6 +288,41 @@ module _ (q : Pair) (regions entries saved : List (List ℕ)) (m p : List ℕ) (
             (omega (arith, G .from, G .to));
       }
 
+-- On the unreliable connection the packet finds the message that it leaves open, and is not answered
+module _ (q : Pair) (regions entries saved : List (List ℕ)) (m p out : List ℕ) (n : ℕ) where
+  abbrev v : Pair
+  v = viewed (packetIn p .place) q
+
+  abbrev placedAt : OpenMessage → Decision
+  placedAt t = placing (packetIn p) t (headEntry q entries) (regionFor (packetIn p .kind) (t .key) regions)
+
+  same-message : (t : OpenMessage) → pairBy q (unanswered n (placedAt t)) .message ≡ pairBy v (placedAt t) .message
+  unfolding pairBy after placing executedPair statusNumber
+  same-message t = sym (rw (few (packetIn p .ackreq)))
+
+  unseen : (t : OpenMessage) → Puts v regions entries m p (packetIn p) t (leftBy v saved m p out (placedAt t))
+      → Puts q regions entries m p (packetIn p) t (leftBy q saved m p out (unanswered n (placedAt t)))
+  unfolding leftBy outcomeBy memoryBy
+  unseen t P =
+      record {
+        kind = P .kind;
+        carried = P .carried;
+        sends = P .sends;
+        writes = P .writes;
+        nothing = P .nothing;
+        sent = P .sent;
+        written = P .written;
+        untold = P .untold;
+        onward = P .onward;
+        opens = λ h. same-message t ∙ P .opens h;
+      }
+
+  delivered : Sound q → length m ≡ q .setup .memory → codeBy v regions entries (packetIn p) ≡ 0 → carrying (packetIn p .kind) ≡ true
+      → Puts q regions entries m p (packetIn p) (current (q .message) (packetIn p)) (leftBy q saved m p out (unanswered n (placedAt (current (q .message) (packetIn p)))))
+  delivered S w z c =
+      subst (λ t. Puts q regions entries m p (packetIn p) t (leftBy q saved m p out (unanswered n (placedAt t)))) (current-closed (q .message) (packetIn p))
+      (unseen (current (v .message) (packetIn p)) (puts-by v regions entries saved m p (viewed-sound (packetIn p .place) q S) w z out c))
+
 -- the two claims: any other decision has another answer
 module _ (q : Pair) (regions entries saved : List (List ℕ)) (m p out : List ℕ) (w : length m ≡ q .setup .memory) where
   puts-way : (d : Decision) → Way q regions entries (packetIn p) d → (statusNumber (d .status) ≡ 0) ⊎ (statusNumber (d .status) ≡ 1)
@@ -299,6 +335,7 @@ module _ (q : Pair) (regions entries saved : List (List ℕ)) (m p out : List �
   puts-way d (places S z c) h = puts-by q regions entries saved m p S w z out c
   puts-way d (exchanges S z c r) (inl y) = absurd (omega arith)
   puts-way d (exchanges S z c r) (inr y) = absurd (omega arith)
+  puts-way d (delivers S n z c) h = delivered q regions entries saved m p out n S w z c
 
   low-number : (b : Bool) → statusNumber (cond b status.Acknowledged status.Executed) ≡ 3 → ⊥
   unfolding statusNumber
@@ -311,6 +348,7 @@ module _ (q : Pair) (regions entries saved : List (List ℕ)) (m p out : List �
   swaps-way d (away e (inl x)) y = absurd (omega arith)
   swaps-way d (away e (inr x)) y = absurd (omega arith)
   swaps-way d (places S z c) y = absurd (low-number (packetIn p .ackreq) y)
+  swaps-way d (delivers S n z c) y = absurd (low-number false y)
   swaps-way d (exchanges S z c r) y = swaps-by q regions entries saved m p S w z c r
 
 small : (n : ℕ) → (n ≡ 0) ⊎ (n ≡ 1) → n < 32

@@ -28,20 +28,22 @@ use Rattle.table.specs.declared.Saved.the-variants.{Value, Nothing}
 use Rattle.pair.specs.Answer.{statusNumber, executed}
 use Rattle.pair.specs.Claims.{Sound}
 use Rattle.pair.specs.declared.Setup.{Setup}
+use Rattle.pair.specs.declared.OpenMessage.{OpenMessage}
 use Rattle.pair.specs.declared.Pair.{Pair}
 use Rattle.pair.specs.declared.Status.{Status}
 use Rattle.pair.specs.declared.Status.the-variants as status
 use Rattle.request.specs.Packet.{packetOf}
-use Rattle.request.specs.Verdict.{carrying, netOf, current, expectedCode}
+use Rattle.request.specs.Verdict.{carrying, netOf, current, requestCode, expectedCode}
 use Rattle.request.specs.Claims.{Served, Enabled, HasMore, Ends, Carries, IsAtomic}
 use Rattle.request.proofs.Order.{served}
 use Rattle.request.specs.declared.Packet.{Packet}
 use Rattle.protocol.specs.declared.Decision.{Decision}
-use Rattle.protocol.specs.Decide.{quietly, acknowledging, aheadDecision, failed, againFails, placing, swapping, accepting, executing, settled, expectedDecision, readAgain, atomicAgain, isAtomic, duplicateDecision, regionFor, headEntry, classed, packetDecision, orDrop, inboundRefusal, decided}
+use Rattle.protocol.specs.Decide.{quietly, acknowledging, aheadDecision, failed, againFails, placing, swapping, accepting, executing, settled, expectedDecision, readAgain, atomicAgain, isAtomic, duplicateDecision, regionFor, headEntry, classed, rcDecision, orphaned, strays, closedBy, abandoning, unanswered, delivering, ucSettled, ucDecision, packetDecision, orDrop, inboundRefusal, decided}
 use Rattle.protocol.specs.Apply.{actsAtomic, after}
 use Rattle.protocol.specs.Answers.{OnlyBytes, packetIn}
 use Rattle.protocol.proofs.Rows.Quiet.{dropped, short, range, unfinished}
 use Rattle.protocol.proofs.Rows.{Quiet, refusal-quiet, passed}
+use Rattle.protocol.proofs.Views.{viewed, current-closed, same-code}
 
 -- either act of an atomic is one
 pub acts : (b : Bool) → actsAtomic (cond b 2 3) ≡ true
@@ -66,6 +68,9 @@ pub data Way (q : Pair) (regions entries : List (List ℕ)) (k : Packet) : Decis
       → Way q regions entries k (placing k (current (q .message) k) (headEntry q entries) (regionBy q regions k))
   exchanges : Sound q → codeBy q regions entries k ≡ 0 → carrying (k .kind) ≡ false → eqb (k .kind) 12 ≡ false
       → Way q regions entries k (swapping k (current (q .message) k) (q .message) (regionBy q regions k))
+
+  delivers : Sound q → (n : ℕ) → codeBy (viewed (k .place) q) regions entries k ≡ 0 → carrying (k .kind) ≡ true
+      → Way q regions entries k (unanswered n (placing k (current (q .message) k) (headEntry q entries) (regionBy q regions k)))
 
 pub branch : {A : Type 0} (P : A → Type 0) (b : Bool) {x y : A} → (b ≡ true → P x) → (b ≡ false → P y) → P (cond b x y)
 branch P true h k = h refl
@@ -108,9 +113,37 @@ module _ (q : Pair) (regions entries saved : List (List ℕ)) (S : Sound q) (k :
   classed-way class.Ahead = ahead-way
   classed-way class.Duplicate = duplicate-way
 
+  pub rc-way : W (rcDecision q regions entries saved k)
+  unfolding rcDecision
+  rc-way = classed-way (psnClass (k .psn .0) (q .expected .0))
+
+  abbrev under : OpenMessage
+  under = closedBy (k .place) (q .message)
+
+  -- the code of the message that the packet leaves open is that of the same message's region
+  code-viewed : (m : OpenMessage) → current under k ≡ m → strays k (q .expected) (q .message .kind) ≡ false
+      → requestCode (q .setup) under k (q .entries .count) (headEntry q entries) (regionFor (k .kind) (m .key) regions) ≡ 0
+      → codeBy (viewed (k .place) q) regions entries k ≡ 0
+  code-viewed m e t z =
+      ap (λ x. expectedCode (q .setup) under k (q .entries .count) (headEntry q entries) (regionFor (k .kind) (x .key) regions)) e
+      ∙ (same-code (q .setup) (q .message) k (q .expected) (q .entries .count) (headEntry q entries) (regionFor (k .kind) (m .key) regions) t ∙ z)
+
+  pub uc-way : W (ucDecision k (q .setup) (q .expected) (q .message) (q .entries .count) (headEntry q entries) (regionBy q regions k))
+  unfolding ucDecision ucSettled delivering abandoning statusNumber quietly
+  uc-way =
+      let code = requestCode (q .setup) under k (q .entries .count) (headEntry q entries) (regionBy q regions k) in
+      branch W (orphaned (k .place) (q .message .kind)) (λ o. away _ (inr (omega arith)))
+      (λ o. branch W (strays k (q .expected) (q .message .kind)) (λ t. away _ (inr (omega arith)))
+      (λ t. branch W (eqb code 0)
+      (λ z. branch W (carrying (k .kind))
+      (λ c. delivers S _ (code-viewed (current (q .message) k) (current-closed (q .message) k) t (eqb-true code 0 z)) c)
+      (λ c. away _ (inr (omega arith))))
+      (λ z. branch W (eqb code 34) (λ e. away _ (inr (omega arith)))
+      (λ e. branch W (eqb (q .message .kind) 255) (λ f. away _ (inr (omega arith))) (λ f. away _ (inr (omega arith)))))))
+
   pub packet-way : W (packetDecision q regions entries saved k)
   unfolding packetDecision
-  packet-way = classed-way (psnClass (k .psn .0) (q .expected .0))
+  packet-way = branch W (eqb (q .setup .service) 1) (λ e. uc-way) (λ e. rc-way)
 
 pub quiet-number : (a : Status) → Quiet a → 4 ≤ statusNumber a
 unfolding statusNumber

@@ -88,7 +88,7 @@ pub record Repeats (q : Pair) (regions saved : List (List ℕ)) (k : Packet) (t 
   pub lost : IsAtomic (k .kind) → newestSaved (k .psn .0) saved (q .saved) ≡ Nothing → number ≡ 5
   pub other : (Served (k .kind) → ⊥) → number ≡ 5
 
--- By the class of the PSN, of a packet k whose header passes, which is of the message t.
+-- On RC, service 0: by the class of the PSN, of a packet k whose header passes, which is of the message t.
 pub record Classed (q : Pair) (regions entries saved : List (List ℕ)) (k : Packet) (t : OpenMessage) (number : ℕ) : Type 0 where
   pub expected : psnClass (k .psn .0) (q .expected .0) ≡ class.Expected → Expects q regions entries k t number
   pub ahead : psnClass (k .psn .0) (q .expected .0) ≡ class.Ahead → Aheads (q .mark) number
@@ -96,7 +96,7 @@ pub record Classed (q : Pair) (regions entries saved : List (List ℕ)) (k : Pac
 
 abbrev pub HeaderPassed : Type 0
 HeaderPassed =
-    (q : Pair) (regions entries saved : List (List ℕ)) (m p out : List ℕ) → Willing q m out
+    (q : Pair) (regions entries saved : List (List ℕ)) (m p out : List ℕ) → Willing q m out → q .setup .service ≡ 0
     → (h : Header) → headerBy q p ≡ read.Accepted h
     → (t : OpenMessage) → IsCurrent (q .message) (packetOf h (length p)) t
     → Classed q regions entries saved (packetOf h (length p)) t (statusNumber (inbound q regions entries saved m p out .status))
@@ -110,7 +110,7 @@ pub record SentAgain (q : Pair) (saved : List (List ℕ)) (k : Packet) (sent : �
 
 abbrev pub RepeatedSent : Type 0
 RepeatedSent =
-    (q : Pair) (regions entries saved : List (List ℕ)) (m p out : List ℕ) → Willing q m out
+    (q : Pair) (regions entries saved : List (List ℕ)) (m p out : List ℕ) → Willing q m out → q .setup .service ≡ 0
     → (h : Header) → headerBy q p ≡ read.Accepted h
     → psnClass (packetOf h (length p) .psn .0) (q .expected .0) ≡ class.Duplicate
     → SentAgain q saved (packetOf h (length p)) (inbound q regions entries saved m p out .sent)
@@ -150,7 +150,7 @@ pub data Reason (q : Pair) (regions entries saved : List (List ℕ)) (p : List �
 -- And back: each answer of a call that is not refused has its reason.
 abbrev pub InboundReason : Type 0
 InboundReason =
-    (q : Pair) (regions entries saved : List (List ℕ)) (m p out : List ℕ) → Willing q m out
+    (q : Pair) (regions entries saved : List (List ℕ)) (m p out : List ℕ) → Willing q m out → q .setup .service ≡ 0
     → (t : OpenMessage) → IsCurrent (q .message) (packetIn p) t
     → Reason q regions entries saved p t (statusNumber (inbound q regions entries saved m p out .status))
 
@@ -183,7 +183,7 @@ pub record Completes (k : Packet) (number n : ℕ) (c : Completion) : Type 0 whe
   pub immediate : c .immediate ≡ k .operands .immediate
   pub value : c .value ≡ k .operands .value
 
--- Answers 0 and 1: where the payload went, what completes, and the message that is open behind First and Middle.
+-- Answers 0 and 1, on both services: where the payload went, what completes, and the message that is open behind First and Middle.
 pub record Puts (q : Pair) (regions entries : List (List ℕ)) (bytes p : List ℕ) (k : Packet) (t : OpenMessage) (l : Left) : Type 0 where
   pub kind : Carries (k .kind)
   pub carried : length (payloadOf p) ≡ k .raw - k .pad

@@ -12,6 +12,7 @@ use Rattle.table.specs.Table.{slotAt}
 use Rattle.table.specs.View.{savedRing, savedRows}
 use Rattle.table.specs.declared.Ring.{Ring}
 use Rattle.pair.specs.Answer.{statusNumber}
+use Rattle.pair.specs.Pair.{noMessage}
 use Rattle.pair.specs.declared.ReadAnswer.{ReadAnswer}
 use Rattle.pair.specs.declared.Pair.{Pair}
 use Rattle.protocol.specs.declared.Decision.{Decision}
@@ -80,14 +81,30 @@ with q state mark reads =
       saved = q .saved;
     }
 
--- What each answer leaves: 0 to 3 as executed; 4 may begin a READ's answer; 16 and 19 set the mark; 17 and 18 are the
--- Error state; all others nothing
+-- the same pair with no message open. An entry that was held is first in the ring still, and waits again
+abbrev pub closing : Pair → Pair
+closing q =
+    record {
+      setup = q .setup;
+      state = q .state;
+      expected = q .expected;
+      msn = q .msn;
+      mark = q .mark;
+      message = noMessage;
+      entries = q .entries;
+      read = q .read;
+      saved = q .saved;
+    }
+
+-- What each answer leaves: 0 to 3 as executed; 4 may begin a READ's answer; 6 closes the message; 16 and 19 set the mark;
+-- 17 and 18 are the Error state; all others nothing
 unfoldable pub after : Pair → Decision → ℕ → Pair
 after q d number =
     cond (leb number 3) (executedPair q d)
     (cond (eqb number 4) (with q (q .state) (q .mark) (readBy d (q .read) (q .msn)))
     (cond (eqb number 16 || eqb number 19) (with q (q .state) true (q .read))
-    (cond (eqb number 17 || eqb number 18) (with q 2 (q .mark) (q .read)) q)))
+    (cond (eqb number 17 || eqb number 18) (with q 2 (q .mark) (q .read))
+    (cond (eqb number 6) (closing q) q))))
 
 unfoldable pub pairBy : Pair → Decision → Pair
 pairBy q d = after q d (statusNumber (d .status))

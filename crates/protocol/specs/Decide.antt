@@ -1,4 +1,4 @@
--- What a packet leads to on a reliable connection: one decision.
+-- What a packet leads to: one decision, by the rules of the reliable connection and by those of the unreliable one.
 use Prim.Native.Nat.{ℕ, _+_}
 use mathlib.Core.Bool.{Bool, true, false, cond, not, _&&_, _||_}
 use mathlib.Core.List.{List, []}
@@ -12,7 +12,7 @@ use Rattle.header.specs.Check.{admitted}
 use Rattle.header.specs.declared.Header.{Header}
 use Rattle.header.specs.declared.HeaderRead.{HeaderRead}
 use Rattle.header.specs.declared.HeaderRead.the-variants as read
-use Rattle.pieces.specs.Pieces.{pieces, ends}
+use Rattle.pieces.specs.Pieces.{pieces, starts, ends}
 use Rattle.table.specs.Table.{slotAt, noRegion}
 use Rattle.table.specs.View.{regionOf, newestSaved}
 use Rattle.table.specs.declared.Saved.{Saved}
@@ -26,7 +26,7 @@ use Rattle.pair.specs.declared.Pair.{Pair}
 use Rattle.pair.specs.declared.Status.{Status}
 use Rattle.pair.specs.declared.Status.the-variants as status
 use Rattle.request.specs.Packet.{packetOf}
-use Rattle.request.specs.Verdict.{carrying, notEnabled, overLimit, keyFails, keySpan, spot, netOf, current, expectedCode}
+use Rattle.request.specs.Verdict.{carrying, notEnabled, overLimit, keyFails, keySpan, spot, netOf, current, requestCode, expectedCode}
 use Rattle.request.specs.declared.Packet.{Packet}
 use Rattle.protocol.specs.declared.Completion.{Completion}
 use Rattle.protocol.specs.declared.Decision.{Decision}
@@ -247,11 +247,79 @@ classed class.Ahead q p entry region saved = aheadDecision (q .mark) (q .expecte
 classed class.Duplicate q p entry region saved =
     duplicateDecision p (q .setup) (q .expected) (current (q .message) p) region saved
 
-unfoldable pub packetDecision : Pair → List (List ℕ) → List (List ℕ) → List (List ℕ) → Packet → Decision
-packetDecision q regions entries saved p =
+unfoldable pub rcDecision : Pair → List (List ℕ) → List (List ℕ) → List (List ℕ) → Packet → Decision
+rcDecision q regions entries saved p =
     classed (psnClass (p .psn .0) (q .expected .0)) q p (headEntry q entries)
     (regionFor (p .kind) (current (q .message) p .key) regions)
     (newestSaved (p .psn .0) saved (q .saved))
+
+-- ON AN UNRELIABLE CONNECTION. A Middle or Last that comes while no message is open
+unfoldable pub orphaned : ℕ → ℕ → Bool
+orphaned place under = not (starts place) && eqb under 255
+
+-- A Middle or Last that does not go on with the open message: its PSN is not the expected one, or its kind is another
+unfoldable pub strays : Packet → Psn → ℕ → Bool
+strays p expected under =
+    not (starts (p .place)) && (not (eqb (distance (p .psn .0) (expected .0)) 0) || not (eqb under (p .kind)))
+
+-- A First or Only closes an open message; its entry, first in the ring, waits again
+unfoldable pub closedBy : ℕ → OpenMessage → OpenMessage
+closedBy place under = cond (starts place) noMessage under
+
+-- Any failure closes and is quiet: 6 if a message was open, else 5. 34 for an entry that no call made
+unfoldable pub abandoning : ℕ → ℕ → Decision
+abandoning code under =
+    cond (eqb code 34) (quietly status.OutOfRange)
+    (cond (eqb under 255) (quietly status.Dropped) (quietly status.Abandoned))
+
+-- the decision with no answer sent, whatever AckReq says, and with so many PSNs taken
+abbrev pub unanswered : ℕ → Decision → Decision
+unanswered numbers d =
+    record {
+      status = status.Executed;
+      act = d .act;
+      at = d .at;
+      start = d .start;
+      end = d .end;
+      swap = d .swap;
+      compare = d .compare;
+      message = d .message;
+      numbers = numbers;
+      ends = d .ends;
+      completion = d .completion;
+      responses = d .responses;
+      length = d .length;
+      sent = 0;
+      psn = d .psn;
+      syndrome = d .syndrome;
+      value = d .value;
+    }
+
+-- Executed: the packet's PSN is taken whatever was expected, with all that it passes over, so that its PSN plus 1 is
+-- expected next. Only SEND and WRITE pass the header checks of such a pair
+unfoldable pub delivering : Packet → Psn → OpenMessage → List ℕ → List ℕ → Decision
+delivering p expected m entry region =
+    cond (carrying (p .kind))
+    (unanswered (1 + distance (p .psn .0) (expected .0)) (placing p m entry region)) (quietly status.Dropped)
+
+unfoldable pub ucSettled : ℕ → Packet → Psn → OpenMessage → List ℕ → List ℕ → Decision
+ucSettled code p expected under entry region =
+    cond (eqb code 0) (delivering p expected (current under p) entry region) (abandoning code (under .kind))
+
+-- None open 5, wrong PSN or kind 6, then the request checks
+unfoldable pub ucDecision : Packet → Setup → Psn → OpenMessage → ℕ → List ℕ → List ℕ → Decision
+ucDecision p s expected under count entry region =
+    cond (orphaned (p .place) (under .kind)) (quietly status.Dropped)
+    (cond (strays p expected (under .kind)) (quietly status.Abandoned)
+    (ucSettled (requestCode s (closedBy (p .place) under) p count entry region) p expected under entry region))
+
+-- By the service of the pair: 1 is UC
+unfoldable pub packetDecision : Pair → List (List ℕ) → List (List ℕ) → List (List ℕ) → Packet → Decision
+packetDecision q regions entries saved p =
+    cond (eqb (q .setup .service) 1)
+    (ucDecision p (q .setup) (q .expected) (q .message) (q .entries .count) (headEntry q entries)
+    (regionFor (p .kind) (current (q .message) p .key) regions))
+    (rcDecision q regions entries saved p)
 
 -- A packet whose header does not pass the header checks is dropped at once
 abbrev pub orDrop : HeaderRead → (Header → Decision) → Decision

@@ -127,17 +127,36 @@ pub record Repeated (q : Pair) (regions rows : List (List ℕ)) (bytes p output 
   pub still : Still rows bytes l
   pub answer : AnsweredOr q regions p output l
 
+-- 6: a message was open and is closed, and that is all. The ring of entries is as before: an entry that was held is its
+-- first still, and so waits again. Bytes placed before stay.
+pub record Abandons (q : Pair) (rows : List (List ℕ)) (bytes output : List ℕ) (l : Left) : Type 0 where
+  pub under : q .message .kind ≡ 255 → ⊥
+  pub message : l .pair .message ≡ (record { kind = 255; placed = 0; address = 0; key = 0; length = 0 })
+  pub setup : l .pair .setup ≡ q .setup
+  pub state : l .pair .state ≡ q .state
+  pub expected : l .pair .expected ≡ q .expected
+  pub msn : l .pair .msn ≡ q .msn
+  pub mark : l .pair .mark ≡ q .mark
+  pub entries : l .pair .entries ≡ q .entries
+  pub read : l .pair .read ≡ q .read
+  pub ring : l .pair .saved ≡ q .saved
+  pub still : Still rows bytes l
+  pub sent : l .sent ≡ 0
+  pub out : l .out ≡ output
+
 -- Executed: the mark is cleared, set-up and state stay.
 pub record Executes (old new : Pair) : Type 0 where
   pub mark : new .mark ≡ false
   pub setup : new .setup ≡ old .setup
   pub state : new .state ≡ old .state
 
--- The packet's payload was placed, where memory has room for it, and one PSN is taken; atomics and READs are as before.
+-- The packet's payload was placed, where memory has room for it; atomics and READs are as before. The expected PSN moves on
+-- by 1 on RC; on UC, service 1, it is the packet's plus 1, whatever it was.
 -- A Last or Only, place 2 or 4, raises the MSN and leaves no message open; what completes has used up the first entry.
 pub record Places (q : Pair) (rows : List (List ℕ)) (bytes p : List ℕ) (l : Left) : Type 0 where
   pub executed : Executes q (l .pair)
-  pub expected : l .pair .expected ≡ psnAfter (q .expected) 1
+  pub expected : (q .setup .service ≡ 1 → ⊥) → l .pair .expected ≡ psnAfter (q .expected) 1
+  pub taken : q .setup .service ≡ 1 → l .pair .expected ≡ psnAfter (bthOf p .psn) 1
   pub memory : (at : ℕ) × (at + length (payloadOf p) ≤ q .setup .memory) × (l .memory ≡ placed bytes at (payloadOf p))
   pub ends : 2 ≤ classOf (bthOf p .opcode) .place → (l .pair .msn ≡ msnNext (q .msn)) × (l .pair .message ≡ (record { kind = 255; placed = 0; address = 0; key = 0; length = 0 }))
   pub onward : classOf (bthOf p .opcode) .place < 2 → (l .pair .msn ≡ q .msn) × Silent (l .completion)
@@ -186,6 +205,7 @@ pub record Table (q : Pair) (regions rows : List (List ℕ)) (bytes p output : L
   pub quiet : (l .number ≡ 5) ⊎ (32 ≤ l .number) → Unchanged q rows bytes output l
   pub marks : (l .number ≡ 16) ⊎ (l .number ≡ 19) → MarkAlone q rows bytes l
   pub errs : (l .number ≡ 17) ⊎ (l .number ≡ 18) → ErrorAlone q rows bytes l
+  pub abandons : l .number ≡ 6 → Abandons q rows bytes output l
   pub repeats : l .number ≡ 4 → Repeated q regions rows bytes p output l
   pub swaps : l .number ≡ 3 → Swaps q rows bytes p l
   pub accepts : l .number ≡ 2 → Accepts q regions rows bytes p output l
@@ -197,15 +217,21 @@ InboundTable =
     (q : Pair) (regions entries saved : List (List ℕ)) (m p out : List ℕ)
     → Table q regions saved m p out (inboundLeft q regions entries saved m p out)
 
--- No other number comes; so never 6, which is UC's.
+-- No other number comes: never 6 on RC; on UC, service 1, no answer is sent, nothing waits to be sent, and there is neither
+-- NAK nor duplicate.
 abbrev pub OneOf : List ℕ → ℕ → Type 0
 OneOf [] n = ⊥
 OneOf (k ∷ ks) n = (n ≡ k) ⊎ OneOf ks n
 
 abbrev pub InboundNumbers : Type 0
 InboundNumbers =
-    (q : Pair) (regions entries saved : List (List ℕ)) (m p out : List ℕ)
+    (q : Pair) (regions entries saved : List (List ℕ)) (m p out : List ℕ) → (q .setup .service ≡ 1 → ⊥)
     → OneOf (0 ∷ 1 ∷ 2 ∷ 3 ∷ 4 ∷ 5 ∷ 16 ∷ 17 ∷ 18 ∷ 19 ∷ 32 ∷ 34 ∷ 35 ∷ []) (statusNumber (inbound q regions entries saved m p out .status))
+
+abbrev pub UcNumbers : Type 0
+UcNumbers =
+    (q : Pair) (regions entries saved : List (List ℕ)) (m p out : List ℕ) → q .setup .service ≡ 1
+    → OneOf (0 ∷ 5 ∷ 6 ∷ 32 ∷ 34 ∷ 35 ∷ []) (statusNumber (inbound q regions entries saved m p out .status))
 
 -- Memory and output keep their lengths.
 abbrev pub InboundLengths : Type 0
