@@ -127,6 +127,11 @@ fn after(pair: Pair, d: Decision, number: u8) -> Pair
         next.state = pair::ERROR;
         return next;
     }
+    if number == 6 {
+        let message = pair::no_message();
+        next.message = message;
+        return next;
+    }
     next
 }
 

@@ -4,7 +4,6 @@ use crate::execute::reading;
 use crate::execute::spot;
 use crate::region_for;
 use crate::still::acknowledging;
-use crate::still::no_message;
 use crate::still::quietly;
 use crate::still::still;
 use pair::OpenMessage;
@@ -71,7 +70,7 @@ fn read_again(p: Packet, s: Setup, m: OpenMessage, expected: Psn, region: [u64; 
     }
     let at = spot(region, m.address, m.length);
     let count = pieces::count(m.length, s.pmtu);
-    let message = no_message();
+    let message = pair::no_message();
     let status = Status::DuplicateAnswered;
     reading(status, message, at, m.length, 0, false, count, p.psn)
 }

@@ -1,6 +1,5 @@
 // Decisions that execute a packet which passed every check.
 use crate::still::no_completion;
-use crate::still::no_message;
 use pair::OpenMessage;
 use pair::Status;
 use protocol::Completion;
@@ -65,7 +64,7 @@ fn grown(place: u8, m: OpenMessage, net: usize) -> OpenMessage
 {
     let last = pieces::ends(place);
     if last {
-        return no_message();
+        return pair::no_message();
     }
     let mut next = m;
     next.placed = m.placed + net;
@@ -136,7 +135,7 @@ fn ack_length(ackreq: bool) -> usize
 }
 
 // A SEND's or a WRITE's bytes are placed.
-fn placing(p: Packet, m: OpenMessage, entry: [u64; 3], region: [u64; 7]) -> Decision
+pub(crate) fn placing(p: Packet, m: OpenMessage, entry: [u64; 3], region: [u64; 7]) -> Decision
     requires { ⌜ p .start + netOf p < 2 ^ 64 ⌝ }
     requires { ⌜ m .placed + netOf p < 2 ^ 64 ⌝ }
     requires { ⌜ PlaceFits (p .kind) m entry region ⌝ }

@@ -1,8 +1,9 @@
-// What a request leads to on a reliable connection: a decision, which changes nothing yet. The definitions and their
+// What a request leads to: a decision, which changes nothing yet. The definitions and their
 // laws stand in the crate protocol.
 mod again;
 mod execute;
 mod still;
+mod unreliable;
 
 use header::Header;
 use pair::Pair;
@@ -84,6 +85,9 @@ pub fn decision(
         return still::quietly(status);
     }
     let p = judge::packet_of(h, n);
+    if pair.setup.service == opcode::UC {
+        return unreliable::take(pair, regions, entries, p);
+    }
     let psn = p.psn;
     let class = psn.class(pair.expected);
     match class {

@@ -1,25 +1,11 @@
 // Decisions that execute nothing.
-use pair::OpenMessage;
 use pair::Status;
 use protocol::Completion;
 use protocol::Decision;
 use sequence::Psn;
 ghost use mathlib.Core.Path.{_≡_};
 ghost use Prim.Native.Nat.{_≤_};
-ghost use Rattle.pair.specs.Pair.{noMessage};
 ghost use Rattle.protocol.specs.Decide.{noCompletion, still, quietly, acknowledging, aheadDecision, failed};
-
-pub(crate) fn no_message() -> OpenMessage
-    ensures { λ r. ⌜ r ≡ noMessage ⌝ }
-{
-    OpenMessage {
-        kind: pair::CLOSED,
-        placed: 0,
-        address: 0,
-        key: 0,
-        length: 0,
-    }
-}
 
 // Nothing completes.
 pub fn no_completion() -> Completion
@@ -38,7 +24,7 @@ pub fn no_completion() -> Completion
 pub(crate) fn still(status: Status, sent: usize, psn: Psn, syndrome: u8, value: u64) -> Decision
     ensures { λ r. ⌜ r ≡ still status sent psn syndrome value ⌝ }
 {
-    let message = no_message();
+    let message = pair::no_message();
     let completion = no_completion();
     Decision {
         status,

@@ -7,7 +7,7 @@ use sequence::Msn;
 use sequence::Psn;
 use table::Ring;
 ghost use mathlib.Core.Path.{_≡_};
-ghost use Rattle.pair.specs.Pair.{freshPair, blankPair};
+ghost use Rattle.pair.specs.Pair.{noMessage, freshPair, blankPair};
 
 // States of a pair.
 pub const INIT: u8 = 0;
@@ -109,19 +109,26 @@ pub(crate) fn wide(x: usize) -> u64
     x as u64
 }
 
+// No message is open.
+pub fn no_message() -> OpenMessage
+    ensures { λ r. ⌜ r ≡ noMessage ⌝ }
+{
+    OpenMessage {
+        kind: CLOSED,
+        placed: 0,
+        address: 0,
+        key: 0,
+        length: 0,
+    }
+}
+
 // A pair as set-up and reset leave it.
 fn fresh(setup: Setup) -> Pair
     ensures { λ r. ⌜ r ≡ freshPair setup ⌝ }
 {
     let expected = setup.start;
     let msn = Msn(0);
-    let message = OpenMessage {
-        kind: CLOSED,
-        placed: 0,
-        address: 0,
-        key: 0,
-        length: 0,
-    };
+    let message = no_message();
     let entries = Ring { head: 0, count: 0 };
     let first = Psn(0);
     let read = ReadAnswer {

@@ -135,12 +135,22 @@ pub record Passed (s : Setup) (under : OpenMessage) (p : Packet) (entry region :
   pub key : keyFails (s .memory) (p .kind) (current under p) region ≡ false
   pub lengths : lengthsOff p (s .pmtu) (current under p) (getD entry 2 0) ≡ false
 
+-- without the first check, and with it
+pub request-passes : (s : Setup) (under : OpenMessage) (p : Packet) (count : ℕ) (entry region : List ℕ) → requestCode s under p count entry region ≡ 0
+    → Passed s under p entry region
+unfolding requestCode
+request-passes s under p count entry region h =
+    let T = passed-all false (notEnabled s (p .kind)) (padEarly (p .place) (p .pad)) (overLimit (p .operands .length)) (noneWaiting (p .kind) (p .place) (p .operands .immediate) (under .kind) count) (entryOutside (p .kind) (p .operands .immediate) entry (s .memory)) (keyFails (s .memory) (p .kind) (current under p) region) (lengthsOff p (s .pmtu) (current under p) (getD entry 2 0)) h in
+    record { enabled = T .0; entries = T .1; key = T .2; lengths = T .3 }
+
 pub passes : (s : Setup) (under : OpenMessage) (p : Packet) (count : ℕ) (entry region : List ℕ) → expectedCode s under p count entry region ≡ 0
     → Passed s under p entry region
-unfolding expectedCode requestCode
-passes s under p count entry region h =
-    let T = passed-all (outOfSequence (under .kind) (p .kind) (p .place)) (notEnabled s (p .kind)) (padEarly (p .place) (p .pad)) (overLimit (p .operands .length)) (noneWaiting (p .kind) (p .place) (p .operands .immediate) (under .kind) count) (entryOutside (p .kind) (p .operands .immediate) entry (s .memory)) (keyFails (s .memory) (p .kind) (current under p) region) (lengthsOff p (s .pmtu) (current under p) (getD entry 2 0)) h in
-    record { enabled = T .0; entries = T .1; key = T .2; lengths = T .3 }
+unfolding expectedCode
+passes s under p count entry region h = go (outOfSequence (under .kind) (p .kind) (p .place)) h
+  where
+    go : (b : Bool) → cond b 17 (requestCode s under p count entry region) ≡ 0 → Passed s under p entry region
+    go true e = absurd (omega arith)
+    go false e = request-passes s under p count entry region e
 
 -- an opcode's number is that of its kind, or the kind is one of four that several have
 many : ℕ → Type 0

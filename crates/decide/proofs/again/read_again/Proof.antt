@@ -9,7 +9,7 @@ use Rattle.decide.proofs.again.read_again.Tie as tie
 use Rattle.decide.proofs.again.again_fails.Reads as again-fails-reads
 use Rattle.decide.proofs.execute.reading.Reads as reading-reads
 use Rattle.decide.proofs.execute.spot.Reads as spot-reads
-use Rattle.decide.proofs.still.no_message.Reads as no-message-reads
+use Rattle.pair.proofs.no_message.Reads as no-message-reads
 use Rattle.decide.proofs.still.quietly.Reads as quietly-reads
 use Rattle.pieces.proofs.count.Reads as count-reads
 

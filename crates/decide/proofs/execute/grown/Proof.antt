@@ -2,7 +2,7 @@ use Rattle.protocol.specs.Decide.{grown}
 use borrow.Author.Needs.{needs}
 use Rattle.decide.proofs.execute.grown.Statement.{statement}
 use Rattle.decide.proofs.execute.grown.Tie as tie
-use Rattle.decide.proofs.still.no_message.Reads as no-message-reads
+use Rattle.pair.proofs.no_message.Reads as no-message-reads
 use Rattle.pieces.proofs.ends.Reads as ends-reads
 
 ends-requires : tie.Need-ends-requires

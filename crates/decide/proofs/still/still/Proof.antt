@@ -2,7 +2,7 @@ use borrow.Author.Needs.{needs}
 use Rattle.decide.proofs.still.still.Statement.{statement}
 use Rattle.decide.proofs.still.still.Tie as tie
 use Rattle.decide.proofs.still.no_completion.Reads as no-completion-reads
-use Rattle.decide.proofs.still.no_message.Reads as no-message-reads
+use Rattle.pair.proofs.no_message.Reads as no-message-reads
 
 no-message-requires : tie.Need-no-message-requires
 no-message-requires c κs = search needs
