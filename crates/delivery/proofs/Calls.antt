@@ -96,13 +96,13 @@ module _ (ms : List Message) (S : List Slot) (p : Plain) (x : Run) (L : Link ms 
   let-in j i =
       let H = G .stands j i in
       let f = Y .pair .setup .0 in
-      rw (eq-eqb (x .whole .pair .state) 1 (L .ready), admits (x .whole .pair .setup) (x .whole .regions) f (slot S j) H (L .reliable))
+      rw (eq-eqb (x .whole .pair .state) 1 (L .ready), admits (x .whole .pair .setup) (x .whole .regions) f (slot S j) H)
       (ap (packetDecision (x .whole .pair) (x .whole .regions) (x .whole .entries) (x .whole .saved)) (is-packet (x .whole .pair .setup) (x .whole .regions) f (slot S j) H))
 
-  pub hand : (j : ℕ) (out : List ℕ) → Handed (x .whole .pair .setup) S p j out
+  pub hand : x .whole .pair .setup .service ≡ 0 → (j : ℕ) (out : List ℕ) → Handed (x .whole .pair .setup) S p j out
       → Link ms S (account (x .whole .pair .setup) (x .whole .regions) S p (Hand j out)) (step S x (Hand j out))
   unfolding decision decided executed statusNumber
-  hand j out D =
+  hand R j out D =
       subst (λ y. Link ms S (account (x .whole .pair .setup) (x .whole .regions) S p (Hand j out)) y) (sym (hand-is j out))
       (subst (λ r. Link ms S (account (x .whole .pair .setup) (x .whole .regions) S p (Hand j out)) (stepBy x (by r) (packetAt (slot S j)))) (sym (refusal-is out))
       (go (ltb (length out) 24) (eqb (length (p .memory)) (x .whole .pair .setup .memory)) (eqb (p .r) 0) refl refl refl))
@@ -122,7 +122,7 @@ module _ (ms : List Message) (S : List Slot) (p : Plain) (x : Run) (L : Link ms 
       go false true true e f g =
           let m = eqb-true (length (p .memory)) (x .whole .pair .setup .memory) f in
           rw (let-in j (D .inside))
-          (arrives ms S p x L Y G j (D .inside) m (D .near (ltb-false (length out) 24 e) m (eqb-true (p .r) 0 g)))
+          (arrives ms S p x L Y G j (D .inside) R m (D .near (ltb-false (length out) 24 e) m (eqb-true (p .r) 0 g)))
 
   -- next response
   next-is : (out : List ℕ)
@@ -201,7 +201,6 @@ module _ (ms : List Message) (S : List Slot) (p : Plain) (x : Run) (L : Link ms 
       let n : x .whole .pair .entries .count ≡ length (p .held) + length (p .waiting) =
       count-is (x .whole .entries) (x .whole .pair .entries) (p .held ++ p .waiting) (L .entries) ∙ length-append (p .held) (p .waiting) in
       record {
-        reliable = L .reliable;
         ready = L .ready;
         expected = L .expected;
         msn = L .msn;

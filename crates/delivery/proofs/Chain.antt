@@ -3,6 +3,7 @@
 use Prim.Native.Nat.{ℕ, zero, suc, _+_, _%_, _^_, _≤_, _<_}
 use mathlib.Core.Path.{_≡_, refl, sym, subst, _∙_}
 use mathlib.Core.List.{List, [], _∷_, _++_}
+use mathlib.Core.Logic.{_⊎_, inl}
 use native.Mathlib.Omega.{arith}
 use lib.ListN.{length}
 use Rattle.sequence.specs.Sequence.{space, after, psnAfter}
@@ -12,6 +13,7 @@ use Rattle.pieces.proofs.Counting.{counts, bounds}
 use Rattle.pair.specs.declared.Setup.{Setup}
 use Rattle.pair.specs.Claims.{SetupFit}
 use Rattle.segment.specs.Message.{carries, carriedLength, messageLength, packetsOf}
+use Rattle.segment.specs.Claims.{Carrier}
 use Rattle.segment.specs.Next.{psnsOf, nextPsn}
 use Rattle.segment.specs.declared.Connection.{Connection}
 use Rattle.segment.specs.declared.Request.{Request}
@@ -20,9 +22,22 @@ use Rattle.table.specs.declared.Entry.{Entry}
 use Rattle.delivery.specs.Stream.{Message, packetCount, Slot, slotsFrom, stream, slot, spanOf, span, along}
 use Rattle.delivery.specs.Demand.{Permitted, AllPermitted, AtLeast, LongEnough}
 
+-- the service has the request: UC has SENDs and WRITEs only
+abbrev pub Served : Setup → Request → Type 0
+Served s r = (s .service ≡ 0) ⊎ ((s .service ≡ 1) × Carrier r)
+
+abbrev pub AllServed : Setup → List Message → Type 0
+AllServed s [] = Unit {0}
+AllServed s (m ∷ ms) = Served s (m .request) × AllServed s ms
+
+pub reliable-serves : (s : Setup) (ms : List Message) → s .service ≡ 0 → AllServed s ms
+reliable-serves s [] e = tt
+reliable-serves s (m ∷ ms) e = (inl e, reliable-serves s ms e)
+
 -- a packet of a permitted message
 pub record Stands (s : Setup) (regions : List (List ℕ)) (t : Slot) : Type 0 where
   pub permitted : Permitted s regions (t .message)
+  pub served : Served s (t .message .request)
   pub inside : t .index < packetCount (t .message)
   pub first : t .first .0 < 2 ^ 24
 
@@ -58,7 +73,8 @@ stream-opens first (m ∷ ms) = go (packetCount m) (stream-opens (nextPsn (m .re
     go zero h = h
     go (suc n) h = refl
 
-module _ (s : Setup) (regions : List (List ℕ)) (m : Message) (first : Psn) (p : Permitted s regions m) (b : first .0 < 2 ^ 24) where
+module _ (s : Setup) (regions : List (List ℕ)) (m : Message) (first : Psn) (p : Permitted s regions m) (v : Served s (m .request))
+    (b : first .0 < 2 ^ 24) where
   turn-slots : (i n : ℕ) (rest : List Slot) → suc (i + n) ≡ packetCount m → slot rest 0 .index ≡ 0
       → Turn (record { message = m; first = first; index = i }) (slot (slotsFrom m first (suc i) n ++ rest) 0)
   unfolding slotsFrom
@@ -71,16 +87,17 @@ module _ (s : Setup) (regions : List (List ℕ)) (m : Message) (first : Psn) (p 
   walk-slots i zero rest e o w = w
   walk-slots i (suc n) rest e o w =
       let f : suc (i + n) ≡ packetCount m = omega arith in
-      (record { permitted = p; inside = omega arith; first = b }, turn-slots i n rest f o, walk-slots (suc i) n rest (omega arith) o w)
+      (record { permitted = p; served = v; inside = omega arith; first = b }, turn-slots i n rest f o, walk-slots (suc i) n rest (omega arith) o w)
 
-stream-walk : (s : Setup) (regions : List (List ℕ)) (first : Psn) (ms : List Message) → first .0 < 2 ^ 24 → AllPermitted s regions ms
+stream-walk : (s : Setup) (regions : List (List ℕ)) (first : Psn) (ms : List Message) → first .0 < 2 ^ 24 → AllServed s ms
+    → AllPermitted s regions ms
     → Walk s regions (stream first ms)
 unfolding stream nextPsn
-stream-walk s regions first [] b p = tt
-stream-walk s regions first (m ∷ ms) b p =
+stream-walk s regions first [] b v p = tt
+stream-walk s regions first (m ∷ ms) b v p =
     let next = nextPsn (m .request) (length (m .bytes)) (m .connection .pmtu) first in
-    walk-slots s regions m first (p .0) b 0 (packetCount m) (stream next ms) (omega arith) (stream-opens next ms)
-    (stream-walk s regions next ms (omega arith) (p .1))
+    walk-slots s regions m first (p .0) (v .0) b 0 (packetCount m) (stream next ms) (omega arith) (stream-opens next ms)
+    (stream-walk s regions next ms (omega arith) (v .1) (p .1))
 
 -- numbers
 numbered-slots : (m : Message) (first : Psn) (i n x : ℕ) (rest : List Slot) → spanOf (m .request) (m .connection .pmtu) ≡ 1
@@ -200,11 +217,11 @@ pub record Good (s : Setup) (regions : List (List ℕ)) (ms : List Message) (S :
   pub large : (e : Entry) → LongEnough ms e → (j : ℕ) → j < length S → AtLeast (e .length) (slot S j .message .request) (length (slot S j .message .bytes))
   pub some : (j : ℕ) → j < length S → 1 ≤ span (slot S j)
 
-pub good : (s : Setup) (regions : List (List ℕ)) (ms : List Message) → SetupFit s → AllPermitted s regions ms
+pub good : (s : Setup) (regions : List (List ℕ)) (ms : List Message) → SetupFit s → AllServed s ms → AllPermitted s regions ms
     → Good s regions ms (stream (s .start) ms)
-good s regions ms f p =
+good s regions ms f v p =
     let S = stream (s .start) ms in
-    let w = stream-walk s regions (s .start) ms (f .start) p in
+    let w = stream-walk s regions (s .start) ms (f .start) v p in
     record {
       opening = stream-opens (s .start) ms;
       stands = λ j h. stands-at s regions S j w h;
@@ -212,7 +229,7 @@ good s regions ms f p =
       number = λ j h. number-at (s .start .0) S j (numbered-stream (s .start) (s .start .0) ms (omega arith)) h;
       large = λ e l j h. fits-at e S j (fits-stream e (s .start) ms l) h;
       some = λ j h.
-          let q : slot S j .message .connection .pmtu ≡ s .pmtu = stands-at s regions S j w h .permitted .pmtu in
+          let q : slot S j .message .connection .pmtu ≡ s .pmtu = stands-at s regions S j w h .permitted .addressed .pmtu in
           let b : 256 ≤ s .pmtu = bounds (s .pmtu) (f .pmtu) .0 in
           span-some (slot S j .message .request) (slot S j .message .connection .pmtu) (omega arith);
     }

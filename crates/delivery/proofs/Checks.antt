@@ -135,7 +135,7 @@ module _ (s : Setup) (regions : List (List ℕ)) (f : SetupFit s) (t : Slot) (h 
         sequence = sequence-is;
         enabled = enabled-is s regions (t .message .request) (length (t .message .bytes)) (h .permitted .allowed);
         pad = pad-is (decide (t .message .request));
-        limit = says s regions f t h under .limit (subst (λ n. n ≤ 1048576) (sym (named-is (t .message .request) (length (t .message .bytes)))) (named-limit (t .message .request) (length (t .message .bytes)) (h .permitted .limit)));
+        limit = says s regions f t h under .limit (subst (λ n. n ≤ 1048576) (sym (named-is (t .message .request) (length (t .message .bytes)))) (named-limit (t .message .request) (length (t .message .bytes)) (h .permitted .addressed .limit)));
       }
 
   -- an entry is wanting exactly where the plain run says so
@@ -157,11 +157,11 @@ module _ (s : Setup) (regions : List (List ℕ)) (f : SetupFit s) (t : Slot) (h 
   now-here =
       subst
       (λ z. Is (kindNumber (t .message .request)) (t .index * z) (addressOf (t .message .request)) (keyOf (t .message .request)) (namedOf (t .message .request) (length (t .message .bytes))) (current under (cutPacket t)))
-      (h .permitted .pmtu) now
+      (h .permitted .addressed .pmtu) now
 
   sizes-here : Carrier (t .message .request) → Sizes (t .index) (packetCount (t .message)) (netFor t) (s .pmtu) (length (t .message .bytes))
   sizes-here c =
-      subst (λ z. Sizes (t .index) (packetCount (t .message)) (netFor t) z (length (t .message .bytes))) (h .permitted .pmtu) (sizes s regions f t h c)
+      subst (λ z. Sizes (t .index) (packetCount (t .message)) (netFor t) z (length (t .message .bytes))) (h .permitted .addressed .pmtu) (sizes s regions f t h c)
 
   room-is : Room (t .message .request) (t .index * s .pmtu) (length (t .message .bytes))
   room-is = go (t .message .request) refl

@@ -138,7 +138,7 @@ module _ (ms : List Message) (S : List Slot) (p : Plain) (x : Run) (L : Link ms 
           (subst (λ r. Room r (t .index * t .message .connection .pmtu) (length (t .message .bytes))) (sym ea) (omega (arith, ap (λ k. k * t .message .connection .pmtu) zeroth))))
 
       count-is : pieces (M .length) (x .whole .pair .setup .pmtu) ≡ span t
-      count-is = (λ k. pieces (N .length k) (sym (H .permitted .pmtu) k)) ∙ sym (R .span (length (t .message .bytes)) (t .message .connection .pmtu))
+      count-is = (λ k. pieces (N .length k) (sym (H .permitted .addressed .pmtu) k)) ∙ sym (R .span (length (t .message .bytes)) (t .message .connection .pmtu))
 
       far : distance (x .whole .pair .expected .0) (cutPacket t .psn .0) ≡ along S (p .k) - along S j
       far =
@@ -151,7 +151,7 @@ module _ (ms : List Message) (S : List Slot) (p : Plain) (x : Run) (L : Link ms 
           let en : notEnabled (x .whole .pair .setup) 12 ≡ false =
           subst (λ k. notEnabled (x .whole .pair .setup) k ≡ false) (R .kind) (enabled-is (x .whole .pair .setup) (x .whole .regions) (t .message .request) (length (t .message .bytes)) (H .permitted .allowed)) in
           let lim : overLimit (M .length) ≡ false =
-          over-no (M .length) (subst (λ k. k ≤ 1048576) (sym (N .length)) (named-limit (t .message .request) (length (t .message .bytes)) (H .permitted .limit))) in
+          over-no (M .length) (subst (λ k. k ≤ 1048576) (sym (N .length)) (named-limit (t .message .request) (length (t .message .bytes)) (H .permitted .addressed .limit))) in
           let w : eqb (netFor t + padOf (netFor t)) 0 ≡ true = eq-eqb (netFor t + padOf (netFor t)) 0 raw-none in
           let z : eqb (padOf (netFor t)) 0 ≡ true = eq-eqb (padOf (netFor t)) 0 (omega (arith, raw-none)) in
           let all : ltb (distance (x .whole .pair .expected .0) (cutPacket t .psn .0)) (pieces (M .length) (x .whole .pair .setup .pmtu)) ≡ false =
@@ -218,14 +218,14 @@ module _ (ms : List Message) (S : List Slot) (p : Plain) (x : Run) (L : Link ms 
     by c = classed c (x .whole .pair) (cutPacket t) (headEntry (x .whole .pair) (x .whole .entries)) region v
 
     -- the pair is a reliable one
-    reliably : decides ≡ by (psnClass (cutPacket t .psn .0) (x .whole .pair .expected .0))
+    reliably : x .whole .pair .setup .service ≡ 0 → decides ≡ by (psnClass (cutPacket t .psn .0) (x .whole .pair .expected .0))
     unfolding packetDecision rcDecision
-    reliably = rw (ne-eqb (x .whole .pair .setup .service) 1 (λ z. absurd (omega (arith, L .reliable))))
+    reliably R = rw (ne-eqb (x .whole .pair .setup .service) 1 (λ z. absurd (omega (arith, R))))
 
-    pub arrives : length (p .memory) ≡ x .whole .pair .setup .memory → Near (along S j) (along S (p .k))
+    pub arrives : x .whole .pair .setup .service ≡ 0 → length (p .memory) ≡ x .whole .pair .setup .memory → Near (along S j) (along S (p .k))
         → Link ms S (delivered (x .whole .regions) S p j) (stepBy x decides (packetAt t))
     unfolding order
-    arrives ml D = subst (λ d. Link ms S (delivered (x .whole .regions) S p j) (stepBy x d (packetAt t))) (sym (reliably ∙ ap by (class-is D))) (go (eqb j (p .k)) (ltb j (p .k)) refl refl)
+    arrives R ml D = subst (λ d. Link ms S (delivered (x .whole .regions) S p j) (stepBy x d (packetAt t))) (sym (reliably R ∙ ap by (class-is D))) (go (eqb j (p .k)) (ltb j (p .k)) refl refl)
       where
         go : (a b : Bool) → eqb j (p .k) ≡ a → ltb j (p .k) ≡ b
             → Link ms S (cond a (reached (x .whole .regions) p t) (cond (b && isRead (t .message .request)) (sending p (span t)) p)) (stepBy x (by (order (along S j) (along S (p .k)))) (packetAt t))

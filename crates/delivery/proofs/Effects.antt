@@ -75,7 +75,6 @@ module _ (ms : List Message) (S : List Slot) (p : Plain) (x : Run) (d : Decision
         (λ q. Link ms S (perform (x .whole .regions) p (slot S (p .k)) e) (record { whole = record { pair = q; regions = x .whole .regions; entries = x .whole .entries; saved = stepBy x d b .whole .saved }; memory = stepBy x d b .memory; completions = stepBy x d b .completions }))
         (sym (executed-by (x .whole .pair) d (D .status)))
         (record {
-          reliable = L .reliable;
           ready = L .ready;
           expected = λ i. psnAfter (L .expected i) (D .numbers i);
           msn = λ i. cond (D .ends i) (msnNext (L .msn i)) (L .msn i);

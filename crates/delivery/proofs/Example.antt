@@ -40,19 +40,19 @@ is-met =
     record {
       fresh = is-fresh;
       permitted = (
-        record { allowed = refl; limit = omega arith; service = refl; pmtu = refl; dest = refl; match = refl; pkey = omega arith; widths = tt },
+        record { allowed = refl; addressed = record { limit = omega arith; service = refl; pmtu = refl; dest = refl; match = refl; pkey = omega arith; widths = tt } },
         (
-          record { allowed = refl; limit = omega arith; service = refl; pmtu = refl; dest = refl; match = refl; pkey = omega arith; widths = omega arith },
+          record { allowed = refl; addressed = record { limit = omega arith; service = refl; pmtu = refl; dest = refl; match = refl; pkey = omega arith; widths = omega arith } },
           (
-            record { allowed = (refl, inr (region, refl, refl, omega arith, omega arith)); limit = omega arith; service = refl; pmtu = refl; dest = refl; match = refl; pkey = omega arith; widths = (omega arith, omega arith) },
+            record { allowed = (refl, inr (region, refl, refl, omega arith, omega arith)); addressed = record { limit = omega arith; service = refl; pmtu = refl; dest = refl; match = refl; pkey = omega arith; widths = (omega arith, omega arith) } },
             (
-              record { allowed = (refl, inl refl); limit = omega arith; service = refl; pmtu = refl; dest = refl; match = refl; pkey = omega arith; widths = ((omega arith, omega arith), omega arith) },
+              record { allowed = (refl, inl refl); addressed = record { limit = omega arith; service = refl; pmtu = refl; dest = refl; match = refl; pkey = omega arith; widths = ((omega arith, omega arith), omega arith) } },
               (
-                record { allowed = (refl, inr (region, refl, refl, omega arith, omega arith)); limit = omega arith; service = refl; pmtu = refl; dest = refl; match = refl; pkey = omega arith; widths = (omega arith, omega arith, omega arith) },
+                record { allowed = (refl, inr (region, refl, refl, omega arith, omega arith)); addressed = record { limit = omega arith; service = refl; pmtu = refl; dest = refl; match = refl; pkey = omega arith; widths = (omega arith, omega arith, omega arith) } },
                 (
-                  record { allowed = (refl, inr (region, refl, refl, omega arith, omega arith), refl); limit = tt; service = refl; pmtu = refl; dest = refl; match = refl; pkey = omega arith; widths = (omega arith, omega arith, omega arith, omega arith) },
+                  record { allowed = (refl, inr (region, refl, refl, omega arith, omega arith), refl); addressed = record { limit = tt; service = refl; pmtu = refl; dest = refl; match = refl; pkey = omega arith; widths = (omega arith, omega arith, omega arith, omega arith) } },
                   (
-                    record { allowed = (refl, inr (region, refl, refl, omega arith, omega arith), refl); limit = tt; service = refl; pmtu = refl; dest = refl; match = refl; pkey = omega arith; widths = ((omega arith, omega arith), omega arith) },
+                    record { allowed = (refl, inr (region, refl, refl, omega arith, omega arith), refl); addressed = record { limit = tt; service = refl; pmtu = refl; dest = refl; match = refl; pkey = omega arith; widths = ((omega arith, omega arith), omega arith) } },
                     tt,
                   ),
                 ),

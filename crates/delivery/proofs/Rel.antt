@@ -51,7 +51,6 @@ Under true t u held = (u .kind ≡ 255) × (held ≡ [])
 Under false t u held = IsOf t u × Holding (t .message .request) (length (t .message .bytes)) held
 
 pub record Link (ms : List Message) (S : List Slot) (p : Plain) (x : Run) : Type 0 where
-  pub reliable : x .whole .pair .setup .service ≡ 0
   pub ready : x .whole .pair .state ≡ 1
   pub expected : x .whole .pair .expected ≡ p .expected
   pub msn : x .whole .pair .msn ≡ p .msn
@@ -98,7 +97,6 @@ module _ {ms : List Message} {S : List Slot} {p : Plain} {x : Run} (L : Link ms 
   pub reads-on : (cs : List Completion) → cs ≡ p .completions → Link ms S (sending p r) (eased x mark a cs)
   reads-on cs c =
       record {
-        reliable = L .reliable;
         ready = L .ready;
         expected = L .expected;
         msn = L .msn;

@@ -1,6 +1,6 @@
 -- The two runs agree after every list of calls, if the pair stays sound.
 use Prim.Native.Nat.{ℕ}
-use mathlib.Core.Path.{_≡_, refl, sym, subst, _∙_}
+use mathlib.Core.Path.{_≡_, refl, sym, subst, _∙_, ap}
 use mathlib.Core.Bool.{Bool, true, false, cond, _||_}
 use mathlib.Core.List.{List, [], _∷_}
 use native.Mathlib.Omega.{arith}
@@ -24,7 +24,7 @@ use Rattle.delivery.specs.Stream.{Message, Slot, slot, stream, packetAt}
 use Rattle.delivery.specs.Plain.{Plain, Call, account, plain, start}
 use Rattle.delivery.specs.Plain.Call.{Hand, Next, Post}
 use Rattle.delivery.specs.Demand.{Run, step, run, Fresh, AllLongEnough, Meets, AllMeet, waitingAt, Agree, Delivery}
-use Rattle.delivery.proofs.Chain.{Good, good, along-zero}
+use Rattle.delivery.proofs.Chain.{Good, good, along-zero, reliable-serves}
 use Rattle.delivery.proofs.Cutting.{psn-small}
 use Rattle.delivery.proofs.Rel.{Link, Under}
 use Rattle.delivery.proofs.Calls.{hand, next, post}
@@ -69,13 +69,14 @@ module _ (inbound-steady : InboundSteady) (next-steady : NextSteady) (post-stead
   steady-next p x Y G (Next out) m = next-steady (x .whole) (x .memory) out Y
   steady-next p x Y G (Post e) m = post-steady (x .whole) e Y
 
-  pub linked : (p : Plain) (x : Run) → Link ms S p x → Steady (x .whole) → Going (x .whole .pair .setup) (x .whole .regions) → (c : Call) → Meets (x .whole .pair .setup) ms S p c
+  pub linked : (p : Plain) (x : Run) → Link ms S p x → Steady (x .whole) → Going (x .whole .pair .setup) (x .whole .regions)
+      → x .whole .pair .setup .service ≡ 0 → (c : Call) → Meets (x .whole .pair .setup) ms S p c
       → Link ms S (account (x .whole .pair .setup) (x .whole .regions) S p c) (step S x c)
-  linked p x L Y G (Hand j out) m = hand ms S p x L Y G j out m
-  linked p x L Y G (Next out) m = next ms S p x L Y G out
-  linked p x L Y G (Post e) m = post ms S p x L Y G e m
+  linked p x L Y G R (Hand j out) m = hand ms S p x L Y G R j out m
+  linked p x L Y G R (Next out) m = next ms S p x L Y G out
+  linked p x L Y G R (Post e) m = post ms S p x L Y G e m
 
-  all : (s : Setup) (regions : List (List ℕ)) → Going s regions → (calls : List Call) (p : Plain) (x : Run)
+  all : (s : Setup) (regions : List (List ℕ)) → Going s regions → s .service ≡ 0 → (calls : List Call) (p : Plain) (x : Run)
       → x .whole .pair .setup ≡ s
       → x .whole .regions ≡ regions
       → Link ms S p x
@@ -83,13 +84,13 @@ module _ (inbound-steady : InboundSteady) (next-steady : NextSteady) (post-stead
       → AllMeet s regions ms S p calls
       → Agree (run S x calls) (plain s regions S p calls)
   unfolding run plain
-  all s regions G [] p x es er L Y m = record { memory = L .memory; completions = L .completions; msn = L .msn; expected = L .expected }
-  all s regions G (c ∷ cs) p x es er L Y m =
+  all s regions G R [] p x es er L Y m = record { memory = L .memory; completions = L .completions; msn = L .msn; expected = L .expected }
+  all s regions G R (c ∷ cs) p x es er L Y m =
       let H : Going (x .whole .pair .setup) (x .whole .regions) = subst (λ r. Going (x .whole .pair .setup) r) (sym er) (subst (λ z. Going z regions) (sym es) G) in
       let n : Meets (x .whole .pair .setup) ms S p c = subst (λ z. Meets z ms S p c) (sym es) (m .0) in
       let L1 : Link ms S (account s regions S p c) (step S x c) =
-      subst (λ r. Link ms S (account s r S p c) (step S x c)) er (subst (λ z. Link ms S (account z (x .whole .regions) S p c) (step S x c)) es (linked p x L Y H c n)) in
-      all s regions G cs (account s regions S p c) (step S x c) (setup-kept S x c .is ∙ es) (regions-kept S x c ∙ er) L1 (steady-next p x Y H c n) (m .1)
+      subst (λ r. Link ms S (account s r S p c) (step S x c)) er (subst (λ z. Link ms S (account z (x .whole .regions) S p c) (step S x c)) es (linked p x L Y H (ap (λ z. z .service) es ∙ R) c n)) in
+      all s regions G R cs (account s regions S p c) (step S x c) (setup-kept S x c .is ∙ es) (regions-kept S x c ∙ er) L1 (steady-next p x Y H c n) (m .1)
 
 -- a fresh pair stands where the plain run starts
 pub fresh-link : (w : Whole) (ms : List Message) (m : List ℕ) → Fresh w → AllLongEnough ms (waitingAt w)
@@ -98,7 +99,6 @@ pub fresh-link : (w : Whole) (ms : List Message) (m : List ℕ) → Fresh w → 
 fresh-link w ms m F l G =
     let S = stream (w .pair .setup .start) ms in
     record {
-      reliable = F .reliable;
       ready = F .ready;
       expected = F .expected;
       msn = λ i. record { 0 = F .msn i };
@@ -118,6 +118,6 @@ steady w W = record { pair = W .pair; regions = W .regions; entries = W .entries
 
 pub agreeing : InboundSteady → NextSteady → PostSteady → Delivery
 agreeing a b c w ms m calls F p l h =
-    let G = good (w .pair .setup) (w .regions) ms (F .sound .pair .setup .0) p in
-    all a b c ms (stream (w .pair .setup .start) ms) (w .pair .setup) (w .regions) G calls (start (w .pair .setup) m (waitingAt w))
+    let G = good (w .pair .setup) (w .regions) ms (F .sound .pair .setup .0) (reliable-serves (w .pair .setup) ms (F .reliable)) p in
+    all a b c ms (stream (w .pair .setup .start) ms) (w .pair .setup) (w .regions) G (F .reliable) calls (start (w .pair .setup) m (waitingAt w))
     (record { whole = w; memory = m; completions = [] }) refl refl (fresh-link w ms m F l G) (steady w (F .sound)) h

@@ -95,7 +95,7 @@ module _ (ms : List Message) (S : List Slot) (p : Plain) (x : Run) (L : Link ms 
   unfolding accepting statusNumber readBy memoryBy
   reads R =
       let n : pieces (M .length) (x .whole .pair .setup .pmtu) ≡ span t =
-      (λ i. pieces (N .length i) (sym (H .permitted .pmtu) i)) ∙ sym (R .span (length (t .message .bytes)) (t .message .connection .pmtu)) in
+      (λ i. pieces (N .length i) (sym (H .permitted .addressed .pmtu) i)) ∙ sym (R .span (length (t .message .bytes)) (t .message .connection .pmtu)) in
       let some : 1 ≤ pieces (M .length) (x .whole .pair .setup .pmtu) =
       counts (M .length) (x .whole .pair .setup .pmtu) (omega (arith, bounds (x .whole .pair .setup .pmtu) (Y .pair .setup .0 .pmtu) .0)) .some in
       record {

@@ -24,7 +24,7 @@ use Rattle.delivery.specs.Plain.{Plain, Call, none, firstOf, isRead, nee
 use Rattle.delivery.specs.Plain.Call.{Hand, Next, Post}
 use Rattle.delivery.specs.Demand.{Run, step, LongEnough, Meets, AllMeet, Handed, Posted, waitingAt}
 use Rattle.delivery.specs.Witness.{wholeEntry, draining, inTurn, Witness}
-use Rattle.delivery.proofs.Chain.{Good, good}
+use Rattle.delivery.proofs.Chain.{Good, good, reliable-serves}
 use Rattle.delivery.proofs.Fitting.{and-false}
 use Rattle.delivery.proofs.Rel.{Link}
 use Rattle.delivery.proofs.Runs.{setup-kept, regions-kept, steady-next, linked, fresh-link, steady}
@@ -78,7 +78,7 @@ answers true n r e = omega arith
 answers false n r e = omega arith
 
 module _ (s : Setup) (regions : List (List ℕ)) (ms : List Message) (S : List Slot) (G : Good s regions ms S) (f : SetupFit s)
-    (out : List ℕ) (room : 4112 ≤ length out) (long : LongEnough ms (wholeEntry s)) where
+    (rc : s .service ≡ 0) (out : List ℕ) (room : 4112 ≤ length out) (long : LongEnough ms (wholeEntry s)) where
   -- the plain run and the pair's stand together, with memory of the length set up
   record Together (p : Plain) (x : Run) : Type 0 where
     setup : x .whole .pair .setup ≡ s
@@ -94,7 +94,7 @@ module _ (s : Setup) (regions : List (List ℕ)) (ms : List Message) (S : List S
       record {
         setup = setup-kept S x c .is ∙ T .setup;
         tables = regions-kept S x c ∙ T .tables;
-        link = subst (λ r. Link ms S (account s r S p c) (step S x c)) (T .tables) (subst (λ z. Link ms S (account z (x .whole .regions) S p c) (step S x c)) (T .setup) (linked inbound-steady next-steady post-steady ms S p x (T .link) (T .sound) H c n));
+        link = subst (λ r. Link ms S (account s r S p c) (step S x c)) (T .tables) (subst (λ z. Link ms S (account z (x .whole .regions) S p c) (step S x c)) (T .setup) (linked inbound-steady next-steady post-steady ms S p x (T .link) (T .sound) H (ap (λ z. z .service) (T .setup) ∙ rc) c n));
         sound = steady-next inbound-steady next-steady post-steady ms S p x (T .sound) H c n;
         bytes = step-long S x c ∙ T .bytes;
       }
@@ -172,9 +172,9 @@ witness w ms m out F p l h b room =
     let s = w .pair .setup in
     let f = F .sound .pair .setup .0 in
     let S = stream (s .start) ms in
-    let G = good s (w .regions) ms f p in
+    let G = good s (w .regions) ms f (reliable-serves s ms (F .reliable)) p in
     let g =
-    turns s (w .regions) ms S G f out room h (length S) 0 (start s m (waitingAt w)) (record { whole = w; memory = m; completions = [] })
+    turns s (w .regions) ms S G f (F .reliable) out room h (length S) 0 (start s m (waitingAt w)) (record { whole = w; memory = m; completions = [] })
     (record { setup = refl; tables = refl; link = fresh-link w ms m F l G; sound = steady w (F .sound); bytes = b })
     refl (omega arith) refl (omega arith) in
     (inTurn s out S 0 (length S), g .0, g .1)

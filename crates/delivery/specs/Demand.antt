@@ -35,14 +35,18 @@ pub record Run : Type 0 where
 abbrev pub reports : Completion → List Completion
 reports c = cond (c .some) (c ∷ []) []
 
+-- the bytes p are handed in
+abbrev pub taken : Run → List ℕ → List ℕ → Run
+taken x p out =
+    record {
+      whole = received (x .whole) (x .memory) p out;
+      memory = inboundMemory (x .whole .pair) (x .whole .regions) (x .whole .entries) (x .whole .saved) (x .memory) p out;
+      completions = x .completions ++ reports (inbound (x .whole .pair) (x .whole .regions) (x .whole .entries) (x .whole .saved) (x .memory) p out .completion);
+    }
+
 -- A call goes on from what the one before has left, and nothing else writes there.
 unfoldable pub step : List Slot → Run → Call → Run
-step S x (Hand j out) =
-    record {
-      whole = received (x .whole) (x .memory) (packetAt (slot S j)) out;
-      memory = inboundMemory (x .whole .pair) (x .whole .regions) (x .whole .entries) (x .whole .saved) (x .memory) (packetAt (slot S j)) out;
-      completions = x .completions ++ reports (inbound (x .whole .pair) (x .whole .regions) (x .whole .entries) (x .whole .saved) (x .memory) (packetAt (slot S j)) out .completion);
-    }
+step S x (Hand j out) = taken x (packetAt (slot S j)) out
 step S x (Next out) =
     record {
       whole = drained (x .whole) (x .memory) out;
@@ -84,16 +88,20 @@ Allowed s regions (Read a) n = (s .read ≡ true) × Lies regions (λ r. r .read
 Allowed s regions (CmpSwap a) n = (s .atomic ≡ true) × Lies regions (λ r. r .atomic) (a .key) (a .address) 8 × (a .address % 8 ≡ 0)
 Allowed s regions (FetchAdd t v) n = (s .atomic ≡ true) × Lies regions (λ r. r .atomic) (t .key) (t .address) 8 × (t .address % 8 ≡ 0)
 
--- and it is cut at the pair's PMTU, passes its header checks, is within the limits, each number within its field
-pub record Permitted (s : Setup) (regions : List (List ℕ)) (m : Message) : Type 0 where
-  pub allowed : Allowed s regions (m .request) (length (m .bytes))
+-- It comes to the pair: it is cut at the pair's PMTU, passes its header checks, is within the limits, each number within
+-- its field
+pub record Addressed (s : Setup) (m : Message) : Type 0 where
   pub limit : InLimit (m .request) (length (m .bytes))
-  pub service : m .connection .service ≡ 0
+  pub service : m .connection .service ≡ s .service
   pub pmtu : m .connection .pmtu ≡ s .pmtu
   pub dest : m .connection .dest ≡ s .ours
   pub match : pkeysMatch (m .connection .pkey) (s .pkey) ≡ true
   pub pkey : m .connection .pkey < 2 ^ 16
   pub widths : RequestWidths (m .request)
+
+pub record Permitted (s : Setup) (regions : List (List ℕ)) (m : Message) : Type 0 where
+  pub allowed : Allowed s regions (m .request) (length (m .bytes))
+  pub addressed : Addressed s m
 
 abbrev pub AllPermitted : Setup → List (List ℕ) → List Message → Type 0
 AllPermitted s regions [] = Unit {0}
