@@ -10,6 +10,7 @@ pub mod Entries
 pub mod Effects
 pub mod Requests
 pub mod Placing
+pub mod Landing
 pub mod Sending
 pub mod Writing
 pub mod Singles

@@ -32,6 +32,7 @@ use Rattle.delivery.proofs.Checks.{ends-is, now}
 use Rattle.delivery.proofs.Entries.{entries-by, count-is, head-is, entry-fits}
 use Rattle.delivery.proofs.Effects.{Does, under-next}
 use Rattle.delivery.proofs.Requests.{Carries, Sends}
+use Rattle.delivery.proofs.Landing.{send-lands, send-completes, send-long}
 use Rattle.delivery.proofs.Placing.{placing-told, placing-answers, placing-reads, net-is, placing-bytes, length-piece, grown-last, grown-more}
 
 -- the first of the entries that wait, where some do
@@ -112,44 +113,22 @@ module _ (ms : List Message) (S : List Slot) (p : Plain) (x : Run) (L : Link ms 
   fits : SetupFit (x .whole .pair .setup)
   fits = Y .pair .setup .0
 
-  N : IsOf t M
-  N = now (x .whole .pair .setup) (x .whole .regions) fits t H (x .whole .pair .message) (p .held) (L .under)
-
   first-is : firstOf (heldNow p t) ≡ entryOf entry
   first-is = ap firstOf (entered .is)
 
-  inside : t .index * t .message .connection .pmtu + netFor t ≤ length (t .message .bytes)
-  inside =
-      net-total (t .index) (packetCount (t .message)) (netFor t) (t .message .connection .pmtu) (length (t .message .bytes)) (H .inside)
-      (sizes (x .whole .pair .setup) (x .whole .regions) fits t H (C .carrier))
-
   lands : memoryBy (placing (cutPacket t) M entry region) (x .memory) (packetAt t)
       ≡ put (p .memory) (firstOf (heldNow p t) .offset + t .index * t .message .connection .pmtu) (pieceAt (t .message .bytes) (t .message .connection .pmtu) (t .index))
-  unfolding placeOf outside
+  unfolding outside
   lands =
       let d = pieceAt (t .message .bytes) (t .message .connection .pmtu) (t .index) in
       let o : getD entry 1 0 + getD entry 2 0 ≤ x .whole .pair .setup .memory =
       ltb-false (x .whole .pair .setup .memory) (getD entry 1 0 + getD entry 2 0) (entry-fits (x .whole .pair .setup .memory) (x .whole .entries) (x .whole .pair .entries) (Y .entries) (entered .some)) in
-      let a : getD entry 1 0 + M .placed ≡ firstOf (heldNow p t) .offset + t .index * t .message .connection .pmtu =
-      omega (arith, N .placed, ap (λ e. e .offset) first-is) in
-      let l : length d ≡ netFor t = length-piece (x .whole .pair .setup) (x .whole .regions) fits t H (x .whole .pair .message) (p .held) (L .under) C entry region in
-      placing-bytes (x .whole .pair .setup) (x .whole .regions) fits t H (x .whole .pair .message) (p .held) (L .under) C entry region (x .memory)
-      ∙ (ap (λ k. placed (x .memory) (placeOf k M entry region) d) (Z .kind)
-      ∙ (ap (λ m. placed m (getD entry 1 0 + M .placed) d) (L .memory)
-      ∙ (placed-put (p .memory) (getD entry 1 0 + M .placed) d (omega (arith, N .placed, l, inside, o, entered .large, ml)) ∙ ap (λ k. put (p .memory) k d) a)))
+      ap (λ m. memoryBy (placing (cutPacket t) M entry region) m (packetAt t)) (L .memory)
+      ∙ (send-lands (x .whole .pair .setup) (x .whole .regions) fits t H (x .whole .pair .message) (p .held) (L .under) C entry Z (p .memory) (omega (arith, o, ml)) (entered .large)
+      ∙ ap (λ e. put (p .memory) (e .offset + t .index * t .message .connection .pmtu) d) (sym first-is))
 
   last-is : ends (placeFor t) ≡ isLast t
   last-is = ends-is (x .whole .pair .setup) (x .whole .regions) fits t H (x .whole .pair .message) (p .held) (L .under)
-
-  completes-is : completes (kindNumber (t .message .request)) (placeFor t) (cutPacket t .operands .immediate) ≡ (isLast t && takes (t .message .request))
-  unfolding completes
-  completes-is = rw (Z .kind, last-is, Z .takes)
-
-  long-is : isLast t ≡ true → cond (eqb (kindNumber (t .message .request)) 0) (M .placed + netOf (cutPacket t)) (M .length) ≡ length (t .message .bytes)
-  long-is e =
-      let z = sizes (x .whole .pair .setup) (x .whole .regions) fits t H (C .carrier) .last (eqb-true (suc (t .index)) (packetCount (t .message)) e) in
-      let n = net-is (x .whole .pair .setup) (x .whole .regions) fits t H (x .whole .pair .message) (p .held) (L .under) C entry region in
-      ap (λ y. cond (eqb y 0) (M .placed + netOf (cutPacket t)) (M .length)) (Z .kind) ∙ omega (arith, N .placed, n, z .2)
 
   ring-is : (a b : Bool) → needing t ≡ a → (isLast t && takes (t .message .request)) ≡ b → isLast t ≡ b
       → map entryOf (inRing (x .whole .entries) (entriesBy b (x .whole .pair .entries)))
@@ -194,4 +173,6 @@ module _ (ms : List Message) (S : List Slot) (p : Plain) (x : Run) (L : Link ms 
           × (completionOf (cutPacket t) M (getD entry 0 0) .some ≡ (isLast t && takes (t .message .request)))
       told =
           placing-told (x .whole .pair .setup) (x .whole .regions) fits t H (x .whole .pair .message) (p .held) (L .under) C entry region
-          (firstOf (heldNow p t)) completes-is (λ e. ap (λ y. y .number) (sym first-is)) long-is
+          (firstOf (heldNow p t)) (send-completes (x .whole .pair .setup) (x .whole .regions) fits t H (x .whole .pair .message) (p .held) (L .under) C entry Z)
+          (λ e. ap (λ y. y .number) (sym first-is))
+          (send-long (x .whole .pair .setup) (x .whole .regions) fits t H (x .whole .pair .message) (p .held) (L .under) C entry Z)

@@ -34,6 +34,7 @@ use Rattle.delivery.proofs.Verdicts.{spot-is}
 use Rattle.delivery.proofs.Entries.{entries-by, count-is, head-is}
 use Rattle.delivery.proofs.Effects.{Does, under-next}
 use Rattle.delivery.proofs.Requests.{Carries, Writes}
+use Rattle.delivery.proofs.Landing.{write-lands, write-completes, write-long}
 use Rattle.delivery.proofs.Placing.{placing-told, placing-answers, placing-reads, placing-bytes, length-piece, grown-last, grown-more}
 
 -- a message that took the entry at the head
@@ -47,10 +48,6 @@ giving : (b c : Bool) (waiting : List Entry)
 giving true true waiting = refl
 giving true false waiting = refl
 giving false c waiting = refl
-
-twice : (b c : Bool) → (b && (b && c)) ≡ (b && c)
-twice true c = refl
-twice false c = refl
 
 module _ (ms : List Message) (S : List Slot) (p : Plain) (x : Run) (L : Link ms S p x) (Y : Steady (x .whole))
     (G : Good (x .whole .pair .setup) (x .whole .regions) ms S) (lt : p .k < length S)
@@ -74,9 +71,6 @@ module _ (ms : List Message) (S : List Slot) (p : Plain) (x : Run) (L : Link ms 
 
   fits : SetupFit (x .whole .pair .setup)
   fits = Y .pair .setup .0
-
-  N : IsOf t M
-  N = now (x .whole .pair .setup) (x .whole .regions) fits t H (x .whole .pair .message) (p .held) (L .under)
 
   none-held : p .held ≡ []
   none-held = go (eqb (t .index) 0) (L .under)
@@ -102,78 +96,16 @@ module _ (ms : List Message) (S : List Slot) (p : Plain) (x : Run) (L : Link ms 
             ∙ (ap (λ h. firstOf (h ++ p .waiting)) none-held ∙ (sym (w .0) ∙ ap (λ b. firstOf (cond b (take 1 (p .waiting)) (p .held))) (sym e))),
       )
 
-  completes-is : completes (kindNumber (t .message .request)) (placeFor t) (cutPacket t .operands .immediate) ≡ (isLast t && takes (t .message .request))
-  unfolding completes
-  completes-is =
-      let m = says (x .whole .pair .setup) (x .whole .regions) fits t H (x .whole .pair .message) .immediate in
-      (λ i. last-is i && (eqb (Z .kind i) 0 || (m ∙ λ j. last-is j && sym (Z .takes) j) i)) ∙ twice (isLast t) (takes (t .message .request))
-
-  long-is : cond (eqb (kindNumber (t .message .request)) 0) (M .placed + netOf (cutPacket t)) (M .length) ≡ length (t .message .bytes)
-  long-is = ap (λ y. cond (eqb y 0) (M .placed + netOf (cutPacket t)) (M .length)) (Z .kind) ∙ (N .length ∙ Z .named (length (t .message .bytes)))
-
-  sized : Sizes (t .index) (packetCount (t .message)) (netFor t) (t .message .connection .pmtu) (length (t .message .bytes))
-  sized = sizes (x .whole .pair .setup) (x .whole .regions) fits t H (C .carrier)
-
-  inside : t .index * t .message .connection .pmtu + netFor t ≤ length (t .message .bytes)
-  inside = net-total (t .index) (packetCount (t .message)) (netFor t) (t .message .connection .pmtu) (length (t .message .bytes)) (H .inside) sized
-
-  -- where bytes are to come, this packet has its place among them
-  short : 0 < length (t .message .bytes) → t .index * t .message .connection .pmtu < length (t .message .bytes)
-  short o = go (isLast t) refl
-    where
-      zeroth : (i : ℕ) → i ≡ 0 → i * t .message .connection .pmtu ≡ 0
-      zeroth i e = omega (arith, ap (λ k. k * t .message .connection .pmtu) e)
-
-      go : (b : Bool) → isLast t ≡ b → t .index * t .message .connection .pmtu < length (t .message .bytes)
-      go false e = omega (arith, sized .more (omega (arith, tests, H .inside)) .1)
-      go true e = first (eqb (t .index) 0) refl
-        where
-          first : (c : Bool) → eqb (t .index) 0 ≡ c → t .index * t .message .connection .pmtu < length (t .message .bytes)
-          first true z = omega (arith, zeroth (t .index) (eqb-true (t .index) 0 z))
-          first false z =
-              let l = sized .last (eqb-true (suc (t .index)) (packetCount (t .message)) e) in
-              let g : 0 < netFor t = l .1 (omega (arith, tests)) in
-              omega (arith, l .2)
-
   abbrev piece : List ℕ
   piece = pieceAt (t .message .bytes) (t .message .connection .pmtu) (t .index)
 
   abbrev target : ℕ
   target = lies (x .whole .regions) (keyOf (t .message .request)) (addressOf (t .message .request)) + t .index * t .message .connection .pmtu
 
-  region-is : region ≡ regionOf (keyOf (t .message .request)) (x .whole .regions)
-  unfolding regionFor
-  region-is = ap (λ k. regionFor k (M .key) (x .whole .regions)) (Z .kind) ∙ ap (λ k. regionOf k (x .whole .regions)) (N .key)
-
-  piece-long : length piece ≡ netFor t
-  piece-long = length-piece (x .whole .pair .setup) (x .whole .regions) fits t H (x .whole .pair .message) (p .held) (L .under) C entry region
-
-  -- what is named lies in the region
-  right : Lies (x .whole .regions) (λ r. r .write) (keyOf (t .message .request)) (addressOf (t .message .request)) (length (t .message .bytes))
-  right = Z .right (x .whole .pair .setup) (x .whole .regions) (length (t .message .bytes)) (H .permitted .allowed)
-
-  in-place : 0 < length (t .message .bytes) → (placeOf 6 M entry (regionOf (keyOf (t .message .request)) (x .whole .regions)) ≡ target) × (target + netFor t ≤ length (p .memory))
-  unfolding placeOf
-  in-place o =
-      let w =
-      spot-is (x .whole .pair .setup .memory) 6 (keyOf (t .message .request)) (addressOf (t .message .request)) (length (t .message .bytes)) (t .index * t .message .connection .pmtu)
-      (x .whole .regions) (λ r. r .write) M (Y .regions) write-right (N .address) (N .placed) (N .length ∙ Z .named (length (t .message .bytes))) (omega (arith, inside)) right (short o) in
-      (w .0, omega (arith, w .1, inside, ml))
-
-  placed-here : placed (p .memory) (placeOf 6 M entry (regionOf (keyOf (t .message .request)) (x .whole .regions))) piece ≡ put (p .memory) target piece
-  placed-here = go (eqb (length (t .message .bytes)) 0) refl
-    where
-      go : (b : Bool) → eqb (length (t .message .bytes)) 0 ≡ b
-          → placed (p .memory) (placeOf 6 M entry (regionOf (keyOf (t .message .request)) (x .whole .regions))) piece ≡ put (p .memory) target piece
-      go true e = let z : length piece ≡ 0 = omega (arith, tests, piece-long, inside) in placed-none (p .memory) _ piece z ∙ sym (put-none (p .memory) target piece z)
-      go false e =
-          let w = in-place (omega (arith, eqb-false (length (t .message .bytes)) 0 e)) in
-          ap (λ k. placed (p .memory) k piece) (w .0) ∙ placed-put (p .memory) target piece (omega (arith, piece-long, w .1))
-
   lands : memoryBy (placing (cutPacket t) M entry region) (x .memory) (packetAt t) ≡ put (p .memory) target piece
   lands =
-      placing-bytes (x .whole .pair .setup) (x .whole .regions) fits t H (x .whole .pair .message) (p .held) (L .under) C entry region (x .memory)
-      ∙ ((λ i. placed (L .memory i) (placeOf (Z .kind i) M entry (region-is i)) piece) ∙ placed-here)
+      ap (λ m. memoryBy (placing (cutPacket t) M entry region) m (packetAt t)) (L .memory)
+      ∙ write-lands (x .whole .pair .setup) (x .whole .regions) fits t H (x .whole .pair .message) (p .held) (L .under) C entry Z (Y .regions) (p .memory) ml
 
   ring-is : map entryOf (inRing (x .whole .entries) (entriesBy (isLast t && takes (t .message .request)) (x .whole .pair .entries)))
       ≡ cond (isLast t) [] (heldNow p t) ++ waitingNow p t
@@ -212,4 +144,6 @@ module _ (ms : List Message) (S : List Slot) (p : Plain) (x : Run) (L : Link ms 
           × (completionOf (cutPacket t) M (getD entry 0 0) .some ≡ (isLast t && takes (t .message .request)))
       told =
           placing-told (x .whole .pair .setup) (x .whole .regions) fits t H (x .whole .pair .message) (p .held) (L .under) C entry region
-          (firstOf (heldNow p t)) completes-is (λ e. ap (λ y. y .number) (taken (needing-is ∙ e) .1)) (λ e. long-is)
+          (firstOf (heldNow p t)) (write-completes (x .whole .pair .setup) (x .whole .regions) fits t H (x .whole .pair .message) (p .held) (L .under) C entry Z)
+          (λ e. ap (λ y. y .number) (taken (needing-is ∙ e) .1))
+          (λ e. write-long (x .whole .pair .setup) (x .whole .regions) fits t H (x .whole .pair .message) (p .held) (L .under) C entry Z)

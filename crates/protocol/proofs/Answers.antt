@@ -40,7 +40,7 @@ use Rattle.protocol.specs.Answers.{Willing, headerBy, HeaderDropped, fir
 use Rattle.protocol.proofs.Codes.{Codes, codes}
 
 -- nothing refuses the call
-goes : (q : Pair) (m out : List ℕ) → Willing q m out → executed (inboundRefusal q (length m) (length out)) ≡ true
+pub goes : (q : Pair) (m out : List ℕ) → Willing q m out → executed (inboundRefusal q (length m) (length out)) ≡ true
 unfolding inboundRefusal readsFull executed statusNumber
 goes q m out W =
     rw (le-ltb (length out) 24 (W .room), eq-eqb (length m) (q .setup .memory) (W .memory), sound q (W .sound), eq-eqb (q .read .remaining) 0 (W .idle))

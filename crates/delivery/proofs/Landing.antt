@@ -1,0 +1,154 @@
+-- Where the bytes of a SEND's or WRITE's packet land, and when it tells of a completion: alike on both services.
+use Prim.Native.Nat.{ℕ, suc, _+_, _*_, _≤_, _<_}
+use mathlib.Core.Path.{_≡_, refl, sym, ap, _∙_}
+use mathlib.Core.Bool.{Bool, true, false, cond, _&&_, _||_}
+use mathlib.Core.List.{List}
+use native.Mathlib.Omega.{arith}
+use lib.Dec.{eqb}
+use lib.ListN.{length, getD}
+use borrow.Author.Tests.{eqb-true, eqb-false}
+use Rattle.laws.proofs.Auto.{tests}
+use Rattle.memory.specs.Memory.{put, placed}
+use Rattle.memory.proofs.Put.{placed-put, put-none, placed-none}
+use Rattle.pieces.specs.Pieces.{ends, pieceAt}
+use Rattle.table.specs.View.{regionOf}
+use Rattle.table.specs.Claims.{RegionsSound}
+use Rattle.table.specs.declared.Entry.{Entry}
+use Rattle.pair.specs.Claims.{SetupFit}
+use Rattle.pair.specs.declared.Setup.{Setup}
+use Rattle.pair.specs.declared.OpenMessage.{OpenMessage}
+use Rattle.segment.specs.Claims.{kindNumber}
+use Rattle.request.specs.Verdict.{netOf, current}
+use Rattle.protocol.specs.Decide.{regionFor, completes, placeOf, placing}
+use Rattle.protocol.specs.Apply.{memoryBy}
+use Rattle.delivery.specs.Stream.{packetCount, Slot, packetAt}
+use Rattle.delivery.specs.Plain.{lies, takes, isLast}
+use Rattle.delivery.specs.Demand.{Lies}
+use Rattle.delivery.proofs.Chain.{Stands}
+use Rattle.delivery.proofs.Places.{Sizes}
+use Rattle.delivery.proofs.Cutting.{netFor, placeFor, cutPacket, sizes}
+use Rattle.delivery.proofs.Operands.{addressOf, keyOf}
+use Rattle.delivery.proofs.Rel.{IsOf, Under}
+use Rattle.delivery.proofs.Fitting.{net-total, write-right}
+use Rattle.delivery.proofs.Checks.{ends-is, says, now}
+use Rattle.delivery.proofs.Verdicts.{spot-is}
+use Rattle.delivery.proofs.Requests.{Carries, Sends, Writes}
+use Rattle.delivery.proofs.Placing.{net-is, placing-bytes, length-piece}
+
+twice : (b c : Bool) → (b && (b && c)) ≡ (b && c)
+twice true c = refl
+twice false c = refl
+
+module _ (s : Setup) (regions : List (List ℕ)) (f : SetupFit s) (t : Slot) (H : Stands s regions t) (under : OpenMessage) (held : List Entry)
+    (U : Under (eqb (t .index) 0) t under held) (C : Carries (t .message .request)) (entry : List ℕ) where
+  abbrev M : OpenMessage
+  M = current under (cutPacket t)
+
+  abbrev region : List ℕ
+  region = regionFor (kindNumber (t .message .request)) (M .key) regions
+
+  abbrev piece : List ℕ
+  piece = pieceAt (t .message .bytes) (t .message .connection .pmtu) (t .index)
+
+  abbrev off : ℕ
+  off = t .index * t .message .connection .pmtu
+
+  N : IsOf t M
+  N = now s regions f t H under held U
+
+  last-is : ends (placeFor t) ≡ isLast t
+  last-is = ends-is s regions f t H under held U
+
+  sized : Sizes (t .index) (packetCount (t .message)) (netFor t) (t .message .connection .pmtu) (length (t .message .bytes))
+  sized = sizes s regions f t H (C .carrier)
+
+  pub inside : t .index * t .message .connection .pmtu + netFor t ≤ length (t .message .bytes)
+  inside = net-total (t .index) (packetCount (t .message)) (netFor t) (t .message .connection .pmtu) (length (t .message .bytes)) (H .inside) sized
+
+  piece-long : length piece ≡ netFor t
+  piece-long = length-piece s regions f t H under held U C entry region
+
+  bytes-are : (m : List ℕ) → memoryBy (placing (cutPacket t) M entry region) m (packetAt t) ≡ placed m (placeOf (kindNumber (t .message .request)) M entry region) piece
+  bytes-are m = placing-bytes s regions f t H under held U C entry region m
+
+  module _ (Z : Sends (t .message .request)) where
+    pub send-lands : (m : List ℕ) → getD entry 1 0 + getD entry 2 0 ≤ length m → length (t .message .bytes) ≤ getD entry 2 0
+        → memoryBy (placing (cutPacket t) M entry region) m (packetAt t) ≡ put m (getD entry 1 0 + off) piece
+    unfolding placeOf
+    send-lands m o large =
+        let a : getD entry 1 0 + M .placed ≡ getD entry 1 0 + off = omega (arith, N .placed) in
+        bytes-are m
+        ∙ (ap (λ k. placed m (placeOf k M entry region) piece) (Z .kind)
+        ∙ (ap (λ k. placed m k piece) a ∙ placed-put m (getD entry 1 0 + off) piece (omega (arith, piece-long, inside, o, large))))
+
+    pub send-completes : completes (kindNumber (t .message .request)) (placeFor t) (cutPacket t .operands .immediate) ≡ (isLast t && takes (t .message .request))
+    unfolding completes
+    send-completes = rw (Z .kind, last-is, Z .takes)
+
+    pub send-long : isLast t ≡ true → cond (eqb (kindNumber (t .message .request)) 0) (M .placed + netOf (cutPacket t)) (M .length) ≡ length (t .message .bytes)
+    send-long e =
+        let z = sized .last (eqb-true (suc (t .index)) (packetCount (t .message)) e) in
+        let n = net-is s regions f t H under held U C entry region in
+        ap (λ y. cond (eqb y 0) (M .placed + netOf (cutPacket t)) (M .length)) (Z .kind) ∙ omega (arith, N .placed, n, z .2)
+
+  module _ (Z : Writes (t .message .request)) where
+    pub write-completes : completes (kindNumber (t .message .request)) (placeFor t) (cutPacket t .operands .immediate) ≡ (isLast t && takes (t .message .request))
+    unfolding completes
+    write-completes =
+        let m = says s regions f t H under .immediate in
+        (λ i. last-is i && (eqb (Z .kind i) 0 || (m ∙ λ j. last-is j && sym (Z .takes) j) i)) ∙ twice (isLast t) (takes (t .message .request))
+
+    pub write-long : cond (eqb (kindNumber (t .message .request)) 0) (M .placed + netOf (cutPacket t)) (M .length) ≡ length (t .message .bytes)
+    write-long = ap (λ y. cond (eqb y 0) (M .placed + netOf (cutPacket t)) (M .length)) (Z .kind) ∙ (N .length ∙ Z .named (length (t .message .bytes)))
+
+    -- where bytes are to come, this packet has its place among them
+    short : 0 < length (t .message .bytes) → off < length (t .message .bytes)
+    short o = go (isLast t) refl
+      where
+        zeroth : (i : ℕ) → i ≡ 0 → i * t .message .connection .pmtu ≡ 0
+        zeroth i e = omega (arith, ap (λ k. k * t .message .connection .pmtu) e)
+
+        go : (b : Bool) → isLast t ≡ b → off < length (t .message .bytes)
+        go false e = omega (arith, sized .more (omega (arith, tests, H .inside)) .1)
+        go true e = first (eqb (t .index) 0) refl
+          where
+            first : (c : Bool) → eqb (t .index) 0 ≡ c → off < length (t .message .bytes)
+            first true z = omega (arith, zeroth (t .index) (eqb-true (t .index) 0 z))
+            first false z =
+                let l = sized .last (eqb-true (suc (t .index)) (packetCount (t .message)) e) in
+                let g : 0 < netFor t = l .1 (omega (arith, tests)) in
+                omega (arith, l .2)
+
+    abbrev to : ℕ
+    to = lies regions (keyOf (t .message .request)) (addressOf (t .message .request))
+
+    abbrev keyed : List ℕ
+    keyed = regionOf (keyOf (t .message .request)) regions
+
+    region-is : region ≡ keyed
+    unfolding regionFor
+    region-is = ap (λ k. regionFor k (M .key) regions) (Z .kind) ∙ ap (λ k. regionOf k regions) (N .key)
+
+    -- what is named lies in the region
+    right : Lies regions (λ r. r .write) (keyOf (t .message .request)) (addressOf (t .message .request)) (length (t .message .bytes))
+    right = Z .right s regions (length (t .message .bytes)) (H .permitted .allowed)
+
+    module _ (sound : RegionsSound (s .memory) regions) where
+      pub in-place : 0 < length (t .message .bytes)
+          → (placeOf 6 M entry keyed ≡ to + off) × (to + length (t .message .bytes) ≤ s .memory)
+      unfolding placeOf
+      in-place o =
+          spot-is (s .memory) 6 (keyOf (t .message .request)) (addressOf (t .message .request)) (length (t .message .bytes)) off regions (λ r. r .write) M sound write-right
+          (N .address) (N .placed) (N .length ∙ Z .named (length (t .message .bytes))) (omega (arith, inside)) right (short o)
+
+      pub write-lands : (m : List ℕ) → length m ≡ s .memory
+          → memoryBy (placing (cutPacket t) M entry region) m (packetAt t) ≡ put m (to + off) piece
+      write-lands m l =
+          bytes-are m
+          ∙ ((λ i. placed m (placeOf (Z .kind i) M entry (region-is i)) piece) ∙ go (eqb (length (t .message .bytes)) 0) refl)
+        where
+          go : (b : Bool) → eqb (length (t .message .bytes)) 0 ≡ b → placed m (placeOf 6 M entry keyed) piece ≡ put m (to + off) piece
+          go true e = let z : length piece ≡ 0 = omega (arith, tests, piece-long, inside) in placed-none m _ piece z ∙ sym (put-none m (to + off) piece z)
+          go false e =
+              let w = in-place (omega (arith, eqb-false (length (t .message .bytes)) 0 e)) in
+              ap (λ k. placed m k piece) (w .0) ∙ placed-put m (to + off) piece (omega (arith, piece-long, w .1, inside, l))

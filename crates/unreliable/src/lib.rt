@@ -1,0 +1,1 @@
+// No code: what becomes of a message on the unreliable connection. The statements stand in specs/Message.antt.
