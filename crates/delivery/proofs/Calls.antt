@@ -96,8 +96,8 @@ module _ (ms : List Message) (S : List Slot) (p : Plain) (x : Run) (L : Link ms 
   let-in j i =
       let H = G .stands j i in
       let f = Y .pair .setup .0 in
-      rw (eq-eqb (x .whole .pair .state) 1 (L .ready), admits (x .whole .pair .setup) (x .whole .regions) f (slot S j) H)
-      (ap (packetDecision (x .whole .pair) (x .whole .regions) (x .whole .entries) (x .whole .saved)) (is-packet (x .whole .pair .setup) (x .whole .regions) f (slot S j) H))
+      rw (eq-eqb (x .whole .pair .state) 1 (L .ready), admits (x .whole .pair .setup) f (slot S j) (H .sent))
+      (ap (packetDecision (x .whole .pair) (x .whole .regions) (x .whole .entries) (x .whole .saved)) (is-packet (x .whole .pair .setup) f (slot S j) (H .sent)))
 
   pub hand : x .whole .pair .setup .service ≡ 0 → (j : ℕ) (out : List ℕ) → Handed (x .whole .pair .setup) S p j out
       → Link ms S (account (x .whole .pair .setup) (x .whole .regions) S p (Hand j out)) (step S x (Hand j out))

@@ -20,7 +20,7 @@ use Rattle.segment.specs.declared.Request.{Request}
 use Rattle.segment.specs.declared.Request.the-variants.{Send, SendImmediate, Write, WriteImmediate, Read, CmpSwap, FetchAdd}
 use Rattle.table.specs.declared.Entry.{Entry}
 use Rattle.delivery.specs.Stream.{Message, packetCount, Slot, slotsFrom, stream, slot, spanOf, span, along}
-use Rattle.delivery.specs.Demand.{Permitted, AllPermitted, AtLeast, LongEnough}
+use Rattle.delivery.specs.Demand.{Allowed, Addressed, Permitted, AllPermitted, AtLeast, LongEnough}
 
 -- the service has the request: UC has SENDs and WRITEs only
 abbrev pub Served : Setup → Request → Type 0
@@ -34,12 +34,16 @@ pub reliable-serves : (s : Setup) (ms : List Message) → s .service ≡ 0 → A
 reliable-serves s [] e = tt
 reliable-serves s (m ∷ ms) e = (inl e, reliable-serves s ms e)
 
--- a packet of a permitted message
-pub record Stands (s : Setup) (regions : List (List ℕ)) (t : Slot) : Type 0 where
-  pub permitted : Permitted s regions (t .message)
+-- a packet of a message that comes to the pair, and of one that is permitted
+pub record Sent (s : Setup) (t : Slot) : Type 0 where
+  pub addressed : Addressed s (t .message)
   pub served : Served s (t .message .request)
   pub inside : t .index < packetCount (t .message)
   pub first : t .first .0 < 2 ^ 24
+
+pub record Stands (s : Setup) (regions : List (List ℕ)) (t : Slot) : Type 0 where
+  pub allowed : Allowed s regions (t .message .request) (length (t .message .bytes))
+  pub sent : Sent s t
 
 abbrev pub further : Slot → Slot
 further t = record { message = t .message; first = t .first; index = suc (t .index) }
@@ -87,7 +91,7 @@ module _ (s : Setup) (regions : List (List ℕ)) (m : Message) (first : Psn) (p 
   walk-slots i zero rest e o w = w
   walk-slots i (suc n) rest e o w =
       let f : suc (i + n) ≡ packetCount m = omega arith in
-      (record { permitted = p; served = v; inside = omega arith; first = b }, turn-slots i n rest f o, walk-slots (suc i) n rest (omega arith) o w)
+      (record { allowed = p .allowed; sent = record { addressed = p .addressed; served = v; inside = omega arith; first = b } }, turn-slots i n rest f o, walk-slots (suc i) n rest (omega arith) o w)
 
 stream-walk : (s : Setup) (regions : List (List ℕ)) (first : Psn) (ms : List Message) → first .0 < 2 ^ 24 → AllServed s ms
     → AllPermitted s regions ms
@@ -229,7 +233,7 @@ good s regions ms f v p =
       number = λ j h. number-at (s .start .0) S j (numbered-stream (s .start) (s .start .0) ms (omega arith)) h;
       large = λ e l j h. fits-at e S j (fits-stream e (s .start) ms l) h;
       some = λ j h.
-          let q : slot S j .message .connection .pmtu ≡ s .pmtu = stands-at s regions S j w h .permitted .addressed .pmtu in
+          let q : slot S j .message .connection .pmtu ≡ s .pmtu = stands-at s regions S j w h .sent .addressed .pmtu in
           let b : 256 ≤ s .pmtu = bounds (s .pmtu) (f .pmtu) .0 in
           span-some (slot S j .message .request) (slot S j .message .connection .pmtu) (omega arith);
     }

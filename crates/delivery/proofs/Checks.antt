@@ -74,7 +74,7 @@ none-is (e ∷ es) = ne-eqb (length (e ∷ es)) 0 (λ z. absurd (omega arith))
 -- the message of a packet: begun by the first, under way before all others
 module _ (s : Setup) (regions : List (List ℕ)) (f : SetupFit s) (t : Slot) (h : Stands s regions t) (under : OpenMessage) where
   starts-is : starts (placeFor t) ≡ eqb (t .index) 0
-  starts-is = starts-at (packetCount (t .message)) (t .index) (h .inside)
+  starts-is = starts-at (packetCount (t .message)) (t .index) (h .sent .inside)
 
   pub says : Said (t .message .request) (messageLength (t .message .request) (length (t .message .bytes))) (placeFor t) (cutPacket t .operands)
   says = said (t .message .request) (messageLength (t .message .request) (length (t .message .bytes))) (packetCount (t .message)) (t .index)
@@ -100,7 +100,7 @@ module _ (s : Setup) (regions : List (List ℕ)) (f : SetupFit s) (t : Slot) (h 
 module _ (s : Setup) (regions : List (List ℕ)) (f : SetupFit s) (t : Slot) (h : Stands s regions t) (under : OpenMessage) (held : List Entry)
     (U : Under (eqb (t .index) 0) t under held) where
   pub ends-is : ends (placeFor t) ≡ eqb (suc (t .index)) (packetCount (t .message))
-  ends-is = ends-at (packetCount (t .message)) (t .index) (h .inside)
+  ends-is = ends-at (packetCount (t .message)) (t .index) (h .sent .inside)
 
   -- the message that the packet is of
   pub now : IsOf t (current under (cutPacket t))
@@ -123,8 +123,8 @@ module _ (s : Setup) (regions : List (List ℕ)) (f : SetupFit s) (t : Slot) (h 
   pad-is : (Carrier (t .message .request) ⊎ (Carrier (t .message .request) → ⊥)) → padEarly (placeFor t) (padOf (netFor t)) ≡ false
   unfolding padEarly padOf
   pad-is (inl c) =
-      pad-late (packetCount (t .message)) (t .index) (h .inside) (netFor t) (t .message .connection .pmtu) (length (t .message .bytes)) (sizes s regions f t h c)
-      (bounds (t .message .connection .pmtu) (pmtu-is s regions f t h) .2)
+      pad-late (packetCount (t .message)) (t .index) (h .sent .inside) (netFor t) (t .message .connection .pmtu) (length (t .message .bytes)) (sizes s f t (h .sent) c)
+      (bounds (t .message .connection .pmtu) (pmtu-is s f t (h .sent)) .2)
   pad-is (inr c) =
       let z : padOf (netFor t) ≡ 0 = ap padOf (none-carried (t .message .connection) (t .message .request) (t .message .bytes) (t .index) c) in
       rw z (and-false (not (ends (placeFor t))))
@@ -133,9 +133,9 @@ module _ (s : Setup) (regions : List (List ℕ)) (f : SetupFit s) (t : Slot) (h 
   before =
       record {
         sequence = sequence-is;
-        enabled = enabled-is s regions (t .message .request) (length (t .message .bytes)) (h .permitted .allowed);
+        enabled = enabled-is s regions (t .message .request) (length (t .message .bytes)) (h .allowed);
         pad = pad-is (decide (t .message .request));
-        limit = says s regions f t h under .limit (subst (λ n. n ≤ 1048576) (sym (named-is (t .message .request) (length (t .message .bytes)))) (named-limit (t .message .request) (length (t .message .bytes)) (h .permitted .addressed .limit)));
+        limit = says s regions f t h under .limit (subst (λ n. n ≤ 1048576) (sym (named-is (t .message .request) (length (t .message .bytes)))) (named-limit (t .message .request) (length (t .message .bytes)) (h .sent .addressed .limit)));
       }
 
   -- an entry is wanting exactly where the plain run says so
@@ -157,21 +157,21 @@ module _ (s : Setup) (regions : List (List ℕ)) (f : SetupFit s) (t : Slot) (h 
   now-here =
       subst
       (λ z. Is (kindNumber (t .message .request)) (t .index * z) (addressOf (t .message .request)) (keyOf (t .message .request)) (namedOf (t .message .request) (length (t .message .bytes))) (current under (cutPacket t)))
-      (h .permitted .addressed .pmtu) now
+      (h .sent .addressed .pmtu) now
 
   sizes-here : Carrier (t .message .request) → Sizes (t .index) (packetCount (t .message)) (netFor t) (s .pmtu) (length (t .message .bytes))
   sizes-here c =
-      subst (λ z. Sizes (t .index) (packetCount (t .message)) (netFor t) z (length (t .message .bytes))) (h .permitted .addressed .pmtu) (sizes s regions f t h c)
+      subst (λ z. Sizes (t .index) (packetCount (t .message)) (netFor t) z (length (t .message .bytes))) (h .sent .addressed .pmtu) (sizes s f t (h .sent) c)
 
   room-is : Room (t .message .request) (t .index * s .pmtu) (length (t .message .bytes))
   room-is = go (t .message .request) refl
     where
       within : Carrier (t .message .request) → t .index * s .pmtu ≤ length (t .message .bytes)
-      within c = omega (arith, net-total (t .index) (packetCount (t .message)) (netFor t) (s .pmtu) (length (t .message .bytes)) (h .inside) (sizes-here c))
+      within c = omega (arith, net-total (t .index) (packetCount (t .message)) (netFor t) (s .pmtu) (length (t .message .bytes)) (h .sent .inside) (sizes-here c))
 
       zeroth : packetCount (t .message) ≡ 1 → t .index * s .pmtu ≡ 0
       zeroth e =
-          let i : t .index ≡ 0 = omega (arith, h .inside) in
+          let i : t .index ≡ 0 = omega (arith, h .sent .inside) in
           omega (arith, ap (λ k. k * s .pmtu) i)
 
       go : (x : Request) → t .message .request ≡ x → Room x (t .index * s .pmtu) (length (t .message .bytes))
@@ -191,11 +191,11 @@ module _ (s : Setup) (regions : List (List ℕ)) (f : SetupFit s) (t : Slot) (h 
   behind entry sound inside suits =
       record {
         entry-in = both (usesEntry (kindNumber (t .message .request)) (cutPacket t .operands .immediate)) (outside (getD entry 1 0) (getD entry 2 0) (s .memory)) inside;
-        key = key-good (t .message .request) s regions (length (t .message .bytes)) (t .index * s .pmtu) (current under (cutPacket t)) sound (h .permitted .allowed) now-here room-is;
+        key = key-good (t .message .request) s regions (length (t .message .bytes)) (t .index * s .pmtu) (current under (cutPacket t)) sound (h .allowed) now-here room-is;
         lengths =
             lengths-good (t .message .request) s regions (cutPacket t) (current under (cutPacket t)) (t .index) (packetCount (t .message)) (netFor t) (length (t .message .bytes)) (getD entry 2 0)
-            refl refl ends-is (h .inside) (h .permitted .allowed) now-here
-            (λ c. (sizes-here c, size-fits (packetCount (t .message)) (t .index) (h .inside) (netFor t) (s .pmtu) (length (t .message .bytes)) (sizes-here c)))
+            refl refl ends-is (h .sent .inside) (h .allowed) now-here
+            (λ c. (sizes-here c, size-fits (packetCount (t .message)) (t .index) (h .sent .inside) (netFor t) (s .pmtu) (length (t .message .bytes)) (sizes-here c)))
             (λ c. let z = none-carried (t .message .connection) (t .message .request) (t .message .bytes) (t .index) c in (z, ap padOf z ∙ none-pad))
             suits;
       }

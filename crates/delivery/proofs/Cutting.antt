@@ -29,7 +29,7 @@ use Rattle.segment.proofs.Whole.{cut-reads, cut-pad, cut-full, cut-last, cut-ad
 use Rattle.request.specs.Packet.{operandsOf, packetOf}
 use Rattle.request.specs.declared.Packet.{Packet}
 use Rattle.delivery.specs.Stream.{packetCount, Slot, packetAt}
-use Rattle.delivery.proofs.Chain.{Served, Stands}
+use Rattle.delivery.proofs.Chain.{Served, Sent}
 use Rattle.delivery.proofs.Places.{Sizes}
 
 abbrev pub headerFor : Slot → Header
@@ -57,23 +57,23 @@ cutPacket t =
       operands = operandsOf (extensionFor (t .message .request) (messageLength (t .message .request) (length (t .message .bytes))) (placeFor t));
     }
 
-module _ (s : Setup) (regions : List (List ℕ)) (f : SetupFit s) (t : Slot) (h : Stands s regions t) where
+module _ (s : Setup) (f : SetupFit s) (t : Slot) (h : Sent s t) where
   pub pmtu-is : IsPmtu (t .message .connection .pmtu)
-  pmtu-is = subst IsPmtu (sym (h .permitted .addressed .pmtu)) (f .pmtu)
+  pmtu-is = subst IsPmtu (sym (h .addressed .pmtu)) (f .pmtu)
 
   served : Served s (t .message .request)
       → (t .message .connection .service ≡ 0) ⊎ ((t .message .connection .service ≡ 1) × Carrier (t .message .request))
-  served (inl e) = inl (h .permitted .addressed .service ∙ e)
-  served (inr (e, c)) = inr (h .permitted .addressed .service ∙ e, c)
+  served (inl e) = inl (h .addressed .service ∙ e)
+  served (inr (e, c)) = inr (h .addressed .service ∙ e, c)
 
   fit : Fit (t .message .connection) (t .message .request) (t .first .0)
   fit =
-      let e : t .message .connection .dest ≡ s .ours = h .permitted .addressed .dest in
+      let e : t .message .connection .dest ≡ s .ours = h .addressed .dest in
       let o : s .ours < 2 ^ 24 = f .ours in
       record { pmtu = pmtu-is; service = served (h .served); dest = omega arith; first = h .first }
 
   pub cuttable : Cuttable (t .message .connection) (t .message .request) (length (t .message .bytes)) (t .first .0)
-  cuttable = record { fit = fit; limit = h .permitted .addressed .limit; pkey = omega (arith, h .permitted .addressed .pkey); widths = h .permitted .addressed .widths }
+  cuttable = record { fit = fit; limit = h .addressed .limit; pkey = omega (arith, h .addressed .pkey); widths = h .addressed .widths }
 
   reads : readHeader (packetAt t) ≡ Accepted (headerFor t)
   unfolding packetAt
@@ -82,9 +82,9 @@ module _ (s : Setup) (regions : List (List ℕ)) (f : SetupFit s) (t : Slot) (h 
   pub admits : admitted (s .service) (s .ours) (s .pkey) true (packetAt t) ≡ Accepted (headerFor t)
   unfolding packetAt
   admits =
-      subst (λ x. admitted x (s .ours) (s .pkey) true (packetAt t) ≡ Accepted (headerFor t)) (h .permitted .addressed .service)
-      (subst (λ x. admitted (t .message .connection .service) x (s .pkey) true (packetAt t) ≡ Accepted (headerFor t)) (h .permitted .addressed .dest)
-      (cut-admitted (t .message .connection) (t .message .request) (t .message .bytes) (t .first) (t .index) (s .pkey) cuttable (h .inside) (h .permitted .addressed .match)))
+      subst (λ x. admitted x (s .ours) (s .pkey) true (packetAt t) ≡ Accepted (headerFor t)) (h .addressed .service)
+      (subst (λ x. admitted (t .message .connection .service) x (s .pkey) true (packetAt t) ≡ Accepted (headerFor t)) (h .addressed .dest)
+      (cut-admitted (t .message .connection) (t .message .request) (t .message .bytes) (t .first) (t .index) (s .pkey) cuttable (h .inside) (h .addressed .match)))
 
   psn-is : headerFor t .bth .psn ≡ psnAfter (t .first) (t .index)
   psn-is = psn-at (t .message .connection) (t .message .request) (length (t .message .bytes)) (t .first) (t .index)

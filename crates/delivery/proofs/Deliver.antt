@@ -120,7 +120,7 @@ module _ (ms : List Message) (S : List Slot) (p : Plain) (x : Run) (L : Link ms 
         (back : along S j + span t ≤ along S (p .k)) (near : along S (p .k) ≤ along S j + 8388607) where
       zeroth : t .index ≡ 0
       zeroth =
-          omega (arith, cut-one (t .message .request) (length (t .message .bytes)) (t .message .connection .pmtu) (O .bare), H .inside)
+          omega (arith, cut-one (t .message .request) (length (t .message .bytes)) (t .message .connection .pmtu) (O .bare), H .sent .inside)
 
       N : IsOf t M
       N = begun (x .whole .pair .setup) (x .whole .regions) fits t H (x .whole .pair .message) (eq-eqb (t .index) 0 zeroth)
@@ -134,11 +134,11 @@ module _ (ms : List Message) (S : List Slot) (p : Plain) (x : Run) (L : Link ms 
       key-holds : keyFails (x .whole .pair .setup .memory) 12 M region ≡ false
       key-holds =
           subst (λ k. keyFails (x .whole .pair .setup .memory) k M region ≡ false) (R .kind)
-          (key-good (t .message .request) (x .whole .pair .setup) (x .whole .regions) (length (t .message .bytes)) (t .index * t .message .connection .pmtu) M (Y .regions) (H .permitted .allowed) N
+          (key-good (t .message .request) (x .whole .pair .setup) (x .whole .regions) (length (t .message .bytes)) (t .index * t .message .connection .pmtu) M (Y .regions) (H .allowed) N
           (subst (λ r. Room r (t .index * t .message .connection .pmtu) (length (t .message .bytes))) (sym ea) (omega (arith, ap (λ k. k * t .message .connection .pmtu) zeroth))))
 
       count-is : pieces (M .length) (x .whole .pair .setup .pmtu) ≡ span t
-      count-is = (λ k. pieces (N .length k) (sym (H .permitted .addressed .pmtu) k)) ∙ sym (R .span (length (t .message .bytes)) (t .message .connection .pmtu))
+      count-is = (λ k. pieces (N .length k) (sym (H .sent .addressed .pmtu) k)) ∙ sym (R .span (length (t .message .bytes)) (t .message .connection .pmtu))
 
       far : distance (x .whole .pair .expected .0) (cutPacket t .psn .0) ≡ along S (p .k) - along S j
       far =
@@ -149,9 +149,9 @@ module _ (ms : List Message) (S : List Slot) (p : Plain) (x : Run) (L : Link ms 
       unfolding againFails
       again-passes =
           let en : notEnabled (x .whole .pair .setup) 12 ≡ false =
-          subst (λ k. notEnabled (x .whole .pair .setup) k ≡ false) (R .kind) (enabled-is (x .whole .pair .setup) (x .whole .regions) (t .message .request) (length (t .message .bytes)) (H .permitted .allowed)) in
+          subst (λ k. notEnabled (x .whole .pair .setup) k ≡ false) (R .kind) (enabled-is (x .whole .pair .setup) (x .whole .regions) (t .message .request) (length (t .message .bytes)) (H .allowed)) in
           let lim : overLimit (M .length) ≡ false =
-          over-no (M .length) (subst (λ k. k ≤ 1048576) (sym (N .length)) (named-limit (t .message .request) (length (t .message .bytes)) (H .permitted .addressed .limit))) in
+          over-no (M .length) (subst (λ k. k ≤ 1048576) (sym (N .length)) (named-limit (t .message .request) (length (t .message .bytes)) (H .sent .addressed .limit))) in
           let w : eqb (netFor t + padOf (netFor t)) 0 ≡ true = eq-eqb (netFor t + padOf (netFor t)) 0 raw-none in
           let z : eqb (padOf (netFor t)) 0 ≡ true = eq-eqb (padOf (netFor t)) 0 (omega (arith, raw-none)) in
           let all : ltb (distance (x .whole .pair .expected .0) (cutPacket t .psn .0)) (pieces (M .length) (x .whole .pair .setup .pmtu)) ≡ false =

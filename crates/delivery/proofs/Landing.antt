@@ -60,10 +60,10 @@ module _ (s : Setup) (regions : List (List ℕ)) (f : SetupFit s) (t : Slot) (H 
   last-is = ends-is s regions f t H under held U
 
   sized : Sizes (t .index) (packetCount (t .message)) (netFor t) (t .message .connection .pmtu) (length (t .message .bytes))
-  sized = sizes s regions f t H (C .carrier)
+  sized = sizes s f t (H .sent) (C .carrier)
 
   pub inside : t .index * t .message .connection .pmtu + netFor t ≤ length (t .message .bytes)
-  inside = net-total (t .index) (packetCount (t .message)) (netFor t) (t .message .connection .pmtu) (length (t .message .bytes)) (H .inside) sized
+  inside = net-total (t .index) (packetCount (t .message)) (netFor t) (t .message .connection .pmtu) (length (t .message .bytes)) (H .sent .inside) sized
 
   piece-long : length piece ≡ netFor t
   piece-long = length-piece s regions f t H under held U C entry region
@@ -109,7 +109,7 @@ module _ (s : Setup) (regions : List (List ℕ)) (f : SetupFit s) (t : Slot) (H 
         zeroth i e = omega (arith, ap (λ k. k * t .message .connection .pmtu) e)
 
         go : (b : Bool) → isLast t ≡ b → off < length (t .message .bytes)
-        go false e = omega (arith, sized .more (omega (arith, tests, H .inside)) .1)
+        go false e = omega (arith, sized .more (omega (arith, tests, H .sent .inside)) .1)
         go true e = first (eqb (t .index) 0) refl
           where
             first : (c : Bool) → eqb (t .index) 0 ≡ c → off < length (t .message .bytes)
@@ -131,7 +131,7 @@ module _ (s : Setup) (regions : List (List ℕ)) (f : SetupFit s) (t : Slot) (H 
 
     -- what is named lies in the region
     right : Lies regions (λ r. r .write) (keyOf (t .message .request)) (addressOf (t .message .request)) (length (t .message .bytes))
-    right = Z .right s regions (length (t .message .bytes)) (H .permitted .allowed)
+    right = Z .right s regions (length (t .message .bytes)) (H .allowed)
 
     module _ (sound : RegionsSound (s .memory) regions) where
       pub in-place : 0 < length (t .message .bytes)

@@ -72,7 +72,7 @@ module _ (s : Setup) (regions : List (List ℕ)) (f : SetupFit s) (t : Slot) (h 
   placing-bytes m =
       let n : headerLength (headerFor t) + netOf (cutPacket t) - headerLength (headerFor t) ≡ netFor t = omega (arith, net-is) in
       ap (placed m (placeOf (kindNumber (t .message .request)) M entry region))
-      (ap (λ k. take k (drop (headerLength (headerFor t)) (packetAt t))) n ∙ (carried-is s regions f t h ∙ C .payload (t .message .connection) (t .message .bytes) (t .index)))
+      (ap (λ k. take k (drop (headerLength (headerFor t)) (packetAt t))) n ∙ (carried-is s f t (h .sent) ∙ C .payload (t .message .connection) (t .message .bytes) (t .index)))
 
   pub length-piece : length (pieceAt (t .message .bytes) (t .message .connection .pmtu) (t .index)) ≡ netFor t
   length-piece = sym (ap length (C .payload (t .message .connection) (t .message .bytes) (t .index)))
@@ -86,7 +86,7 @@ module _ (s : Setup) (regions : List (List ℕ)) (f : SetupFit s) (t : Slot) (h 
   unfolding grown
   grown-more e =
       let N = now s regions f t h under held U in
-      let z = sizes s regions f t h (C .carrier) .more (omega (arith, tests, h .inside)) in
+      let z = sizes s f t (h .sent) (C .carrier) .more (omega (arith, tests, h .sent .inside)) in
       rw (ends-is s regions f t h under held U ∙ e)
       (record { kind = N .kind; placed = omega (arith, N .placed, net-is, z .0); address = N .address; key = N .key; length = N .length })
 

@@ -65,7 +65,7 @@ module _ (inbound-steady : InboundSteady) (next-steady : NextSteady) (post-stead
   unfolding step
   steady-next p x Y G (Hand j out) m =
       inbound-steady (x .whole) (x .memory) (packetAt (slot S j)) out
-      (psn-small (x .whole .pair .setup) (x .whole .regions) (Y .pair .setup .0) (slot S j) (G .stands j (m .inside))) Y
+      (psn-small (x .whole .pair .setup) (Y .pair .setup .0) (slot S j) ((G .stands j (m .inside)) .sent)) Y
   steady-next p x Y G (Next out) m = next-steady (x .whole) (x .memory) out Y
   steady-next p x Y G (Post e) m = post-steady (x .whole) e Y
 

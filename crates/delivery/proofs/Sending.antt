@@ -161,7 +161,7 @@ module _ (ms : List Message) (S : List Slot) (p : Plain) (x : Run) (L : Link ms 
             ap (λ b. map entryOf (inRing (x .whole .entries) (entriesBy b (x .whole .pair .entries)))) (told .1)
             ∙ ring-is (needing t) (isLast t && takes (t .message .request)) refl refl (sym (and-true (isLast t)) ∙ ap (λ b. isLast t && b) (sym (Z .takes)));
         under =
-            under-next S (p .k) (grown (placeFor t) M (netOf (cutPacket t))) (cond (isLast t) [] (heldNow p t)) (G .turn (p .k) lt) (H .inside)
+            under-next S (p .k) (grown (placeFor t) M (netOf (cutPacket t))) (cond (isLast t) [] (heldNow p t)) (G .turn (p .k) lt) (H .sent .inside)
             (λ e. (grown-last (x .whole .pair .setup) (x .whole .regions) fits t H (x .whole .pair .message) (p .held) (L .under) C entry region e, ap (λ b. cond b [] (heldNow p t)) e))
             (λ e. (
               grown-more (x .whole .pair .setup) (x .whole .regions) fits t H (x .whole .pair .message) (p .held) (L .under) C entry region e,

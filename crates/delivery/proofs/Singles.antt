@@ -55,7 +55,7 @@ module _ (ms : List Message) (S : List Slot) (p : Plain) (x : Run) (L : Link ms 
   one-packet = cut-one (t .message .request) (length (t .message .bytes)) (t .message .connection .pmtu) (O .bare)
 
   zeroth : t .index ≡ 0
-  zeroth = omega (arith, one-packet, H .inside)
+  zeroth = omega (arith, one-packet, H .sent .inside)
 
   last-is : isLast t ≡ true
   last-is = eq-eqb (suc (t .index)) (packetCount (t .message)) (omega (arith, zeroth, one-packet))
@@ -76,7 +76,7 @@ module _ (ms : List Message) (S : List Slot) (p : Plain) (x : Run) (L : Link ms 
 
   under-is : Under (eqb (slot S (suc (p .k)) .index) 0) (slot S (suc (p .k))) (x .whole .pair .message) (cond (isLast t) [] (heldNow p t))
   under-is =
-      under-next S (p .k) (x .whole .pair .message) (cond (isLast t) [] (heldNow p t)) (G .turn (p .k) lt) (H .inside)
+      under-next S (p .k) (x .whole .pair .message) (cond (isLast t) [] (heldNow p t)) (G .turn (p .k) lt) (H .sent .inside)
       (λ e. (idle .0, ap (λ b. cond b [] (heldNow p t)) e))
       (λ e. absurd (true≢false (sym last-is ∙ e)))
 
@@ -95,7 +95,7 @@ module _ (ms : List Message) (S : List Slot) (p : Plain) (x : Run) (L : Link ms 
   unfolding accepting statusNumber readBy memoryBy
   reads R =
       let n : pieces (M .length) (x .whole .pair .setup .pmtu) ≡ span t =
-      (λ i. pieces (N .length i) (sym (H .permitted .addressed .pmtu) i)) ∙ sym (R .span (length (t .message .bytes)) (t .message .connection .pmtu)) in
+      (λ i. pieces (N .length i) (sym (H .sent .addressed .pmtu) i)) ∙ sym (R .span (length (t .message .bytes)) (t .message .connection .pmtu)) in
       let some : 1 ≤ pieces (M .length) (x .whole .pair .setup .pmtu) =
       counts (M .length) (x .whole .pair .setup .pmtu) (omega (arith, bounds (x .whole .pair .setup .pmtu) (Y .pair .setup .0 .pmtu) .0)) .some in
       record {
@@ -120,7 +120,7 @@ module _ (ms : List Message) (S : List Slot) (p : Plain) (x : Run) (L : Link ms 
       let w =
       spot-is (x .whole .pair .setup .memory) k (keyOf (t .message .request)) (addressOf (t .message .request)) 8 0
       (x .whole .regions) (λ y. y .atomic) M (Y .regions) (W .rights) (N .address) placed-none eight (omega arith)
-      (W .right (x .whole .pair .setup) (x .whole .regions) (length (t .message .bytes)) (H .permitted .allowed)) (omega arith) in
+      (W .right (x .whole .pair .setup) (x .whole .regions) (length (t .message .bytes)) (H .allowed)) (omega arith) in
       let a : M .address ≡ M .address + M .placed = omega (arith, placed-none) in
       let l : M .length ≡ M .length - M .placed = omega (arith, placed-none) in
       let none : lies (x .whole .regions) (keyOf (t .message .request)) (addressOf (t .message .request)) + 0 ≡ lies (x .whole .regions) (keyOf (t .message .request)) (addressOf (t .message .request)) = omega arith in

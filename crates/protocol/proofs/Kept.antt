@@ -62,7 +62,7 @@ next-sound w m out W =
     let S = L .steady in
     record { pair = S .pair; regions = S .regions; entries = S .entries; saved = subst (SavedSound (w .saved)) (sym (L .saved)) (W .saved); held = S .held }
 
-psn-below : (p : List ℕ) → Bytes p → bthOf p .psn .0 < 2 ^ 24
+pub psn-below : (p : List ℕ) → Bytes p → bthOf p .psn .0 < 2 ^ 24
 unfolding bthOf
 psn-below p B = omega (arith, B 9, B (9 + 1), B (9 + 1 + 1))
 

@@ -144,7 +144,7 @@ uses-takes (Read a) last imm c e h = absurd c
 uses-takes (CmpSwap a) last imm c e h = absurd c
 uses-takes (FetchAdd t v) last imm c e h = absurd c
 
-carries-bytes : (r : Request) → Carrier r → carrying (kindNumber r) ≡ true
+pub carries-bytes : (r : Request) → Carrier r → carrying (kindNumber r) ≡ true
 unfolding carrying
 carries-bytes Send c = refl
 carries-bytes (SendImmediate v) c = refl
@@ -191,7 +191,7 @@ module _ (w : Whole) (m : Message) (first : Psn) (P : Permitted (w .pair .setup)
     pub under : Under (eqb i 0) (slot i) (closedBy (placeFor (slot i)) u) (held i)
 
   pub stands : (i : ℕ) → i < packetCount m → Stands (w .pair .setup) (w .regions) (slot i)
-  stands i h = record { permitted = P; served = inr (uc, Cr); inside = h; first = small }
+  stands i h = record { allowed = P .allowed; sent = record { addressed = P .addressed; served = inr (uc, Cr); inside = h; first = small } }
 
   module _ (i : ℕ) (h : i < packetCount m) (E : Psn) (n : Msn) (b : Bool) (u : OpenMessage) (mem : List ℕ) (cs : List Completion) (F : Follows i E u)
       (Y : Steady (at w E n b u (w .pair .entries) mem cs .whole)) (ml : length mem ≡ w .pair .setup .memory) where
@@ -266,7 +266,7 @@ module _ (w : Whole) (m : Message) (first : Psn) (P : Permitted (w .pair .setup)
         → decided q (w .regions) (w .entries) (w .saved) (length mem) (packetAt t) (length out) ≡ unanswered (1 + distance (cutPacket t .psn .0) (E .0)) d
     decides out o =
         let c = current-closed u (cutPacket t) in
-        decided-is q (w .regions) (w .entries) (w .saved) mem out (W out o) uc ready t H
+        decided-is q (w .regions) (w .entries) (w .saved) mem out (W out o) uc ready t (H .sent)
         ∙ (delivers (cutPacket t) (w .pair .setup) E u (w .pair .entries .count) entry (regionFor (kindNumber (m .request)) (current u (cutPacket t) .key) (w .regions))
         (F .orphan) (F .stray) (code-is (current u (cutPacket t)) c) (carries-bytes (m .request) Cr)
         ∙ ap (λ y. unanswered (1 + distance (cutPacket t .psn .0) (E .0)) (placing (cutPacket t) y entry (regionFor (kindNumber (m .request)) (y .key) (w .regions)))) (sym c))
@@ -343,4 +343,4 @@ module _ (w : Whole) (m : Message) (first : Psn) (P : Permitted (w .pair .setup)
     kept out = inbound-lengths q (w .regions) (w .entries) (w .saved) mem (packetAt t) out .0 ∙ ml
 
     pub steady : (out : List ℕ) → Steady (taken x (packetAt t) out .whole)
-    steady out = inbound-steady (x .whole) mem (packetAt t) out (psn-small (w .pair .setup) (w .regions) f t H) Y
+    steady out = inbound-steady (x .whole) mem (packetAt t) out (psn-small (w .pair .setup) f t (H .sent)) Y

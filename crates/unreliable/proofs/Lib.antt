@@ -1,3 +1,5 @@
 pub mod Steps
 pub mod Follow
 pub mod Whole
+pub mod Lost
+pub mod Before

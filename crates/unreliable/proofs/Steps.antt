@@ -36,12 +36,12 @@ use Rattle.protocol.proofs.Answers.{goes}
 use Rattle.protocol.proofs.Views.{number-taken}
 use Rattle.delivery.specs.Stream.{Slot, packetCount, packetAt}
 use Rattle.delivery.specs.Demand.{Run, reports, taken}
-use Rattle.delivery.proofs.Chain.{Stands}
+use Rattle.delivery.proofs.Chain.{Sent}
 use Rattle.delivery.proofs.Cutting.{placeFor, cutPacket, admits, is-packet}
 
 -- Not refused, the header checks passed: the rules of the unreliable connection decide
 module _ (q : Pair) (regions entries saved : List (List ℕ)) (m out : List ℕ) (W : Willing q m out) (uc : q .setup .service ≡ 1) (ready : q .state ≡ 1)
-    (t : Slot) (H : Stands (q .setup) regions t) where
+    (t : Slot) (H : Sent (q .setup) t) where
   abbrev pub regionAt : OpenMessage → List ℕ
   regionAt u = regionFor (kindNumber (t .message .request)) (u .key) regions
 
@@ -50,8 +50,8 @@ module _ (q : Pair) (regions entries saved : List (List ℕ)) (m out : List ℕ)
   unfolding decided packetDecision
   decided-is =
       let f = W .sound .setup .0 in
-      rw (goes q m out W, eq-eqb (q .state) 1 ready, admits (q .setup) regions f t H)
-      (ap (packetDecision q regions entries saved) (is-packet (q .setup) regions f t H)
+      rw (goes q m out W, eq-eqb (q .state) 1 ready, admits (q .setup) f t H)
+      (ap (packetDecision q regions entries saved) (is-packet (q .setup) f t H)
       ∙ rw (eq-eqb (q .setup .service) 1 uc))
 
 -- the run with a decision carried out

@@ -24,6 +24,8 @@ use Rattle.table.specs.Table.{slotAt}
 use Rattle.table.specs.declared.Entry.{Entry}
 use Rattle.pair.specs.Calls.{Whole}
 use Rattle.pair.specs.Pair.{noMessage}
+use Rattle.pair.specs.Claims.{SetupFit}
+use Rattle.pair.specs.declared.Setup.{Setup}
 use Rattle.pair.specs.declared.OpenMessage.{OpenMessage}
 use Rattle.segment.specs.Claims.{Carrier, kindNumber}
 use Rattle.segment.specs.declared.Request.{Request}
@@ -36,7 +38,7 @@ use Rattle.protocol.specs.Kept.{Steady}
 use Rattle.protocol.specs.declared.Completion.{Completion}
 use Rattle.delivery.specs.Stream.{Message, Slot, packetCount, packetAt}
 use Rattle.delivery.specs.Plain.{takes, isLast, completionFor}
-use Rattle.delivery.specs.Demand.{Run, taken, Permitted, AtLeast}
+use Rattle.delivery.specs.Demand.{Run, taken, Addressed, Permitted, AtLeast}
 use Rattle.delivery.proofs.Cutting.{placeFor, cutPacket}
 use Rattle.delivery.proofs.Places.{starts-at}
 use Rattle.delivery.proofs.Rel.{IsOf, Holding, Under}
@@ -60,6 +62,14 @@ grows m base d pmtu i (inr g) h =
     ap (λ n. put (put m base (take (i * pmtu) d)) (base + n) (take pmtu (drop (i * pmtu) d))) (sym l)
     ∙ (put-put m base (take (i * pmtu) d) (take pmtu (drop (i * pmtu) d)) g
     ∙ ap (put m base) (sym (take-add (i * pmtu) pmtu d) ∙ ap (λ n. take n d) k))
+
+-- the packets take all bytes, and fewer of them do not
+pub packets-counted : (s : Setup) (m : Message) → SetupFit s → Addressed s m → Carrier (m .request) → Counted (length (m .bytes)) (m .connection .pmtu) (packetCount m)
+packets-counted s m f A c =
+    let l : 256 ≤ s .pmtu = bounds (s .pmtu) (f .pmtu) .0 in
+    let p : m .connection .pmtu ≡ s .pmtu = A .pmtu in
+    subst (Counted (length (m .bytes)) (m .connection .pmtu)) (sym (cut-many (m .request) (length (m .bytes)) (m .connection .pmtu) c))
+    (counts (length (m .bytes)) (m .connection .pmtu) (omega arith))
 
 open-kind : (r : Request) → Carrier r → eqb (kindNumber r) 255 ≡ false
 open-kind Send c = refl
@@ -114,13 +124,8 @@ module _ (w : Whole) (m : Message) (first : Psn) (P : Permitted (w .pair .setup)
   abbrev pmtu : ℕ
   pmtu = m .connection .pmtu
 
-  -- the packets take all bytes, and fewer of them do not
   counted : Counted (length (m .bytes)) (m .connection .pmtu) (packetCount m)
-  counted =
-      let l : 256 ≤ w .pair .setup .pmtu = bounds (w .pair .setup .pmtu) (S .steady .pair .setup .0 .pmtu) .0 in
-      let p : m .connection .pmtu ≡ w .pair .setup .pmtu = P .addressed .pmtu in
-      subst (Counted (length (m .bytes)) (m .connection .pmtu)) (sym (cut-many (m .request) (length (m .bytes)) (m .connection .pmtu) Cr))
-      (counts (length (m .bytes)) (m .connection .pmtu) (omega arith))
+  counted = packets-counted (w .pair .setup) m (S .steady .pair .setup .0) (P .addressed) Cr
 
   within : (i : ℕ) → i < packetCount m → i * m .connection .pmtu ≤ length (m .bytes)
   within zero h = omega (arith, zero-mul (m .connection .pmtu))

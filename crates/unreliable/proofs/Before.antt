@@ -1,0 +1,108 @@
+-- What came before the message: any bytes.
+use Prim.Native.Nat.{ℕ, zero, suc, _+_, _-_, _%_, _^_, _≤_, _<_}
+use mathlib.Core.Path.{_≡_, refl, sym, ap, subst, _∙_}
+use mathlib.Core.Bool.{Bool, true, false}
+use mathlib.Core.List.{List, [], _∷_}
+use mathlib.Core.Logic.{_⊎_, inl, inr}
+use native.Mathlib.Omega.{arith}
+use lib.Dec.{eqb}
+use lib.ListN.{length}
+use borrow.Author.Tests.{eqb-false}
+use Rattle.sequence.specs.Sequence.{distance, psnAfter}
+use Rattle.sequence.specs.declared.Psn.{Psn}
+use Rattle.header.specs.Bytes.{Bytes}
+use Rattle.header.specs.Read.{bthOf, headerOf}
+use Rattle.pair.specs.Answer.{statusNumber}
+use Rattle.pair.specs.declared.Pair.{Pair}
+use Rattle.request.specs.Packet.{packetOf}
+use Rattle.protocol.specs.Decide.{decided, quietly, placing, unanswered}
+use Rattle.protocol.specs.Apply.{executedPair, pairBy, after, readBy}
+use Rattle.protocol.specs.declared.Decision.{Decision}
+use Rattle.protocol.proofs.Rows.Quiet.{dropped, short, range, unfinished}
+use Rattle.protocol.proofs.Rows.UcRow.{unheard, abandon, deliver}
+use Rattle.protocol.proofs.Rows.AnyRow.{reliable, unreliable}
+use Rattle.protocol.proofs.Rows.{Quiet, UcRow, AnyRow, numbersOf, decided-row}
+use Rattle.protocol.proofs.Views.{number-taken}
+use Rattle.protocol.proofs.Kept.{inbound-steady, psn-below}
+use Rattle.delivery.specs.Stream.{Message, packetCount}
+use Rattle.delivery.specs.Demand.{Run, taken}
+use Rattle.unreliable.specs.Message.{Standing, Apart, Arrival, heard, AllBytes, StandsOn, Foreign, ApartAfter}
+use Rattle.unreliable.proofs.Steps.{carriedOut, taken-is}
+
+module _ (x : Run) (p out : List ℕ) (uc : x .whole .pair .setup .service ≡ 1) where
+  abbrev decides : Decision
+  decides = decided (x .whole .pair) (x .whole .regions) (x .whole .entries) (x .whole .saved) (length (x .memory)) p (length out)
+
+  row : UcRow Quiet (x .whole .pair) (numbersOf p) decides
+  row = go (decided-row (x .whole .pair) (x .whole .regions) (x .whole .entries) (x .whole .saved) (length (x .memory)) p (length out))
+    where
+      go : AnyRow Quiet (x .whole .pair) (x .whole .regions) (x .whole .saved) (numbersOf p) decides → UcRow Quiet (x .whole .pair) (numbersOf p) decides
+      go (reliable e r) = absurd (eqb-false (x .whole .pair .setup .service) 1 e uc)
+      go (unreliable e r) = r
+
+  -- set-up, state and READ stay; the open message and the number expected stay, or none is open, or the packet's number
+  -- plus 1 is expected
+  pub record Leaves (y : Run) : Type 0 where
+    pub setup : y .whole .pair .setup ≡ x .whole .pair .setup
+    pub state : y .whole .pair .state ≡ x .whole .pair .state
+    pub read : y .whole .pair .read ≡ x .whole .pair .read
+    pub next : ((y .whole .pair .message ≡ x .whole .pair .message) × (y .whole .pair .expected ≡ x .whole .pair .expected))
+        ⊎ ((y .whole .pair .message .kind ≡ 255) ⊎ (y .whole .pair .expected ≡ psnAfter (bthOf p .psn) 1))
+
+  leaves-by : (d : Decision) → UcRow Quiet (x .whole .pair) (numbersOf p) d → Leaves (carriedOut x d p)
+  unfolding pairBy after statusNumber executedPair quietly placing readBy packetOf headerOf
+  leaves-by d (unheard a dropped) = record { setup = refl; state = refl; read = refl; next = inl (refl, refl) }
+  leaves-by d (unheard a short) = record { setup = refl; state = refl; read = refl; next = inl (refl, refl) }
+  leaves-by d (unheard a range) = record { setup = refl; state = refl; read = refl; next = inl (refl, refl) }
+  leaves-by d (unheard a unfinished) = record { setup = refl; state = refl; read = refl; next = inl (refl, refl) }
+  leaves-by d (abandon h) = record { setup = refl; state = refl; read = refl; next = inr (inl refl) }
+  leaves-by d (deliver t entry region w) =
+      record { setup = refl; state = refl; read = refl; next = inr (inr (number-taken (bthOf p .psn) (x .whole .pair .expected))) }
+
+  pub leaves : Leaves (taken x p out)
+  leaves = subst Leaves (sym (taken-is x p out decides refl)) (leaves-by decides row)
+
+stands-one : (x : Run) (p out : List ℕ) → Bytes p → Standing (x .whole) → Standing (taken x p out .whole)
+stands-one x p out B S =
+    let l = leaves x p out (S .unreliable) in
+    record {
+      steady = inbound-steady (x .whole) (x .memory) p out (psn-below p B) (S .steady);
+      unreliable = ap (λ s. s .service) (l .setup) ∙ S .unreliable;
+      ready = l .state ∙ S .ready;
+      idle = ap (λ a. a .remaining) (l .read) ∙ S .idle;
+    }
+
+pub stands-on : StandsOn
+unfolding heard
+stands-on x [] B S = S
+stands-on x (a ∷ rest) B S = stands-on (taken x (a .packet) (a .output)) rest (B .1) (stands-one x (a .packet) (a .output) (B .0) S)
+
+-- the number before a later packet's is that of the packet before it
+before-it : (first : Psn) (n psn i : ℕ) → n < 2 ^ 24 → psn ≡ (n + 1) % 16777216 → 0 < i → psn ≡ psnAfter first i .0 → n ≡ psnAfter first (i - 1) .0
+before-it first n psn i h e o f = omega arith
+
+apart-from : (m : Message) (first : Psn) (x : Run) (before : List Arrival) → x .whole .pair .setup .service ≡ 1 → AllBytes before
+    → Apart (x .whole) m first
+    → Foreign m first before
+    → Apart (heard x before .whole) m first
+unfolding heard
+apart-from m first x [] uc B A F = A
+apart-from m first x (a ∷ rest) uc B A F =
+    let l = leaves x (a .packet) (a .output) uc in
+    apart-from m first (taken x (a .packet) (a .output)) rest (ap (λ s. s .service) (l .setup) ∙ uc) (B .1) (go (l .next) A) (F .1)
+  where
+    y : Run
+    y = taken x (a .packet) (a .output)
+
+    go : ((y .whole .pair .message ≡ x .whole .pair .message) × (y .whole .pair .expected ≡ x .whole .pair .expected))
+        ⊎ ((y .whole .pair .message .kind ≡ 255) ⊎ (y .whole .pair .expected ≡ psnAfter (bthOf (a .packet) .psn) 1))
+        → Apart (x .whole) m first
+        → Apart (y .whole) m first
+    go (inl (e, f)) (inl z) = inl (ap (λ u. u .kind) e ∙ z)
+    go (inl (e, f)) (inr z) = inr (λ i o h g. z i o h (ap (λ p. p .0) (sym f) ∙ g))
+    go (inr (inl e)) A = inl e
+    go (inr (inr e)) A =
+        inr (λ i o h g. F .0 (i - 1) (omega arith) (before-it first (bthOf (a .packet) .psn .0) (y .whole .pair .expected .0) i (psn-below (a .packet) (B .0)) (ap (λ p. p .0) e) o g))
+
+pub apart-after : ApartAfter
+apart-after m first x before uc B e F = apart-from m first x before uc B (inl e) F
