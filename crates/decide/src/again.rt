@@ -1,11 +1,14 @@
 // Decisions on a repeated packet.
-use crate::execute::ACK;
 use crate::execute::reading;
 use crate::execute::spot;
-use crate::region_for;
-use crate::still::acknowledging;
-use crate::still::quietly;
-use crate::still::still;
+use idle::ACK;
+use idle::acknowledging;
+use idle::again_fails;
+use idle::atomic_again;
+use idle::is_atomic;
+use idle::psn_before;
+use idle::quietly;
+use idle::region_for;
 use pair::OpenMessage;
 use pair::Pair;
 use pair::Setup;
@@ -13,51 +16,11 @@ use pair::Status;
 use protocol::Decision;
 use request::Packet;
 use sequence::Psn;
-use table::Saved;
 ghost use mathlib.Core.Path.{_≡_};
 ghost use Rattle.request.specs.Verdict.{current};
 ghost use Rattle.table.specs.View.{newestSaved};
 ghost use Rattle.decide.specs.Guard.{Shaped};
-ghost use Rattle.protocol.specs.Decide.{psnBefore, againFails, readAgain, atomicAgain, isAtomic, duplicateDecision, regionFor};
-
-fn psn_before(psn: Psn) -> Psn
-    ensures { λ r. ⌜ r ≡ psnBefore psn ⌝ }
-{
-    psn.after(16777215)
-}
-
-fn wide(x: u32) -> usize
-    ensures { λ r. ⌜ r ≡ x ⌝ }
-{
-    x as usize
-}
-
-// Whether a repeated READ is not answered.
-fn again_fails(p: Packet, s: Setup, m: OpenMessage, expected: Psn, region: [u64; 7]) -> bool
-    ensures { λ r. ⌜ r ≡ againFails p s m expected region ⌝ }
-{
-    let off = judge::not_enabled(s, opcode::READ);
-    if off {
-        return true;
-    }
-    let long = judge::over_limit(m.length);
-    if long {
-        return true;
-    }
-    if p.raw != 0 {
-        return true;
-    }
-    if p.pad != 0 {
-        return true;
-    }
-    let lacking = judge::key_fails(s.memory, opcode::READ, m, region);
-    if lacking {
-        return true;
-    }
-    let behind = expected.distance(p.psn);
-    let count = pieces::count(m.length, s.pmtu);
-    wide(behind) < count
-}
+ghost use Rattle.protocol.specs.Decide.{readAgain, duplicateDecision, regionFor};
 
 fn read_again(p: Packet, s: Setup, m: OpenMessage, expected: Psn, region: [u64; 7]) -> Decision
     requires { ⌜ m .placed ≡ 0 ⌝ }
@@ -73,30 +36,6 @@ fn read_again(p: Packet, s: Setup, m: OpenMessage, expected: Psn, region: [u64; 
     let message = pair::no_message();
     let status = Status::DuplicateAnswered;
     reading(status, message, at, m.length, 0, false, count, p.psn)
-}
-
-fn atomic_again(saved: Saved, psn: Psn) -> Decision
-    ensures { λ r. ⌜ r ≡ atomicAgain saved psn ⌝ }
-{
-    match saved {
-        Saved::Value(v) => {
-            let status = Status::DuplicateAnswered;
-            still(status, 24, psn, ACK, v)
-        }
-        Saved::Nothing => {
-            let status = Status::Dropped;
-            quietly(status)
-        }
-    }
-}
-
-fn is_atomic(kind: u8) -> bool
-    ensures { λ r. ⌜ r ≡ isAtomic kind ⌝ }
-{
-    if kind == opcode::CMP_SWAP {
-        return true;
-    }
-    kind == opcode::FETCH_ADD
 }
 
 fn reread(p: Packet, pair: Pair, regions: &[[u64; 7]; 16]) -> Decision

@@ -1,5 +1,6 @@
 // Decisions that execute a packet which passed every check.
-use crate::still::no_completion;
+use idle::ACK;
+use idle::no_completion;
 use pair::OpenMessage;
 use pair::Status;
 use protocol::Completion;
@@ -13,9 +14,6 @@ ghost use lib.Dec.{eqb};
 ghost use Rattle.request.specs.Verdict.{spot, netOf};
 ghost use Rattle.protocol.specs.Decide.{completes, completionOf, grown, placeOf, placing, swapping, reading, accepting, executing};
 ghost use Rattle.decide.specs.Guard.{SpotFits, PlaceFits, Executable};
-
-// The syndrome of every ACK.
-pub(crate) const ACK: u8 = 0x1f;
 
 fn completes(kind: u8, place: u8, immediate: bool) -> bool
     ensures { λ r. ⌜ r ≡ completes kind place immediate ⌝ }

@@ -2,41 +2,42 @@
 // laws stand in the crate protocol.
 mod again;
 mod execute;
-mod still;
 mod unreliable;
 
 use header::Header;
+use idle::region_for;
 use pair::Pair;
 use pair::Status;
 use protocol::Decision;
 use request::Packet;
 use sequence::Class;
-pub use still::no_completion;
+use sequence::Psn;
 ghost use mathlib.Core.Path.{_≡_};
 ghost use Prim.Native.Nat.{_≤_};
 ghost use Rattle.request.specs.Packet.{packetOf};
 ghost use Rattle.request.specs.Verdict.{current};
-ghost use Rattle.protocol.specs.Decide.{expectedDecision, regionFor, packetDecision, headEntry};
+ghost use Rattle.protocol.specs.Decide.{failed, expectedDecision, regionFor, packetDecision, headEntry};
 ghost use Rattle.decide.specs.Guard.{Shaped, guarded};
 
-// The row of the key's region; a SEND has no key, and a key that is nobody's an empty row.
-pub(crate) fn region_for(regions: &[[u64; 7]; 16], kind: u8, key: u32) -> [u64; 7]
-    ensures { λ r. ⌜ r ≡ regionFor kind key (now (regions .entry)) ⌝ }
+// Expected, and refused by a check.
+fn failed(code: u8, psn: Psn, timer: u8) -> Decision
+    requires { ⌜ timer ≤ 31 ⌝ }
+    ensures { λ r. ⌜ r ≡ failed code psn timer ⌝ }
 {
-    if kind == opcode::SEND {
-        return [0; 7];
+    if code == 17 {
+        let status = Status::InvalidRequestNak;
+        return idle::acknowledging(status, psn, 0x61);
     }
-    let i = table::find(regions, false, wide(key));
-    if 16 <= i {
-        return [0; 7];
+    if code == 18 {
+        let status = Status::AccessNak;
+        return idle::acknowledging(status, psn, 0x62);
     }
-    regions[i]
-}
-
-fn wide(x: u32) -> u64
-    ensures { λ r. ⌜ r ≡ x ⌝ }
-{
-    x as u64
+    if code == 19 {
+        let status = Status::NotReadyNak;
+        return idle::acknowledging(status, psn, 0x20 + timer);
+    }
+    let status = Status::OutOfRange;
+    idle::quietly(status)
 }
 
 // The expected packet: executed if it passes every check, else refused.
@@ -49,7 +50,7 @@ fn expected(p: Packet, pair: Pair, entry: [u64; 3], region: [u64; 7]) -> Decisio
     let under = pair.message;
     let code = judge::expected_code(setup, under, p, pair.entries.count, entry, region);
     if code != 0 {
-        return still::failed(code, p.psn, setup.timer);
+        return failed(code, p.psn, setup.timer);
     }
     let m = judge::current(under, p);
     execute::executing(p, m, under, entry, region, setup.pmtu)
@@ -82,7 +83,7 @@ pub fn decision(
 {
     if 31 < pair.setup.timer {
         let status = Status::OutOfRange;
-        return still::quietly(status);
+        return idle::quietly(status);
     }
     let p = judge::packet_of(h, n);
     if pair.setup.service == opcode::UC {
@@ -92,7 +93,7 @@ pub fn decision(
     let class = psn.class(pair.expected);
     match class {
         Class::Expected => take(pair, regions, entries, p),
-        Class::Ahead => still::ahead(pair.mark, pair.expected),
+        Class::Ahead => idle::ahead(pair.mark, pair.expected),
         Class::Duplicate => again::duplicate(p, pair, regions, saved),
     }
 }

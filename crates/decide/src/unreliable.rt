@@ -1,7 +1,7 @@
 // Decisions on an unreliable connection.
 use crate::execute::placing;
-use crate::region_for;
-use crate::still::quietly;
+use idle::quietly;
+use idle::region_for;
 use pair::OpenMessage;
 use pair::Pair;
 use pair::Status;

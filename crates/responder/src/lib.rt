@@ -18,7 +18,7 @@ ghost use Rattle.responder.specs.Unchanged.{unchanged, told};
 pub(crate) fn unchanged(status: Status, pair: Pair) -> Outcome
     ensures { λ r. ⌜ r ≡ unchanged status pair ⌝ }
 {
-    let completion = decide::no_completion();
+    let completion = idle::no_completion();
     Outcome {
         status,
         pair,

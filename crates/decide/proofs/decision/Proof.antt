@@ -11,8 +11,8 @@ use Rattle.decide.proofs.decision.Tie as tie
 use Rattle.decide.proofs.decision.Reads as reads
 use Rattle.decide.proofs.decision.Lts as lts
 use Rattle.decide.proofs.again.duplicate.Reads as duplicate-reads
-use Rattle.decide.proofs.still.ahead.Reads as ahead-reads
-use Rattle.decide.proofs.still.quietly.Reads as quietly-reads
+use Rattle.idle.proofs.ahead.Reads as ahead-reads
+use Rattle.idle.proofs.quietly.Reads as quietly-reads
 use Rattle.decide.proofs.take.Reads as take-reads
 use Rattle.decide.proofs.unreliable.take.Reads as unreliable-take-reads
 use Rattle.judge.proofs.packet_of.Reads as packet-of-reads

@@ -10,7 +10,7 @@ use borrow.Author.Needs.{needs}
 use Rattle.decide.proofs.expected.Statement.{statement}
 use Rattle.decide.proofs.expected.Tie as tie
 use Rattle.decide.proofs.execute.executing.Reads as executing-reads
-use Rattle.decide.proofs.still.failed.Reads as failed-reads
+use Rattle.decide.proofs.failed.Reads as failed-reads
 use Rattle.judge.proofs.current.Reads as current-reads
 use Rattle.judge.proofs.expected_code.Reads as expected-code-reads
 

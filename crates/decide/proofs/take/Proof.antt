@@ -2,7 +2,7 @@ use borrow.Author.Needs.{needs}
 use Rattle.decide.proofs.take.Statement.{statement}
 use Rattle.decide.proofs.take.Tie as tie
 use Rattle.decide.proofs.expected.Reads as expected-reads
-use Rattle.decide.proofs.region_for.Reads as region-for-reads
+use Rattle.idle.proofs.region_for.Reads as region-for-reads
 use Rattle.judge.proofs.current.Reads as current-reads
 use Rattle.table.proofs.slot.Reads as slot-reads
 

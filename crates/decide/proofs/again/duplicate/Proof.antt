@@ -3,12 +3,12 @@ use Rattle.protocol.specs.Decide.{duplicateDecision}
 use borrow.Author.Needs.{needs}
 use Rattle.decide.proofs.again.duplicate.Statement.{statement}
 use Rattle.decide.proofs.again.duplicate.Tie as tie
-use Rattle.decide.proofs.again.atomic_again.Reads as atomic-again-reads
-use Rattle.decide.proofs.again.is_atomic.Reads as is-atomic-reads
-use Rattle.decide.proofs.again.psn_before.Reads as psn-before-reads
+use Rattle.idle.proofs.atomic_again.Reads as atomic-again-reads
+use Rattle.idle.proofs.is_atomic.Reads as is-atomic-reads
+use Rattle.idle.proofs.psn_before.Reads as psn-before-reads
 use Rattle.decide.proofs.again.reread.Reads as reread-reads
-use Rattle.decide.proofs.still.acknowledging.Reads as acknowledging-reads
-use Rattle.decide.proofs.still.quietly.Reads as quietly-reads
+use Rattle.idle.proofs.acknowledging.Reads as acknowledging-reads
+use Rattle.idle.proofs.quietly.Reads as quietly-reads
 use Rattle.judge.proofs.carrying.Reads as carrying-reads
 use Rattle.table.proofs.newest.Reads as newest-reads
 

@@ -6,11 +6,11 @@ use Rattle.protocol.specs.Decide.{readAgain}
 use borrow.Author.Needs.{needs}
 use Rattle.decide.proofs.again.read_again.Statement.{statement}
 use Rattle.decide.proofs.again.read_again.Tie as tie
-use Rattle.decide.proofs.again.again_fails.Reads as again-fails-reads
+use Rattle.idle.proofs.again_fails.Reads as again-fails-reads
 use Rattle.decide.proofs.execute.reading.Reads as reading-reads
 use Rattle.decide.proofs.execute.spot.Reads as spot-reads
 use Rattle.pair.proofs.no_message.Reads as no-message-reads
-use Rattle.decide.proofs.still.quietly.Reads as quietly-reads
+use Rattle.idle.proofs.quietly.Reads as quietly-reads
 use Rattle.pieces.proofs.count.Reads as count-reads
 
 again-fails-requires : tie.Need-again-fails-requires

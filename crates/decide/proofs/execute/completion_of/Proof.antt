@@ -5,7 +5,7 @@ use Rattle.decide.proofs.execute.completion_of.Statement.{statement}
 use Rattle.decide.proofs.execute.completion_of.Tie as tie
 use Rattle.decide.proofs.execute.completes.Reads as completes-reads
 use Rattle.decide.proofs.execute.counted.Reads as counted-reads
-use Rattle.decide.proofs.still.no_completion.Reads as no-completion-reads
+use Rattle.idle.proofs.no_completion.Reads as no-completion-reads
 use Rattle.judge.proofs.less.Reads as less-reads
 
 completes-requires : tie.Need-completes-requires

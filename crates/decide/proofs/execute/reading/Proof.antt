@@ -1,7 +1,7 @@
 use borrow.Author.Needs.{needs}
 use Rattle.decide.proofs.execute.reading.Statement.{statement}
 use Rattle.decide.proofs.execute.reading.Tie as tie
-use Rattle.decide.proofs.still.no_completion.Reads as no-completion-reads
+use Rattle.idle.proofs.no_completion.Reads as no-completion-reads
 
 no-completion-requires : tie.Need-no-completion-requires
 no-completion-requires c κs = search needs

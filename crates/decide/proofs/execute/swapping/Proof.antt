@@ -4,7 +4,7 @@ use Rattle.decide.proofs.execute.swapping.Statement.{statement}
 use Rattle.decide.proofs.execute.swapping.Tie as tie
 use Rattle.decide.proofs.execute.atomic_act.Reads as atomic-act-reads
 use Rattle.decide.proofs.execute.spot.Reads as spot-reads
-use Rattle.decide.proofs.still.no_completion.Reads as no-completion-reads
+use Rattle.idle.proofs.no_completion.Reads as no-completion-reads
 
 spot-requires : tie.Need-spot-requires
 spot-requires c κs = search needs

@@ -5,7 +5,7 @@ use Rattle.decide.proofs.unreliable.abandoning.Statement.{statement}
 use Rattle.decide.proofs.unreliable.abandoning.Tie as tie
 use Rattle.decide.proofs.unreliable.abandoning.Reads as reads
 use Rattle.decide.proofs.unreliable.abandoning.Lts as lts
-use Rattle.decide.proofs.still.quietly.Reads as quietly-reads
+use Rattle.idle.proofs.quietly.Reads as quietly-reads
 
 -- src/unreliable.rt:61:9
 quietly-requires : tie.Need-quietly-requires

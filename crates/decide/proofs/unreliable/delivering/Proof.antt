@@ -6,7 +6,7 @@ use Rattle.decide.proofs.unreliable.delivering.Tie as tie
 use Rattle.decide.proofs.unreliable.delivering.Reads as reads
 use Rattle.decide.proofs.unreliable.delivering.Lts as lts
 use Rattle.decide.proofs.execute.placing.Reads as placing-reads
-use Rattle.decide.proofs.still.quietly.Reads as quietly-reads
+use Rattle.idle.proofs.quietly.Reads as quietly-reads
 use Rattle.decide.proofs.unreliable.unanswered.Reads as unanswered-reads
 use Rattle.decide.proofs.unreliable.wide.Reads as wide-reads
 use Rattle.judge.proofs.carrying.Reads as carrying-reads

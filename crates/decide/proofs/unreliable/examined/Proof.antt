@@ -4,7 +4,7 @@ use Rattle.decide.proofs.unreliable.examined.Statement.{statement}
 use Rattle.decide.proofs.unreliable.examined.Tie as tie
 use Rattle.decide.proofs.unreliable.examined.Reads as reads
 use Rattle.decide.proofs.unreliable.examined.Lts as lts
-use Rattle.decide.proofs.still.quietly.Reads as quietly-reads
+use Rattle.idle.proofs.quietly.Reads as quietly-reads
 use Rattle.decide.proofs.unreliable.orphaned.Reads as orphaned-reads
 use Rattle.decide.proofs.unreliable.settled.Reads as settled-reads
 use Rattle.decide.proofs.unreliable.strays.Reads as strays-reads

@@ -3,7 +3,7 @@ use Rattle.decide.proofs.unreliable.take.Statement.{statement}
 use Rattle.decide.proofs.unreliable.take.Tie as tie
 use Rattle.decide.proofs.unreliable.take.Reads as reads
 use Rattle.decide.proofs.unreliable.take.Lts as lts
-use Rattle.decide.proofs.region_for.Reads as region-for-reads
+use Rattle.idle.proofs.region_for.Reads as region-for-reads
 use Rattle.decide.proofs.unreliable.examined.Reads as examined-reads
 use Rattle.judge.proofs.current.Reads as current-reads
 use Rattle.table.proofs.slot.Reads as slot-reads

@@ -1,7 +1,7 @@
 use borrow.Author.Needs.{needs}
-use Rattle.decide.proofs.still.still.Statement.{statement}
-use Rattle.decide.proofs.still.still.Tie as tie
-use Rattle.decide.proofs.still.no_completion.Reads as no-completion-reads
+use Rattle.idle.proofs.still.still.Statement.{statement}
+use Rattle.idle.proofs.still.still.Tie as tie
+use Rattle.idle.proofs.still.no_completion.Reads as no-completion-reads
 use Rattle.pair.proofs.no_message.Reads as no-message-reads
 
 no-message-requires : tie.Need-no-message-requires

@@ -1,9 +1,9 @@
 use Rattle.protocol.specs.Decide.{aheadDecision}
 use borrow.Author.Needs.{needs}
-use Rattle.decide.proofs.still.ahead.Statement.{statement}
-use Rattle.decide.proofs.still.ahead.Tie as tie
-use Rattle.decide.proofs.still.acknowledging.Reads as acknowledging-reads
-use Rattle.decide.proofs.still.quietly.Reads as quietly-reads
+use Rattle.idle.proofs.still.ahead.Statement.{statement}
+use Rattle.idle.proofs.still.ahead.Tie as tie
+use Rattle.idle.proofs.still.acknowledging.Reads as acknowledging-reads
+use Rattle.idle.proofs.still.quietly.Reads as quietly-reads
 
 quietly-requires : tie.Need-quietly-requires
 quietly-requires c κs = search needs

@@ -1,8 +1,8 @@
 use borrow.Author.Needs.{needs}
 use Rattle.laws.proofs.Auto.{tested}
 use Rattle.protocol.specs.Decide.{isAtomic}
-use Rattle.decide.proofs.again.is_atomic.Statement.{statement}
-use Rattle.decide.proofs.again.is_atomic.Tie as tie
+use Rattle.idle.proofs.again.is_atomic.Statement.{statement}
+use Rattle.idle.proofs.again.is_atomic.Tie as tie
 
 returns : tie.Need-returns
 unfolding isAtomic

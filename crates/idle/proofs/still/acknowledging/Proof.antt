@@ -1,8 +1,8 @@
 use Rattle.protocol.specs.Decide.{acknowledging}
 use borrow.Author.Needs.{needs}
-use Rattle.decide.proofs.still.acknowledging.Statement.{statement}
-use Rattle.decide.proofs.still.acknowledging.Tie as tie
-use Rattle.decide.proofs.still.still.Reads as still-reads
+use Rattle.idle.proofs.still.acknowledging.Statement.{statement}
+use Rattle.idle.proofs.still.acknowledging.Tie as tie
+use Rattle.idle.proofs.still.still.Reads as still-reads
 
 still-requires : tie.Need-still-requires
 still-requires c κs = search needs

@@ -4,8 +4,7 @@ use protocol::Completion;
 use protocol::Decision;
 use sequence::Psn;
 ghost use mathlib.Core.Path.{_≡_};
-ghost use Prim.Native.Nat.{_≤_};
-ghost use Rattle.protocol.specs.Decide.{noCompletion, still, quietly, acknowledging, aheadDecision, failed};
+ghost use Rattle.protocol.specs.Decide.{noCompletion, still, quietly, acknowledging, aheadDecision};
 
 // Nothing completes.
 pub fn no_completion() -> Completion
@@ -47,7 +46,7 @@ pub(crate) fn still(status: Status, sent: usize, psn: Psn, syndrome: u8, value: 
     }
 }
 
-pub(crate) fn quietly(status: Status) -> Decision
+pub fn quietly(status: Status) -> Decision
     ensures { λ r. ⌜ r ≡ quietly status ⌝ }
 {
     let psn = Psn(0);
@@ -55,14 +54,14 @@ pub(crate) fn quietly(status: Status) -> Decision
 }
 
 // An ACK or a NAK is sent.
-pub(crate) fn acknowledging(status: Status, psn: Psn, syndrome: u8) -> Decision
+pub fn acknowledging(status: Status, psn: Psn, syndrome: u8) -> Decision
     ensures { λ r. ⌜ r ≡ acknowledging status psn syndrome ⌝ }
 {
     still(status, 16, psn, syndrome, 0)
 }
 
 // Ahead: a sequence NAK the first time, nothing while the mark stands.
-pub(crate) fn ahead(mark: bool, expected: Psn) -> Decision
+pub fn ahead(mark: bool, expected: Psn) -> Decision
     ensures { λ r. ⌜ r ≡ aheadDecision mark expected ⌝ }
 {
     if mark {
@@ -71,25 +70,4 @@ pub(crate) fn ahead(mark: bool, expected: Psn) -> Decision
     }
     let status = Status::SequenceNak;
     acknowledging(status, expected, 0x60)
-}
-
-// Expected, and refused by a check.
-pub(crate) fn failed(code: u8, psn: Psn, timer: u8) -> Decision
-    requires { ⌜ timer ≤ 31 ⌝ }
-    ensures { λ r. ⌜ r ≡ failed code psn timer ⌝ }
-{
-    if code == 17 {
-        let status = Status::InvalidRequestNak;
-        return acknowledging(status, psn, 0x61);
-    }
-    if code == 18 {
-        let status = Status::AccessNak;
-        return acknowledging(status, psn, 0x62);
-    }
-    if code == 19 {
-        let status = Status::NotReadyNak;
-        return acknowledging(status, psn, 0x20 + timer);
-    }
-    let status = Status::OutOfRange;
-    quietly(status)
 }

@@ -1,9 +1,9 @@
 use borrow.Author.Tests.{eq-eqb, ne-eqb}
 use Rattle.protocol.specs.Decide.{againFails}
 use borrow.Author.Needs.{needs}
-use Rattle.decide.proofs.again.again_fails.Statement.{statement}
-use Rattle.decide.proofs.again.again_fails.Tie as tie
-use Rattle.decide.proofs.again.wide.Reads as wide-reads
+use Rattle.idle.proofs.again.again_fails.Statement.{statement}
+use Rattle.idle.proofs.again.again_fails.Tie as tie
+use Rattle.idle.proofs.again.wide.Reads as wide-reads
 use Rattle.judge.proofs.key_fails.Reads as key-fails-reads
 use Rattle.judge.proofs.not_enabled.Reads as not-enabled-reads
 use Rattle.judge.proofs.over_limit.Reads as over-limit-reads

@@ -1,10 +1,10 @@
 use borrow.Author.Tests.{eq-eqb, ne-eqb}
 use Rattle.protocol.specs.Decide.{failed}
 use borrow.Author.Needs.{needs}
-use Rattle.decide.proofs.still.failed.Statement.{statement}
-use Rattle.decide.proofs.still.failed.Tie as tie
-use Rattle.decide.proofs.still.acknowledging.Reads as acknowledging-reads
-use Rattle.decide.proofs.still.quietly.Reads as quietly-reads
+use Rattle.decide.proofs.failed.Statement.{statement}
+use Rattle.decide.proofs.failed.Tie as tie
+use Rattle.idle.proofs.acknowledging.Reads as acknowledging-reads
+use Rattle.idle.proofs.quietly.Reads as quietly-reads
 
 acknowledging-requires : tie.Need-acknowledging-requires
 acknowledging-requires c κs = search needs

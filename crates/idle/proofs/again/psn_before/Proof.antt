@@ -1,7 +1,7 @@
 use Rattle.protocol.specs.Decide.{psnBefore}
 use borrow.Author.Needs.{needs}
-use Rattle.decide.proofs.again.psn_before.Statement.{statement}
-use Rattle.decide.proofs.again.psn_before.Tie as tie
+use Rattle.idle.proofs.again.psn_before.Statement.{statement}
+use Rattle.idle.proofs.again.psn_before.Tie as tie
 use Rattle.sequence.proofs.Psn.after.Reads as after-reads
 
 after-requires : tie.Need-after-requires

@@ -1,9 +1,9 @@
 use Rattle.protocol.specs.Decide.{quietly}
 use borrow.Author.Needs.{needs}
-use Rattle.decide.proofs.again.atomic_again.Statement.{statement}
-use Rattle.decide.proofs.again.atomic_again.Tie as tie
-use Rattle.decide.proofs.still.quietly.Reads as quietly-reads
-use Rattle.decide.proofs.still.still.Reads as still-reads
+use Rattle.idle.proofs.again.atomic_again.Statement.{statement}
+use Rattle.idle.proofs.again.atomic_again.Tie as tie
+use Rattle.idle.proofs.still.quietly.Reads as quietly-reads
+use Rattle.idle.proofs.still.still.Reads as still-reads
 
 enum-known-saved : tie.Need-enum-known-saved
 enum-known-saved c = search needs

@@ -2,9 +2,9 @@ use borrow.Author.Tests.{eq-eqb, le-leb, le-ltb, lt-leb, lt-ltb, ne-eqb}
 use Rattle.protocol.specs.Decide.{regionFor}
 use Rattle.table.specs.View.{regionOf}
 use borrow.Author.Needs.{needs}
-use Rattle.decide.proofs.region_for.Statement.{statement}
-use Rattle.decide.proofs.region_for.Tie as tie
-use Rattle.decide.proofs.wide.Reads as wide-reads
+use Rattle.idle.proofs.region_for.Statement.{statement}
+use Rattle.idle.proofs.region_for.Tie as tie
+use Rattle.idle.proofs.wide.Reads as wide-reads
 use Rattle.table.proofs.find.Reads as find-reads
 
 returns : tie.Need-returns
