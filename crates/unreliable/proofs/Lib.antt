@@ -3,3 +3,4 @@ pub mod Follow
 pub mod Whole
 pub mod Lost
 pub mod Before
+pub mod Example

@@ -193,8 +193,9 @@ module _ (w : Whole) (m : Message) (first : Psn) (P : Permitted (w .pair .setup)
         ∙ rest k (suc i) (omega arith) (psnAfter first (suc i)) false v mem2 (goes-on i (omega arith) v I) grown-memory Z L
 
 pub handed-whole : HandedWhole
-handed-whole outs m first x K P sup =
+handed-whole outs m first x K allowed sup =
     let w = x .whole in
+    let P : Permitted (w .pair .setup) (w .regions) m = record { allowed = allowed; addressed = K .addressed } in
     let S = K .standing in
     let n : 1 ≤ packetCount m = counted w m first P (K .carries) (K .first24) S sup .some in
     let G = begins w m first P (K .carries) (K .first24) S sup n (w .pair .expected) (w .pair .message) in

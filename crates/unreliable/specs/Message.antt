@@ -21,7 +21,7 @@ use Rattle.segment.specs.declared.Request.the-variants.{Send, SendImmediate, Wr
 use Rattle.protocol.specs.Kept.{Steady}
 use Rattle.delivery.specs.Stream.{Message, Slot, packetCount, packetAt}
 use Rattle.delivery.specs.Plain.{takes, completionFor, lies}
-use Rattle.delivery.specs.Demand.{Run, taken, Addressed, Permitted, AtLeast, entryOf}
+use Rattle.delivery.specs.Demand.{Run, taken, Allowed, Addressed, AtLeast, entryOf}
 
 -- A pair of the unreliable connection as calls leave it, Ready. It may have received anything: a message may be open, and
 -- any PSN expected. A READ is never being answered on such a pair.
@@ -103,10 +103,11 @@ delivered x m first =
       completions = x .completions ++ cond (takes (m .request)) (completionFor (m .request) (firstEntry w) (length (m .bytes)) ∷ []) [];
     }
 
+-- Its function is enabled, and the bytes that a WRITE names lie in the region of its key.
 abbrev pub HandedWhole : Type 0
 HandedWhole =
     (outs : ℕ → List ℕ) (m : Message) (first : Psn) (x : Run) → Comes outs m first x
-    → Permitted (x .whole .pair .setup) (x .whole .regions) m
+    → Allowed (x .whole .pair .setup) (x .whole .regions) (m .request) (length (m .bytes))
     → Supplied (x .whole) m
     → handed outs m first x 0 (replicate (packetCount m) true) ≡ delivered x m first
 

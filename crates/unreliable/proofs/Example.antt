@@ -1,0 +1,79 @@
+-- The closed instance: by computation, and by the theorem.
+use Prim.Native.Nat.{ℕ, _≤_}
+use mathlib.Core.Path.{_≡_, refl, sym, subst}
+use mathlib.Core.Bool.{true}
+use mathlib.Core.List.{[]}
+use mathlib.Core.Logic.{inl, inr}
+use native.Mathlib.Omega.{arith}
+use lib.ListN.{length, replicate, length-replicate}
+use Rattle.header.specs.Check.{pkeysMatch, fullMember}
+use Rattle.header.specs.Read.{otherService}
+use Rattle.pieces.specs.Pieces.{pmtuFits, pieces}
+use Rattle.table.specs.Table.{regionRow, entryRow, firstFrom, sought, outside, pastTop, regionOutside, slotAt}
+use Rattle.table.specs.View.{regionOf}
+use Rattle.pair.specs.Claims.{SetupSound, WholeSound}
+use Rattle.pair.specs.Answer.{statusNumber, executed}
+use Rattle.pair.specs.Pair.{freshPair}
+use Rattle.pair.specs.Calls.{begun, called, calledAll}
+use Rattle.pair.specs.Host.{setUpStatus, setUp, setUpRegions, addStatus, addRegions, postStatus, posted, postEntries, readyStatus, madeReady}
+use Rattle.pair.specs.Sound.{setupUnfit, setupUnsound, numbersUnsound, ringUnsound, messageUnsound, readUnsound, pairUnsound}
+use Rattle.pair.proofs.Kept.{begun-sound, calls-sound}
+use Rattle.segment.specs.Message.{carries, carriedLength, packetsOf}
+use Rattle.segment.specs.declared.Request.the-variants.{Send, SendImmediate, Write, WriteImmediate}
+use Rattle.protocol.proofs.Kept.{steady}
+use Rattle.unreliable.specs.Message.{Standing}
+use Rattle.unreliable.specs.Example.{setup, region, calls, made, message, fresh, Met, AllMet, Delivered}
+use Rattle.unreliable.proofs.Whole.{handed-whole}
+
+sound : SetupSound setup
+unfolding setup
+sound = (record { pmtu = inl refl; service = inr refl; ours = omega arith; theirs = omega arith; start = omega arith; pkey = λ e. absurd (omega arith); timer = omega arith }, omega arith)
+
+made-sound : WholeSound made
+unfolding made calls
+made-sound =
+    calls-sound (begun setup [] (replicate 16 (replicate 3 0)) (replicate 16 (replicate 2 0))) calls (tt, (tt, (tt, tt)))
+    (begun-sound setup [] (replicate 16 (replicate 3 0)) (replicate 16 (replicate 2 0)) sound refl refl)
+
+is-standing : Standing made
+unfolding made setup calls region calledAll called begun setUp setUpStatus setUpRegions addStatus addRegions postStatus posted postEntries readyStatus madeReady executed statusNumber freshPair setupUnfit setupUnsound numbersUnsound ringUnsound messageUnsound readUnsound pairUnsound pmtuFits otherService outside pastTop regionOutside firstFrom sought regionRow entryRow slotAt
+is-standing = record { steady = steady made made-sound; unreliable = refl; ready = refl; idle = refl }
+
+room : (i : ℕ) → 24 ≤ length (replicate {A = ℕ} 24 0)
+room i = omega arith
+
+pub all-met : AllMet
+unfolding fresh made setup calls region message calledAll called begun setUp setUpStatus setUpRegions addStatus addRegions postStatus posted postEntries readyStatus madeReady executed statusNumber freshPair setupUnfit setupUnsound numbersUnsound ringUnsound messageUnsound readUnsound pairUnsound pmtuFits otherService outside pastTop regionOutside firstFrom sought regionRow entryRow slotAt regionOf pkeysMatch fullMember
+all-met =
+    record {
+      send =
+          record {
+            comes = record { standing = is-standing; memory = refl; outputs = room; first24 = omega arith; addressed = record { limit = omega arith; service = refl; pmtu = refl; dest = refl; match = refl; pkey = omega arith; widths = tt }; carries = tt };
+            allowed = refl;
+            supplied = record { some = λ e. omega arith; long = omega arith };
+          };
+      sendImmediate =
+          record {
+            comes = record { standing = is-standing; memory = refl; outputs = room; first24 = omega arith; addressed = record { limit = omega arith; service = refl; pmtu = refl; dest = refl; match = refl; pkey = omega arith; widths = omega arith }; carries = tt };
+            allowed = refl;
+            supplied = record { some = λ e. omega arith; long = omega arith };
+          };
+      write =
+          record {
+            comes = record { standing = is-standing; memory = refl; outputs = room; first24 = omega arith; addressed = record { limit = omega arith; service = refl; pmtu = refl; dest = refl; match = refl; pkey = omega arith; widths = (omega arith, omega arith) }; carries = tt };
+            allowed = (refl, inr (region, refl, refl, omega arith, omega arith));
+            supplied = record { some = λ e. omega arith; long = tt };
+          };
+      writeImmediate =
+          record {
+            comes = record { standing = is-standing; memory = refl; outputs = room; first24 = omega arith; addressed = record { limit = omega arith; service = refl; pmtu = refl; dest = refl; match = refl; pkey = omega arith; widths = ((omega arith, omega arith), omega arith) }; carries = tt };
+            allowed = (refl, inl refl);
+            supplied = record { some = λ e. omega arith; long = tt };
+          };
+    }
+
+pub is-delivered : Delivered
+unfolding fresh message packetsOf carriedLength carries pieces
+is-delivered =
+    let M = all-met .sendImmediate in
+    (refl, handed-whole _ (message (SendImmediate 77) 600) _ fresh (M .comes) (M .allowed) (M .supplied))
