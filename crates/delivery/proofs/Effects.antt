@@ -16,10 +16,11 @@ use Rattle.pair.specs.declared.OpenMessage.{OpenMessage}
 use Rattle.pair.specs.declared.Pair.{Pair}
 use Rattle.protocol.specs.Apply.{pairBy, executedPair, memoryBy, msnBy, readBy, entriesBy}
 use Rattle.protocol.specs.Apply as apply
+use Rattle.protocol.specs.Calls.{reports}
 use Rattle.protocol.specs.declared.Decision.{Decision}
 use Rattle.delivery.specs.Stream.{Message, packetCount, Slot, slot, span, along}
 use Rattle.delivery.specs.Plain.{Plain, takes, completionFor, landed, isRead, heldNow, waitingNow, isLast, needing, perform}
-use Rattle.delivery.specs.Demand.{Run, reports, AllLongEnough, entryOf}
+use Rattle.delivery.specs.Demand.{Run, AllLongEnough, entryOf}
 use Rattle.delivery.proofs.Chain.{Turn, further, along-suc}
 use Rattle.delivery.proofs.Rel.{IsOf, Holding, Under, Link, stepBy}
 

@@ -23,10 +23,10 @@ use Rattle.segment.specs.Claims.{kindNumber}
 use Rattle.request.specs.Verdict.{netOf, current}
 use Rattle.protocol.specs.Decide.{noCompletion, completes, completionOf, grown, placing, placeOf}
 use Rattle.protocol.specs.Apply.{memoryBy, readBy}
+use Rattle.protocol.specs.Calls.{reports}
 use Rattle.protocol.specs.declared.Completion.{Completion}
 use Rattle.delivery.specs.Stream.{Slot, span, packetAt}
 use Rattle.delivery.specs.Plain.{takes, completionFor, isLast, isRead}
-use Rattle.delivery.specs.Demand.{reports}
 use Rattle.delivery.proofs.Chain.{Stands, further}
 use Rattle.delivery.proofs.Cutting.{headerFor, netFor, placeFor, cutPacket, carried-is, sizes}
 use Rattle.delivery.proofs.Rel.{IsOf, Under}

@@ -14,11 +14,12 @@ use Rattle.segment.specs.Claims.{kindNumber}
 use Rattle.segment.specs.declared.Request.{Request}
 use Rattle.segment.specs.declared.Request.the-variants.{Send, SendImmediate, Write, WriteImmediate, Read, CmpSwap, FetchAdd}
 use Rattle.protocol.specs.Apply.{pairBy, memoryBy, savedBy, with}
+use Rattle.protocol.specs.Calls.{reports}
 use Rattle.protocol.specs.declared.Completion.{Completion}
 use Rattle.protocol.specs.declared.Decision.{Decision}
 use Rattle.delivery.specs.Stream.{Message, Slot, slot, along}
 use Rattle.delivery.specs.Plain.{Plain, sending}
-use Rattle.delivery.specs.Demand.{Run, reports, AllLongEnough, entryOf}
+use Rattle.delivery.specs.Demand.{Run, AllLongEnough, entryOf}
 use Rattle.delivery.proofs.Operands.{addressOf, keyOf, namedOf}
 
 -- the message u is of the kind k, with so many bytes placed, and names the bytes

@@ -20,9 +20,10 @@ use Rattle.request.specs.Verdict.{keySpan, spot, current}
 use Rattle.protocol.specs.Kept.{Steady}
 use Rattle.protocol.specs.Decide.{noCompletion, regionFor, accepting, swapping}
 use Rattle.protocol.specs.Apply.{memoryBy, readBy, entriesBy}
+use Rattle.protocol.specs.Calls.{reports}
 use Rattle.delivery.specs.Stream.{Message, packetCount, Slot, slot, span, packetAt}
 use Rattle.delivery.specs.Plain.{Plain, lies, takes, completionFor, firstOf, needing, isLast, heldNow, waitingNow}
-use Rattle.delivery.specs.Demand.{Run, reports, entryOf}
+use Rattle.delivery.specs.Demand.{Run, entryOf}
 use Rattle.delivery.proofs.Chain.{Stands, Good}
 use Rattle.delivery.proofs.Cutting.{placeFor, cutPacket}
 use Rattle.delivery.proofs.Operands.{addressOf, keyOf}

@@ -1,7 +1,7 @@
 -- Exactly once, in order: for every list of calls the pair's run and the plain run agree.
 use Prim.Native.Nat.{ℕ, _+_, _%_, _^_, _≤_, _<_}
 use mathlib.Core.Path.{_≡_}
-use mathlib.Core.Bool.{Bool, true, false, cond}
+use mathlib.Core.Bool.{Bool, true, false}
 use mathlib.Core.List.{List, [], _∷_, _++_, map}
 use mathlib.Core.Logic.{_⊎_}
 use lib.ListN.{length, getD}
@@ -20,7 +20,7 @@ use Rattle.segment.specs.declared.Request.{Request}
 use Rattle.segment.specs.declared.Request.the-variants.{Send, SendImmediate, Write, WriteImmediate, Read, CmpSwap, FetchAdd}
 use Rattle.protocol.specs.Inbound.{inbound, inboundMemory}
 use Rattle.protocol.specs.Response.{nextResponse}
-use Rattle.protocol.specs.Calls.{received, drained}
+use Rattle.protocol.specs.Calls.{received, drained, reports}
 use Rattle.protocol.specs.declared.Completion.{Completion}
 use Rattle.delivery.specs.Stream.{Message, Slot, slot, stream, packetAt, along}
 use Rattle.delivery.specs.Plain.{Plain, Call, account, plain, start}
@@ -31,9 +31,6 @@ pub record Run : Type 0 where
   pub whole : Whole
   pub memory : List ℕ
   pub completions : List Completion
-
-abbrev pub reports : Completion → List Completion
-reports c = cond (c .some) (c ∷ []) []
 
 -- the bytes p are handed in
 abbrev pub taken : Run → List ℕ → List ℕ → Run

@@ -79,7 +79,7 @@ held q S e = go (S .message)
     go (inr (inl z)) = z .1
     go (inr (inr z)) = let k : q .message .kind ≡ 6 = z .0 in absurd (omega arith)
 
-some-entry : (q : Pair) (p : Packet) → Sound q → outOfSequence (q .message .kind) (p .kind) (p .place) ≡ false
+pub some-entry : (q : Pair) (p : Packet) → Sound q → outOfSequence (q .message .kind) (p .kind) (p .place) ≡ false
     → noneWaiting (p .kind) (p .place) (p .operands .immediate) (q .message .kind) (q .entries .count) ≡ false
     → usesEntry (p .kind) (p .operands .immediate) ≡ true
     → 1 ≤ q .entries .count

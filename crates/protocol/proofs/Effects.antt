@@ -251,7 +251,7 @@ module _ (q : Pair) (regions saved : List (List ℕ)) (m p out : List ℕ) where
         taken = λ h. ap (λ x. x .expected) e ∙ uc h;
         memory = (d .at, omega (arith, w, payload-most), ap (placed m (d .at)) payload-by);
         ends = λ h. (ap (λ x. x .msn) e ∙ ended (k .place) h, ap (λ x. x .message) e ∙ message-by t (k .place) (netOf k) h);
-        onward = λ h. (ap (λ x. x .msn) e ∙ goes-on (k .place) h, silent-by k t (getD entry 0 0) h);
+        onward = λ h. (ap (λ x. x .msn) e ∙ goes-on (k .place) h, silent-by k t _ h);
         completes = λ h. ap (λ x. x .entries) e ∙ entries-by (d .completion .some) true h;
         silent = λ h. ap (λ x. x .entries) e ∙ entries-by (d .completion .some) false h;
         read = ap (λ x. x .read) e;

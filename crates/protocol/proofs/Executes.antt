@@ -198,8 +198,8 @@ module _ (w : Whole) (W : Steady w) where
       placing-does c =
           record {
             number = acks (p .ackreq);
-            entry = λ e. done-entry (sym (same (completes (p .kind) (p .place) (p .operands .immediate))) ∙ e);
-            message = subst (λ t. Opens w t (grown (p .place) message (netOf p))) (sym (same (completes (p .kind) (p .place) (p .operands .immediate)))) (opens c);
+            entry = λ e. done-entry (sym (same (completes (p .kind) (p .place) (p .operands .immediate)) _) ∙ e);
+            message = subst (λ t. Opens w t (grown (p .place) message (netOf p))) (sym (same (completes (p .kind) (p .place) (p .operands .immediate)) _)) (opens c);
             read = inl refl;
             psn = λ e. absurd (true≢false (sym e));
           }
@@ -208,18 +208,18 @@ module _ (w : Whole) (W : Steady w) where
           acks true = refl
           acks false = refl
 
-          same : (t : Bool)
+          same : (t : Bool) (number : ℕ)
               → cond t
               (record {
                 some = true;
-                number = getD entry 0 0;
+                number = number;
                 length = cond (eqb (p .kind) 0) (message .placed + netOf p) (message .length);
                 immediate = p .operands .immediate;
                 value = p .operands .value;
               })
               noCompletion .some ≡ t
-          same true = refl
-          same false = refl
+          same true number = refl
+          same false number = refl
 
       module _ (n : p .psn .0 < 2 ^ 24) where
         accepting-does : p .kind ≡ 12 → Does w (accepting p message (w .pair .message) region (w .pair .setup .pmtu))

@@ -17,3 +17,4 @@ pub mod Answers
 pub mod Ways
 pub mod Spans
 pub mod Reasons
+pub mod Uses

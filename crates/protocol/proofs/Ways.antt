@@ -68,7 +68,6 @@ pub data Way (q : Pair) (regions entries : List (List ℕ)) (k : Packet) : Decis
       → Way q regions entries k (placing k (current (q .message) k) (headEntry q entries) (regionBy q regions k))
   exchanges : Sound q → codeBy q regions entries k ≡ 0 → carrying (k .kind) ≡ false → eqb (k .kind) 12 ≡ false
       → Way q regions entries k (swapping k (current (q .message) k) (q .message) (regionBy q regions k))
-
   delivers : Sound q → (n : ℕ) → codeBy (viewed (k .place) q) regions entries k ≡ 0 → carrying (k .kind) ≡ true
       → Way q regions entries k (unanswered n (placing k (current (q .message) k) (headEntry q entries) (regionBy q regions k)))
 

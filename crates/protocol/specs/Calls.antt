@@ -1,7 +1,9 @@
 -- The pair with its tables, before and after a call of the responder.
 use Prim.Native.Nat.{ℕ}
-use mathlib.Core.List.{List}
+use mathlib.Core.Bool.{cond}
+use mathlib.Core.List.{List, [], _∷_}
 use Rattle.pair.specs.Calls.{Whole}
+use Rattle.protocol.specs.declared.Completion.{Completion}
 use Rattle.protocol.specs.Inbound.{inbound, inboundSaved}
 use Rattle.protocol.specs.Response.{nextResponse}
 
@@ -19,3 +21,7 @@ received w m p out =
 unfoldable pub drained : Whole → List ℕ → List ℕ → Whole
 drained w m out =
     record { pair = nextResponse (w .pair) m out .pair; regions = w .regions; entries = w .entries; saved = w .saved }
+
+-- what the host is told of by a call: one completion or none
+abbrev pub reports : Completion → List Completion
+reports c = cond (c .some) (c ∷ []) []

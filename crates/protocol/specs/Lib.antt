@@ -9,3 +9,4 @@ pub mod Effects
 pub mod Reads
 pub mod Replies
 pub mod Answers
+pub mod Entries

@@ -36,9 +36,10 @@ use Rattle.protocol.specs.declared.Completion.{Completion}
 use Rattle.protocol.proofs.Views.{current-closed, same-code}
 use Rattle.protocol.proofs.Sizes.{inbound-lengths}
 use Rattle.protocol.proofs.Kept.{inbound-steady}
+use Rattle.protocol.specs.Calls.{reports}
 use Rattle.delivery.specs.Stream.{Message, Slot, packetCount, packetAt}
 use Rattle.delivery.specs.Plain.{takes, needs, needing, isLast, none, completionFor, lies}
-use Rattle.delivery.specs.Demand.{Run, reports, taken, Permitted, AtLeast, entryOf}
+use Rattle.delivery.specs.Demand.{Run, taken, Permitted, AtLeast, entryOf}
 use Rattle.delivery.proofs.Chain.{Served, Stands}
 use Rattle.delivery.proofs.Cutting.{placeFor, cutPacket, psn-small}
 use Rattle.delivery.proofs.Places.{starts-at}

@@ -35,8 +35,9 @@ use Rattle.protocol.proofs.Ways.{branch}
 use Rattle.protocol.proofs.Refusals.{inbound-answered}
 use Rattle.protocol.proofs.Sizes.{inbound-lengths}
 use Rattle.protocol.proofs.Kept.{inbound-steady}
+use Rattle.protocol.specs.Calls.{reports}
 use Rattle.delivery.specs.Stream.{Message, Slot, packetCount, packetAt}
-use Rattle.delivery.specs.Demand.{Run, reports, taken, Addressed}
+use Rattle.delivery.specs.Demand.{Run, taken, Addressed}
 use Rattle.delivery.proofs.Chain.{Sent}
 use Rattle.delivery.proofs.Cutting.{placeFor, cutPacket, psn-small}
 use Rattle.delivery.proofs.Places.{starts-at, ends-at}

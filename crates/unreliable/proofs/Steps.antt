@@ -28,14 +28,14 @@ use Rattle.request.specs.declared.Packet.{Packet}
 use Rattle.protocol.specs.Decide.{orDrop, inboundRefusal, decided, packetDecision, headEntry, regionFor, orphaned, strays, closedBy, placing, unanswered, delivering, ucSettled, ucDecision}
 use Rattle.protocol.specs.Apply.{executedPair, pairBy, memoryBy, savedBy, savedRingBy, entriesBy, msnBy, readBy, actsAtomic, after}
 use Rattle.protocol.specs.Answers.{Willing}
-use Rattle.protocol.specs.Calls.{received}
+use Rattle.protocol.specs.Calls.{received, reports}
 use Rattle.protocol.specs.Inbound.{decision, inbound, inboundMemory, inboundSaved, outcomeBy}
 use Rattle.protocol.specs.declared.Completion.{Completion}
 use Rattle.protocol.specs.declared.Decision.{Decision}
 use Rattle.protocol.proofs.Answers.{goes}
 use Rattle.protocol.proofs.Views.{number-taken}
 use Rattle.delivery.specs.Stream.{Slot, packetCount, packetAt}
-use Rattle.delivery.specs.Demand.{Run, reports, taken}
+use Rattle.delivery.specs.Demand.{Run, taken}
 use Rattle.delivery.proofs.Chain.{Sent}
 use Rattle.delivery.proofs.Cutting.{placeFor, cutPacket, admits, is-packet}
 
