@@ -49,7 +49,7 @@ pub header-dropped : HeaderDropped
 unfolding inbound outcomeBy decision decided quietly statusNumber
 header-dropped q regions entries saved m p out W reason e = rw (goes q m out W, e)
 
-looked : (q : Pair) (regions entries saved : List (List ℕ)) (m p out : List ℕ) → Willing q m out → (h : Header) → headerBy q p ≡ read.Accepted h
+pub looked : (q : Pair) (regions entries saved : List (List ℕ)) (m p out : List ℕ) → Willing q m out → (h : Header) → headerBy q p ≡ read.Accepted h
     → statusNumber (inbound q regions entries saved m p out .status)
     ≡ statusNumber (packetDecision q regions entries saved (packetOf h (length p)) .status)
 unfolding inbound outcomeBy decision decided

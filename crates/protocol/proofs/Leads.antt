@@ -29,6 +29,7 @@ use Rattle.protocol.specs.declared.Decision.{Decision}
 use Rattle.protocol.specs.Decide.{noPsn, still, quietly, acknowledging, reading, headEntry}
 use Rattle.protocol.specs.Apply.{actsAtomic, savedRingBy, ringTaken, entriesBy, msnBy, readBy, executedPair, with, closing, after, pairBy}
 use Rattle.protocol.specs.Kept.{Steady}
+use Rattle.protocol.proofs.Views.{closes}
 
 -- the same tables beside another pair
 abbrev pub beside : Whole → Pair → Whole
@@ -81,7 +82,8 @@ with-steady w state mark a W h r =
 pub closed-steady : (w : Whole) → Steady w → Steady (beside w (closing (w .pair)))
 closed-steady w W =
     let S = W .pair in
-    record {
+    subst (λ q. Steady (beside w q)) (sym (closes (w .pair)))
+    (record {
       pair =
           record {
             setup = S .setup;
@@ -96,7 +98,7 @@ closed-steady w W =
       regions = W .regions;
       entries = W .entries;
       held = λ e. absurd (omega arith);
-    }
+    })
 
 -- a steady pair that has saved no more
 pub record Lasting (w : Whole) (q : Pair) : Type 0 where

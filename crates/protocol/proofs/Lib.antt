@@ -18,3 +18,6 @@ pub mod Ways
 pub mod Spans
 pub mod Reasons
 pub mod Uses
+pub mod Unreliable
+pub mod Causes
+pub mod Entries

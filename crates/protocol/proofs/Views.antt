@@ -17,9 +17,60 @@ use Rattle.pair.specs.Claims.{Sound, MessageSound}
 use Rattle.pair.specs.declared.Setup.{Setup}
 use Rattle.pair.specs.declared.OpenMessage.{OpenMessage}
 use Rattle.pair.specs.declared.Pair.{Pair}
+use Rattle.pair.specs.declared.Status.the-variants as status
 use Rattle.request.specs.Verdict.{outOfSequence, current, requestCode, expectedCode}
 use Rattle.request.specs.declared.Packet.{Packet}
-use Rattle.protocol.specs.Decide.{orphaned, strays, closedBy}
+use Rattle.protocol.specs.declared.Decision.{Decision}
+use Rattle.protocol.specs.Decide.{quietly, orphaned, strays, closedBy, ucSettled, ucDecision}
+use Rattle.protocol.specs.Apply.{closing}
+
+-- a First or Only closes the open message, a Middle or Last leaves it open
+pub closed-starts : (place : ℕ) (under : OpenMessage) → starts place ≡ true → closedBy place under ≡ noMessage
+unfolding closedBy
+closed-starts place under e = λ i. cond (e i) noMessage under
+
+pub closed-onward : (place : ℕ) (under : OpenMessage) → starts place ≡ false → closedBy place under ≡ under
+unfolding closedBy
+closed-onward place under e = λ i. cond (e i) noMessage under
+
+-- a close leaves all but the message as it was
+pub closes : (q : Pair)
+    → closing q
+    ≡ (record {
+      setup = q .setup;
+      state = q .state;
+      expected = q .expected;
+      msn = q .msn;
+      mark = q .mark;
+      message = noMessage;
+      entries = q .entries;
+      read = q .read;
+      saved = q .saved;
+    })
+closes q = refl
+
+-- none open, then astray, then checked
+module _ (p : Packet) (s : Setup) (expected : Psn) (under : OpenMessage) (count : ℕ) (entry region : List ℕ) where
+  abbrev D : Decision
+  D = ucDecision p s expected under count entry region
+
+  abbrev checked : Decision
+  checked = ucSettled (requestCode s (closedBy (p .place) under) p count entry region) p expected under entry region
+
+  abbrev ordered : Bool → Bool → Decision
+  ordered orphan stray = cond orphan (quietly status.Dropped) (cond stray (quietly status.Abandoned) checked)
+
+  pub orphan-dropped : orphaned (p .place) (under .kind) ≡ true → D ≡ quietly status.Dropped
+  unfolding ucDecision
+  orphan-dropped o = λ i. ordered (o i) (strays p expected (under .kind))
+
+  pub stray-abandoned : orphaned (p .place) (under .kind) ≡ false → strays p expected (under .kind) ≡ true → D ≡ quietly status.Abandoned
+  unfolding ucDecision
+  stray-abandoned o t = λ i. ordered (o i) (t i)
+
+  pub others-checked : orphaned (p .place) (under .kind) ≡ false → strays p expected (under .kind) ≡ false → D ≡ checked
+  unfolding ucDecision
+  others-checked o t = λ i. ordered (o i) (t i)
 
 -- the pair as a packet of this place finds it
 abbrev pub viewed : ℕ → Pair → Pair

@@ -10,3 +10,4 @@ pub mod Reads
 pub mod Replies
 pub mod Answers
 pub mod Entries
+pub mod Unreliable
