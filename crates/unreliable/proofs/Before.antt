@@ -102,7 +102,7 @@ apart-from m first x (a ∷ rest) uc B A F =
     go (inl (e, f)) (inr z) = inr (λ i o h g. z i o h (ap (λ p. p .0) (sym f) ∙ g))
     go (inr (inl e)) A = inl e
     go (inr (inr e)) A =
-        inr (λ i o h g. F .0 (i - 1) (omega arith) (before-it first (bthOf (a .packet) .psn .0) (y .whole .pair .expected .0) i (psn-below (a .packet) (B .0)) (ap (λ p. p .0) e) o g))
+        inr (λ i o h g. F .0 (i - 1) (omega arith) (before-it first (bthOf (a .packet) .psn .0) (y .whole .pair .expected .0) i (psn-below (a .packet) (B .0)) (ap (λ p. p .0) e) (omega (arith, o)) g))
 
 pub apart-after : ApartAfter
 apart-after m first x before uc B e F = apart-from m first x before uc B (inl e) F

@@ -226,7 +226,7 @@ module _ (w : Whole) (m : Message) (first : Psn) (P : Permitted (w .pair .setup)
 
     count-is : w .pair .entries .count ≡ length (held i ++ waiting)
     count-is =
-        let l = held-there (m .request) (eqb i 0) (firstEntry w) (w .pair .entries .count) (sup .some) in
+        let l = held-there (m .request) (eqb i 0) (firstEntry w) (w .pair .entries .count) (λ e. omega (arith, sup .some e)) in
         omega (arith, length-append (held i) waiting, length-replicate (w .pair .entries .count - length (held i)) (firstEntry w), l)
 
     wanted : (needing t && none waiting) ≡ false

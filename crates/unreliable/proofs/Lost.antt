@@ -64,7 +64,7 @@ module _ (outs : ℕ → List ℕ) (m : Message) (first : Psn) (x : Run) (K : Co
   q = x .whole .pair
 
   H : Sent (x .whole .pair .setup) t
-  H = record { addressed = K .addressed; served = inr (K .standing .unreliable, K .carries); inside = h; first = K .first24 }
+  H = record { addressed = K .addressed; served = inr (K .standing .unreliable, K .carries); inside = h; first = omega (arith, K .first24) }
 
   abbrev entry : List ℕ
   entry = headEntry (x .whole .pair) (x .whole .entries)

@@ -197,12 +197,13 @@ handed-whole outs m first x K allowed sup =
     let w = x .whole in
     let P : Permitted (w .pair .setup) (w .regions) m = record { allowed = allowed; addressed = K .addressed } in
     let S = K .standing in
-    let n : 1 ≤ packetCount m = counted w m first P (K .carries) (K .first24) S sup .some in
-    let G = begins w m first P (K .carries) (K .first24) S sup n (w .pair .expected) (w .pair .message) in
+    let small : first .0 < 2 ^ 24 = omega (arith, K .first24) in
+    let n : 1 ≤ packetCount m = counted w m first P (K .carries) small S sup .some in
+    let G = begins w m first P (K .carries) small S sup n (w .pair .expected) (w .pair .message) in
     let k = packetCount m - 1 in
     let e : suc k ≡ packetCount m = omega arith in
-    let b = bounded w m first P (K .carries) (K .first24) (S .unreliable) (S .ready) (S .idle) sup 0 n (w .pair .expected) (w .pair .msn) (w .pair .mark) (w .pair .message) (x .memory) (x .completions) G (S .steady) (K .memory) in
+    let b = bounded w m first P (K .carries) small (S .unreliable) (S .ready) (S .idle) sup 0 n (w .pair .expected) (w .pair .msn) (w .pair .mark) (w .pair .message) (x .memory) (x .completions) G (S .steady) (K .memory) in
     let none : x .memory ≡ put (x .memory) (target (m .request) (w .regions) (firstEntry w)) (take (0 * m .connection .pmtu) (m .bytes)) =
     sym (put-none (x .memory) (target (m .request) (w .regions) (firstEntry w)) (take (0 * m .connection .pmtu) (m .bytes)) (simp length-take (omega (arith, zero-mul (m .connection .pmtu))))) in
     subst (λ j. handed outs m first x 0 (replicate j true) ≡ delivered x m first) e
-    (rest w m first P (K .carries) (K .first24) S sup (x .memory) (x .completions) outs (K .outputs) b k 0 (omega arith) (w .pair .expected) (w .pair .mark) (w .pair .message) (x .memory) G none (S .steady) (K .memory))
+    (rest w m first P (K .carries) small S sup (x .memory) (x .completions) outs (K .outputs) b k 0 (omega arith) (w .pair .expected) (w .pair .mark) (w .pair .message) (x .memory) G none (S .steady) (K .memory))
