@@ -1,5 +1,5 @@
-// What a request leads to: a decision, which changes nothing yet. The definitions and their
-// laws stand in the crate protocol.
+// What a request leads to: a decision, which changes nothing yet, by the rules of the pair's service. The definitions and
+// their laws stand in the crate protocol.
 mod again;
 mod execute;
 mod unreliable;

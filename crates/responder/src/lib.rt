@@ -41,8 +41,8 @@ fn told(pair: Pair, d: Decision) -> Outcome
     }
 }
 
-// Takes a packet: the header checks, the decision, and what it does to memory, saved atomics, pair and output. The rules
-// are those of a reliable connection.
+// Takes a packet: the header checks, the decision, and what it does to memory, saved atomics, pair and output. The pair's
+// service says by whose rules it is decided.
 pub fn inbound(
     pair: Pair,
     regions: &[[u64; 7]; 16],
