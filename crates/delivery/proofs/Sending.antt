@@ -1,15 +1,14 @@
 -- Packet k of a SEND is executed.
-use Prim.Native.Nat.{ℕ, suc, _+_, _-_, _*_, _≤_, _<_}
+use Prim.Native.Nat.{ℕ, _+_, _-_, _*_, _≤_, _<_}
 use mathlib.Core.Path.{_≡_, refl, sym, ap, subst, _∙_}
 use mathlib.Core.Bool.{Bool, true, false, cond, _&&_, true≢false}
 use mathlib.Core.List.{List, [], _∷_, _++_, map}
 use native.Mathlib.Omega.{arith}
 use lib.Dec.{eqb}
 use lib.ListN.{length, getD, take, drop, take-append-drop}
-use borrow.Author.Tests.{eqb-true, ltb-false}
+use borrow.Author.Tests.{ltb-false}
 use Rattle.laws.proofs.Tests.{and-true}
-use Rattle.memory.specs.Memory.{put, placed}
-use Rattle.memory.proofs.Put.{placed-put}
+use Rattle.memory.specs.Memory.{put}
 use Rattle.pieces.specs.Pieces.{ends, pieceAt}
 use Rattle.table.specs.Table.{outside}
 use Rattle.table.specs.View.{inRing}
@@ -19,22 +18,21 @@ use Rattle.pair.specs.declared.OpenMessage.{OpenMessage}
 use Rattle.segment.specs.Claims.{kindNumber}
 use Rattle.request.specs.Verdict.{netOf, current}
 use Rattle.protocol.specs.Kept.{Steady}
-use Rattle.protocol.specs.Decide.{headEntry, regionFor, completes, completionOf, grown, placeOf, placing}
+use Rattle.protocol.specs.Decide.{headEntry, regionFor, completionOf, grown, placing}
 use Rattle.protocol.specs.Apply.{memoryBy, entriesBy}
 use Rattle.protocol.specs.Calls.{reports}
 use Rattle.delivery.specs.Stream.{Message, packetCount, Slot, slot, packetAt}
 use Rattle.delivery.specs.Plain.{Plain, takes, completionFor, none, firstOf, needing, isLast, heldNow, waitingNow}
 use Rattle.delivery.specs.Demand.{Run, AllLongEnough, LongEnough, entryOf}
 use Rattle.delivery.proofs.Chain.{Stands, Good}
-use Rattle.delivery.proofs.Cutting.{netFor, placeFor, cutPacket, sizes}
-use Rattle.delivery.proofs.Rel.{IsOf, Under, Link}
-use Rattle.delivery.proofs.Fitting.{net-total}
+use Rattle.delivery.proofs.Cutting.{placeFor, cutPacket}
+use Rattle.delivery.proofs.Rel.{Under, Link}
 use Rattle.delivery.proofs.Checks.{ends-is, now}
 use Rattle.delivery.proofs.Entries.{entries-by, count-is, head-is, entry-fits}
 use Rattle.delivery.proofs.Effects.{Does, under-next}
 use Rattle.delivery.proofs.Requests.{Carries, Sends}
 use Rattle.delivery.proofs.Landing.{send-lands, send-completes, send-long}
-use Rattle.delivery.proofs.Placing.{placing-told, placing-answers, placing-reads, net-is, placing-bytes, length-piece, grown-last, grown-more}
+use Rattle.delivery.proofs.Placing.{placing-told, placing-answers, placing-reads, grown-last, grown-more}
 
 -- the first of the entries that wait, where some do
 first-waiting : (ms : List Message) (es : List Entry) → none es ≡ false → AllLongEnough ms es

@@ -1,42 +1,36 @@
 -- Packet k of a WRITE is executed.
-use Prim.Native.Nat.{ℕ, suc, _+_, _-_, _*_, _≤_, _<_}
+use Prim.Native.Nat.{ℕ, _+_, _-_, _*_, _≤_, _<_}
 use mathlib.Core.Path.{_≡_, refl, sym, ap, subst, _∙_}
-use mathlib.Core.Bool.{Bool, true, false, cond, _&&_, _||_, true≢false}
+use mathlib.Core.Bool.{Bool, true, false, cond, _&&_, true≢false}
 use mathlib.Core.List.{List, [], _∷_, _++_, map}
 use native.Mathlib.Omega.{arith}
 use lib.Dec.{eqb}
 use lib.ListN.{length, getD, take, drop}
-use borrow.Author.Tests.{eqb-true, eqb-false}
-use Rattle.laws.proofs.Auto.{tests}
-use Rattle.memory.specs.Memory.{put, placed}
-use Rattle.memory.proofs.Put.{placed-put, put-none, placed-none}
+use Rattle.memory.specs.Memory.{put}
 use Rattle.pieces.specs.Pieces.{ends, pieceAt}
-use Rattle.table.specs.View.{inRing, regionOf}
+use Rattle.table.specs.View.{inRing}
 use Rattle.table.specs.declared.Entry.{Entry}
 use Rattle.pair.specs.Claims.{SetupFit}
 use Rattle.pair.specs.declared.OpenMessage.{OpenMessage}
 use Rattle.segment.specs.Claims.{kindNumber}
 use Rattle.request.specs.Verdict.{netOf, current}
 use Rattle.protocol.specs.Kept.{Steady}
-use Rattle.protocol.specs.Decide.{headEntry, regionFor, completes, completionOf, grown, placeOf, placing}
+use Rattle.protocol.specs.Decide.{headEntry, regionFor, completionOf, grown, placing}
 use Rattle.protocol.specs.Apply.{memoryBy, entriesBy}
 use Rattle.protocol.specs.Calls.{reports}
 use Rattle.delivery.specs.Stream.{Message, packetCount, Slot, slot, packetAt}
 use Rattle.delivery.specs.Plain.{Plain, lies, takes, completionFor, none, firstOf, needing, isLast, heldNow, waitingNow}
-use Rattle.delivery.specs.Demand.{Run, Lies, entryOf}
+use Rattle.delivery.specs.Demand.{Run, entryOf}
 use Rattle.delivery.proofs.Chain.{Stands, Good}
-use Rattle.delivery.proofs.Places.{Sizes}
-use Rattle.delivery.proofs.Cutting.{netFor, placeFor, cutPacket, sizes}
+use Rattle.delivery.proofs.Cutting.{placeFor, cutPacket}
 use Rattle.delivery.proofs.Operands.{addressOf, keyOf}
-use Rattle.delivery.proofs.Rel.{IsOf, Under, Link}
-use Rattle.delivery.proofs.Fitting.{net-total, write-right}
-use Rattle.delivery.proofs.Checks.{ends-is, says, now}
-use Rattle.delivery.proofs.Verdicts.{spot-is}
+use Rattle.delivery.proofs.Rel.{Under, Link}
+use Rattle.delivery.proofs.Checks.{ends-is}
 use Rattle.delivery.proofs.Entries.{entries-by, count-is, head-is}
 use Rattle.delivery.proofs.Effects.{Does, under-next}
 use Rattle.delivery.proofs.Requests.{Carries, Writes}
 use Rattle.delivery.proofs.Landing.{write-lands, write-completes, write-long}
-use Rattle.delivery.proofs.Placing.{placing-told, placing-answers, placing-reads, placing-bytes, length-piece, grown-last, grown-more}
+use Rattle.delivery.proofs.Placing.{placing-told, placing-answers, placing-reads, grown-last, grown-more}
 
 -- a message that took the entry at the head
 head-taken : (es : List Entry) → none es ≡ false → (firstOf (take 1 es) ≡ firstOf es) × (1 ≤ length es)

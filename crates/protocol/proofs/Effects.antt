@@ -2,7 +2,7 @@
 use Prim.Native.Nat.{ℕ, _+_, _-_, _≤_, _<_}
 use mathlib.Core.Path.{_≡_, refl, sym, ap, subst, _∙_}
 use mathlib.Core.Bool.{Bool, true, false, cond, _||_}
-use mathlib.Core.List.{List, [], _∷_}
+use mathlib.Core.List.{List, []}
 use mathlib.Core.Logic.{_⊎_, inl, inr}
 use native.Mathlib.Omega.{arith}
 use lib.Dec.{eqb}
@@ -40,7 +40,7 @@ use Rattle.protocol.specs.Decide.{noCompletion, noPsn, still, quietly, a
 use Rattle.protocol.specs.Apply.{memoryBy, actsAtomic, savedBy, savedRingBy, ringTaken, entriesBy, msnBy, readBy, executedPair, with, after, pairBy}
 use Rattle.protocol.specs.Reply.{answerBytes, valueBy, over, outBy}
 use Rattle.protocol.specs.Inbound.{outcomeBy, decision, inbound, inboundMemory, inboundSaved, inboundOut}
-use Rattle.protocol.specs.Effects.{Left, leaving, Silent, Still, Unchanged, Fixed, MarkAlone, ErrorAlone, Begun, Repeated, Abandons, Executes, Places, Accepts, OnWord, Swaps, Table, InboundTable, OneOf, InboundNumbers, UcNumbers}
+use Rattle.protocol.specs.Effects.{Left, leaving, Silent, Still, Unchanged, Fixed, MarkAlone, ErrorAlone, Begun, Repeated, Abandons, Executes, Places, Accepts, OnWord, Swaps, Table, InboundTable}
 use Rattle.protocol.proofs.Codes.Bare.{reads, swaps, adds}
 use Rattle.protocol.proofs.Codes.{Bare, class-is}
 use Rattle.protocol.proofs.Rows.Quiet.{dropped, short, range, unfinished}
@@ -454,66 +454,9 @@ module _ (q : Pair) (regions saved : List (List ℕ)) (m p out : List ℕ) where
       err (inl h) = is a l 17 (sym e ∙ h) x
       err (inr h) = is a l 18 (sym e ∙ h) x
 
-  -- which numbers there are
-  abbrev Rc : ℕ → Type 0
-  Rc = OneOf (0 ∷ 1 ∷ 2 ∷ 3 ∷ 4 ∷ 5 ∷ 16 ∷ 17 ∷ 18 ∷ 19 ∷ 32 ∷ 34 ∷ 35 ∷ [])
-
-  abbrev Uc : ℕ → Type 0
-  Uc = OneOf (0 ∷ 5 ∷ 6 ∷ 32 ∷ 34 ∷ 35 ∷ [])
-
-  quiet-numbers : (a : Status) → Quiet a → Rc (statusNumber a) × Uc (statusNumber a)
-  unfolding statusNumber
-  quiet-numbers a dropped = (inr (inr (inr (inr (inr (inl refl))))), inr (inl refl))
-  quiet-numbers a short =
-      (inr (inr (inr (inr (inr (inr (inr (inr (inr (inr (inr (inr (inl refl)))))))))))), inr (inr (inr (inr (inr (inl refl))))))
-  quiet-numbers a range = (inr (inr (inr (inr (inr (inr (inr (inr (inr (inr (inr (inl refl))))))))))), inr (inr (inr (inr (inl refl)))))
-  quiet-numbers a unfinished = (inr (inr (inr (inr (inr (inr (inr (inr (inr (inr (inl refl)))))))))), inr (inr (inr (inl refl))))
-
-  place-numbers : (b : Bool) → Rc (statusNumber (cond b status.Acknowledged status.Executed))
-  unfolding statusNumber
-  place-numbers true = inr (inl refl)
-  place-numbers false = inl refl
-
-  numbers : (d : Decision) → Row Quiet q regions saved (numbersOf p) d → Rc (statusNumber (d .status))
-  unfolding statusNumber quietly acknowledging placing swapping
-  numbers d (quiet a k) = quiet-numbers a k .0
-  numbers d ahead = inr (inr (inr (inr (inr (inr (inl refl))))))
-  numbers d invalid = inr (inr (inr (inr (inr (inr (inr (inl refl)))))))
-  numbers d access = inr (inr (inr (inr (inr (inr (inr (inr (inl refl))))))))
-  numbers d unready = inr (inr (inr (inr (inr (inr (inr (inr (inr (inl refl)))))))))
-  numbers d again = inr (inr (inr (inr (inl refl))))
-  numbers d (reread at n a s) = inr (inr (inr (inr (inl refl))))
-  numbers d (reswap v e) = inr (inr (inr (inr (inl refl))))
-  numbers d (place t entry region w) = place-numbers (numbersOf p .ackreq)
-  numbers d (begin at n a s) = inr (inr (inl refl))
-  numbers d (swap t region w) = inr (inr (inr (inl refl)))
-
-  uc-numbers : (d : Decision) → UcRow Quiet q (numbersOf p) d → Uc (statusNumber (d .status))
-  unfolding statusNumber quietly
-  uc-numbers d (unheard a k) = quiet-numbers a k .1
-  uc-numbers d (abandon h) = inr (inr (inl refl))
-  uc-numbers d (deliver t entry region w) = inl refl
-
-  any-numbers : (d : Decision) → AnyRow Quiet q regions saved (numbersOf p) d
-      → ((q .setup .service ≡ 1 → ⊥) → Rc (statusNumber (d .status))) × (q .setup .service ≡ 1 → Uc (statusNumber (d .status)))
-  any-numbers d (reliable c r) = (λ h. numbers d r, λ h. absurd (eqb-false (q .setup .service) 1 c h))
-  any-numbers d (unreliable c r) = (λ h. absurd (h (eqb-true (q .setup .service) 1 c)), λ h. uc-numbers d r)
-
 pub inbound-table : InboundTable
 unfolding inbound inboundMemory inboundSaved inboundOut decision leftBy outcomeBy
 inbound-table q regions entries saved m p out =
     let d = decided q regions entries saved (length m) p (length out) in
     table q regions saved m p out (d .status) (leftBy q saved m p out d) refl
     (any-effect q regions saved m p out d (decided-row q regions entries saved (length m) p (length out)))
-
-pub inbound-numbers : InboundNumbers
-unfolding inbound decision outcomeBy
-inbound-numbers q regions entries saved m p out =
-    let d = decided q regions entries saved (length m) p (length out) in
-    any-numbers q regions saved m p out d (decided-row q regions entries saved (length m) p (length out)) .0
-
-pub uc-answers : UcNumbers
-unfolding inbound decision outcomeBy
-uc-answers q regions entries saved m p out =
-    let d = decided q regions entries saved (length m) p (length out) in
-    any-numbers q regions saved m p out d (decided-row q regions entries saved (length m) p (length out)) .1

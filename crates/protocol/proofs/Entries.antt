@@ -25,7 +25,8 @@ use Rattle.protocol.specs.Inbound.{inbound}
 use Rattle.protocol.specs.Effects.{Left, inboundLeft, Unchanged, Abandons, Places, Table, OneOf}
 use Rattle.protocol.specs.Answers.{firstEntry, packetIn, Completes, Puts}
 use Rattle.protocol.specs.Unreliable.{UcKeeps, UcLeaves, EntryBack, TakenAgain}
-use Rattle.protocol.proofs.Effects.{inbound-table, uc-answers}
+use Rattle.protocol.proofs.Effects.{inbound-table}
+use Rattle.protocol.proofs.Numbers.{uc-answers}
 use Rattle.protocol.proofs.Refusals.{inbound-meant}
 use Rattle.protocol.proofs.Answers.{head-first}
 use Rattle.protocol.proofs.Spans.{inbound-puts}

@@ -8,6 +8,7 @@ pub mod Inside
 pub mod Views
 pub mod Rows
 pub mod Effects
+pub mod Numbers
 pub mod Sizes
 pub mod Refusals
 pub mod Replies

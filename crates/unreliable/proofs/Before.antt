@@ -1,21 +1,18 @@
 -- What came before the message: any bytes.
-use Prim.Native.Nat.{ℕ, zero, suc, _+_, _-_, _%_, _^_, _≤_, _<_}
+use Prim.Native.Nat.{ℕ, _+_, _-_, _%_, _^_, _<_}
 use mathlib.Core.Path.{_≡_, refl, sym, ap, subst, _∙_}
-use mathlib.Core.Bool.{Bool, true, false}
 use mathlib.Core.List.{List, [], _∷_}
 use mathlib.Core.Logic.{_⊎_, inl, inr}
 use native.Mathlib.Omega.{arith}
-use lib.Dec.{eqb}
 use lib.ListN.{length}
 use borrow.Author.Tests.{eqb-false}
-use Rattle.sequence.specs.Sequence.{distance, psnAfter}
+use Rattle.sequence.specs.Sequence.{psnAfter}
 use Rattle.sequence.specs.declared.Psn.{Psn}
 use Rattle.header.specs.Bytes.{Bytes}
 use Rattle.header.specs.Read.{bthOf, headerOf}
 use Rattle.pair.specs.Answer.{statusNumber}
-use Rattle.pair.specs.declared.Pair.{Pair}
 use Rattle.request.specs.Packet.{packetOf}
-use Rattle.protocol.specs.Decide.{decided, quietly, placing, unanswered}
+use Rattle.protocol.specs.Decide.{decided, quietly, placing}
 use Rattle.protocol.specs.Apply.{executedPair, pairBy, after, readBy}
 use Rattle.protocol.specs.declared.Decision.{Decision}
 use Rattle.protocol.proofs.Rows.Quiet.{dropped, short, range, unfinished}
@@ -24,7 +21,7 @@ use Rattle.protocol.proofs.Rows.AnyRow.{reliable, unreliable}
 use Rattle.protocol.proofs.Rows.{Quiet, UcRow, AnyRow, numbersOf, decided-row}
 use Rattle.protocol.proofs.Views.{number-taken}
 use Rattle.protocol.proofs.Kept.{inbound-steady, psn-below}
-use Rattle.delivery.specs.Stream.{Message, packetCount}
+use Rattle.delivery.specs.Stream.{Message}
 use Rattle.delivery.specs.Demand.{Run, taken}
 use Rattle.unreliable.specs.Message.{Standing, Apart, Arrival, heard, AllBytes, StandsOn, Foreign, ApartAfter}
 use Rattle.unreliable.proofs.Steps.{carriedOut, taken-is}

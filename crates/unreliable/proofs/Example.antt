@@ -1,11 +1,10 @@
 -- The closed instance: by computation, and by the theorem.
 use Prim.Native.Nat.{ℕ, _≤_}
-use mathlib.Core.Path.{_≡_, refl, sym, subst}
-use mathlib.Core.Bool.{true}
+use mathlib.Core.Path.{refl}
 use mathlib.Core.List.{[]}
 use mathlib.Core.Logic.{inl, inr}
 use native.Mathlib.Omega.{arith}
-use lib.ListN.{length, replicate, length-replicate}
+use lib.ListN.{length, replicate}
 use Rattle.header.specs.Check.{pkeysMatch, fullMember}
 use Rattle.header.specs.Read.{otherService}
 use Rattle.pieces.specs.Pieces.{pmtuFits, pieces}
@@ -19,10 +18,10 @@ use Rattle.pair.specs.Host.{setUpStatus, setUp, setUpRegions, addStatus, addReg
 use Rattle.pair.specs.Sound.{setupUnfit, setupUnsound, numbersUnsound, ringUnsound, messageUnsound, readUnsound, pairUnsound}
 use Rattle.pair.proofs.Kept.{begun-sound, calls-sound}
 use Rattle.segment.specs.Message.{carries, carriedLength, packetsOf}
-use Rattle.segment.specs.declared.Request.the-variants.{Send, SendImmediate, Write, WriteImmediate}
+use Rattle.segment.specs.declared.Request.the-variants.{SendImmediate}
 use Rattle.protocol.proofs.Kept.{steady}
 use Rattle.unreliable.specs.Message.{Standing}
-use Rattle.unreliable.specs.Example.{setup, region, calls, made, message, fresh, Met, AllMet, Delivered}
+use Rattle.unreliable.specs.Example.{setup, region, calls, made, message, fresh, AllMet, Delivered}
 use Rattle.unreliable.proofs.Whole.{handed-whole}
 
 sound : SetupSound setup

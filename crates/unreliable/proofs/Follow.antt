@@ -1,22 +1,20 @@
 -- Packet i of a permitted message, before a pair where it follows, is executed: what the run is then.
 use Prim.Native.Nat.{ℕ, zero, suc, _+_, _-_, _*_, _^_, _≤_, _<_}
 use mathlib.Core.Path.{_≡_, refl, sym, ap, subst, _∙_}
-use mathlib.Core.Bool.{Bool, true, false, cond, not, _&&_, _||_, true≢false}
+use mathlib.Core.Bool.{Bool, true, false, cond, _&&_, true≢false}
 use mathlib.Core.List.{List, [], _∷_, _++_}
 use mathlib.Core.Logic.{_⊎_, inl, inr}
 use native.Mathlib.Omega.{arith}
-use lib.Dec.{eqb, ltb}
+use lib.Dec.{eqb}
 use lib.ListN.{length, getD, replicate, length-append, length-replicate}
-use borrow.Author.Tests.{eq-eqb, ne-eqb, eqb-true, eqb-false, ltb-false}
-use Rattle.laws.proofs.Auto.{tests}
+use borrow.Author.Tests.{eqb-true, eqb-false, ltb-false}
 use Rattle.sequence.specs.Sequence.{distance, psnAfter}
 use Rattle.sequence.specs.declared.Psn.{Psn}
 use Rattle.sequence.specs.declared.Msn.{Msn}
 use Rattle.memory.specs.Memory.{put}
-use Rattle.pieces.specs.Pieces.{starts, ends, pieceAt}
+use Rattle.pieces.specs.Pieces.{pieceAt}
 use Rattle.table.specs.Table.{outside, slotAt}
 use Rattle.table.specs.declared.Entry.{Entry}
-use Rattle.table.specs.declared.Ring.{Ring}
 use Rattle.pair.specs.Calls.{Whole}
 use Rattle.pair.specs.Claims.{SetupFit}
 use Rattle.pair.specs.Pair.{noMessage}
@@ -25,11 +23,11 @@ use Rattle.pair.specs.declared.Pair.{Pair}
 use Rattle.segment.specs.Claims.{Carrier, kindNumber}
 use Rattle.segment.specs.declared.Request.{Request}
 use Rattle.segment.specs.declared.Request.the-variants.{Send, SendImmediate, Write, WriteImmediate, Read, CmpSwap, FetchAdd}
-use Rattle.request.specs.Verdict.{carrying, usesEntry, netOf, current, noneWaiting, requestCode, expectedCode}
+use Rattle.request.specs.Verdict.{carrying, usesEntry, netOf, current, requestCode, expectedCode}
 use Rattle.request.specs.declared.Packet.{Packet}
 use Rattle.protocol.specs.declared.Decision.{Decision}
-use Rattle.protocol.specs.Decide.{decided, headEntry, regionFor, closedBy, orphaned, strays, completionOf, grown, placing, unanswered}
-use Rattle.protocol.specs.Apply.{memoryBy, entriesBy, msnBy, ringTaken}
+use Rattle.protocol.specs.Decide.{decided, regionFor, closedBy, orphaned, strays, completionOf, grown, placing, unanswered}
+use Rattle.protocol.specs.Apply.{memoryBy, entriesBy, msnBy}
 use Rattle.protocol.specs.Answers.{Willing}
 use Rattle.protocol.specs.Kept.{Steady}
 use Rattle.protocol.specs.declared.Completion.{Completion}
@@ -39,10 +37,9 @@ use Rattle.protocol.proofs.Kept.{inbound-steady}
 use Rattle.protocol.specs.Calls.{reports}
 use Rattle.delivery.specs.Stream.{Message, Slot, packetCount, packetAt}
 use Rattle.delivery.specs.Plain.{takes, needs, needing, isLast, none, completionFor, lies}
-use Rattle.delivery.specs.Demand.{Run, taken, Permitted, AtLeast, entryOf}
-use Rattle.delivery.proofs.Chain.{Served, Stands}
+use Rattle.delivery.specs.Demand.{Run, taken, Permitted, AtLeast}
+use Rattle.delivery.proofs.Chain.{Stands}
 use Rattle.delivery.proofs.Cutting.{placeFor, cutPacket, psn-small}
-use Rattle.delivery.proofs.Places.{starts-at}
 use Rattle.delivery.proofs.Operands.{addressOf, keyOf, immediateOf}
 use Rattle.delivery.proofs.Rel.{IsOf, Holding, Under}
 use Rattle.delivery.proofs.Verdicts.{passes}
@@ -53,7 +50,7 @@ use Rattle.delivery.proofs.Requests.{Carries, Sends, Writes, send-carries, send
 use Rattle.delivery.proofs.Placing.{placing-told, grown-more}
 use Rattle.delivery.proofs.Landing.{in-place, send-lands, send-completes, send-long, write-lands, write-completes, write-long}
 use Rattle.unreliable.specs.Message.{firstEntry, Supplied, target}
-use Rattle.unreliable.proofs.Steps.{decided-is, taken-is, at, carriedOut, placed-out, delivers}
+use Rattle.unreliable.proofs.Steps.{decided-is, taken-is, at, placed-out, delivers}
 
 -- a SEND or a WRITE
 pub kinds : (r : Request) → Carrier r → Carries r × (Sends r ⊎ Writes r)

@@ -1,8 +1,8 @@
 -- A message of which packets are lost.
-use Prim.Native.Nat.{ℕ, zero, suc, _+_, _-_, _%_, _^_, _≤_, _<_}
+use Prim.Native.Nat.{ℕ, zero, suc, _+_, _-_, _^_, _≤_, _<_}
 use mathlib.Core.Path.{_≡_, refl, sym, ap, subst, _∙_}
-use mathlib.Core.Bool.{Bool, true, false, cond, not, _&&_, _||_, true≢false}
-use mathlib.Core.List.{List, [], _∷_, _++_, append-nil}
+use mathlib.Core.Bool.{Bool, true, false, not, _&&_, true≢false}
+use mathlib.Core.List.{List, [], _∷_, append-nil}
 use mathlib.Core.Logic.{_⊎_, inl, inr}
 use native.Mathlib.Omega.{arith}
 use lib.Dec.{eqb}
@@ -13,7 +13,6 @@ use Rattle.sequence.specs.Sequence.{distance, psnAfter}
 use Rattle.sequence.specs.declared.Psn.{Psn}
 use Rattle.sequence.proofs.Circle.{after-after, after-below}
 use Rattle.pieces.specs.Pieces.{starts, ends}
-use Rattle.pieces.specs.Claims.{Counted}
 use Rattle.pieces.proofs.Counting.{bounds}
 use Rattle.pair.specs.Answer.{statusNumber}
 use Rattle.pair.specs.Claims.{SetupFit}
@@ -26,8 +25,7 @@ use Rattle.segment.specs.declared.Request.{Request}
 use Rattle.segment.specs.declared.Request.the-variants.{Send, SendImmediate, Write, WriteImmediate, Read, CmpSwap, FetchAdd}
 use Rattle.request.specs.Verdict.{carrying, current, requestCode}
 use Rattle.protocol.specs.Decide.{decided, headEntry, regionFor, quietly, orphaned, strays, closedBy, abandoning, completes, completionOf, placing, unanswered, delivering, ucSettled, ucDecision}
-use Rattle.protocol.specs.Apply.{executedPair, pairBy, after, memoryBy, savedBy, savedRingBy, actsAtomic, readBy, entriesBy, msnBy}
-use Rattle.protocol.specs.Answers.{Willing}
+use Rattle.protocol.specs.Apply.{executedPair, pairBy, after, readBy, entriesBy, msnBy}
 use Rattle.protocol.specs.Inbound.{decision, inbound, outcomeBy}
 use Rattle.protocol.specs.declared.Decision.{Decision}
 use Rattle.protocol.proofs.Views.{number-taken}
@@ -35,13 +33,12 @@ use Rattle.protocol.proofs.Ways.{branch}
 use Rattle.protocol.proofs.Refusals.{inbound-answered}
 use Rattle.protocol.proofs.Sizes.{inbound-lengths}
 use Rattle.protocol.proofs.Kept.{inbound-steady}
-use Rattle.protocol.specs.Calls.{reports}
 use Rattle.delivery.specs.Stream.{Message, Slot, packetCount, packetAt}
 use Rattle.delivery.specs.Demand.{Run, taken, Addressed}
 use Rattle.delivery.proofs.Chain.{Sent}
 use Rattle.delivery.proofs.Cutting.{placeFor, cutPacket, psn-small}
 use Rattle.delivery.proofs.Places.{starts-at, ends-at}
-use Rattle.unreliable.specs.Message.{Standing, Comes, Apart, Lost, Untold, handed, HandedInPart}
+use Rattle.unreliable.specs.Message.{Comes, Untold, handed, HandedInPart}
 use Rattle.unreliable.proofs.Steps.{decided-is, taken-is, carriedOut}
 use Rattle.unreliable.proofs.Follow.{carries-bytes}
 use Rattle.unreliable.proofs.Whole.{packets-counted}

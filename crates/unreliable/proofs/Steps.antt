@@ -1,31 +1,23 @@
 -- A packet of the message, before a pair where it follows: the decision, and the run that it leaves.
-use Prim.Native.Nat.{ℕ, suc, _+_, _*_, _^_, _≤_, _<_}
-use mathlib.Core.Path.{_≡_, refl, sym, ap, subst, _∙_}
-use mathlib.Core.Bool.{Bool, true, false, cond, not, _&&_, _||_, true≢false}
-use mathlib.Core.List.{List, [], _∷_, _++_}
-use mathlib.Core.Logic.{_⊎_, inl, inr}
-use native.Mathlib.Omega.{arith}
-use lib.Dec.{eqb, ltb}
-use lib.ListN.{length, getD}
-use borrow.Author.Tests.{eq-eqb, ne-eqb, eqb-true}
+use Prim.Native.Nat.{ℕ, _+_}
+use mathlib.Core.Path.{_≡_, ap, _∙_}
+use mathlib.Core.Bool.{Bool, true, false}
+use mathlib.Core.List.{List, [], _++_}
+use lib.ListN.{length}
+use borrow.Author.Tests.{eq-eqb}
 use Rattle.sequence.specs.Sequence.{distance, psnAfter}
 use Rattle.sequence.specs.declared.Psn.{Psn}
 use Rattle.sequence.specs.declared.Msn.{Msn}
-use Rattle.header.specs.Check.{admitted}
-use Rattle.pieces.specs.Pieces.{starts}
 use Rattle.table.specs.declared.Ring.{Ring}
-use Rattle.table.specs.declared.Entry.{Entry}
-use Rattle.pair.specs.Answer.{statusNumber, executed}
+use Rattle.pair.specs.Answer.{statusNumber}
 use Rattle.pair.specs.Calls.{Whole}
-use Rattle.pair.specs.Claims.{SetupFit}
 use Rattle.pair.specs.declared.Setup.{Setup}
 use Rattle.pair.specs.declared.OpenMessage.{OpenMessage}
 use Rattle.pair.specs.declared.Pair.{Pair}
 use Rattle.segment.specs.Claims.{kindNumber}
-use Rattle.request.specs.Packet.{packetOf}
 use Rattle.request.specs.Verdict.{carrying, current, requestCode}
 use Rattle.request.specs.declared.Packet.{Packet}
-use Rattle.protocol.specs.Decide.{orDrop, inboundRefusal, decided, packetDecision, headEntry, regionFor, orphaned, strays, closedBy, placing, unanswered, delivering, ucSettled, ucDecision}
+use Rattle.protocol.specs.Decide.{decided, packetDecision, headEntry, regionFor, orphaned, strays, closedBy, placing, unanswered, delivering, ucSettled, ucDecision}
 use Rattle.protocol.specs.Apply.{executedPair, pairBy, memoryBy, savedBy, savedRingBy, entriesBy, msnBy, readBy, actsAtomic, after}
 use Rattle.protocol.specs.Answers.{Willing}
 use Rattle.protocol.specs.Calls.{received, reports}
@@ -34,10 +26,10 @@ use Rattle.protocol.specs.declared.Completion.{Completion}
 use Rattle.protocol.specs.declared.Decision.{Decision}
 use Rattle.protocol.proofs.Answers.{goes}
 use Rattle.protocol.proofs.Views.{number-taken}
-use Rattle.delivery.specs.Stream.{Slot, packetCount, packetAt}
+use Rattle.delivery.specs.Stream.{Slot, packetAt}
 use Rattle.delivery.specs.Demand.{Run, taken}
 use Rattle.delivery.proofs.Chain.{Sent}
-use Rattle.delivery.proofs.Cutting.{placeFor, cutPacket, admits, is-packet}
+use Rattle.delivery.proofs.Cutting.{cutPacket, admits, is-packet}
 
 -- Not refused, the header checks passed: the rules of the unreliable connection decide
 module _ (q : Pair) (regions entries saved : List (List ℕ)) (m out : List ℕ) (W : Willing q m out) (uc : q .setup .service ≡ 1) (ready : q .state ≡ 1)

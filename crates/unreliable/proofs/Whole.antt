@@ -1,27 +1,23 @@
 -- A message handed in whole.
 use Prim.Native.Nat.{ℕ, zero, suc, _+_, _-_, _*_, _^_, _≤_, _<_}
 use mathlib.Core.Path.{_≡_, refl, sym, ap, subst, _∙_}
-use mathlib.Core.Bool.{Bool, true, false, cond, not, _&&_, _||_, true≢false}
+use mathlib.Core.Bool.{Bool, true, false, cond, not, _&&_}
 use mathlib.Core.List.{List, [], _∷_, _++_, append-nil}
 use mathlib.Core.Logic.{_⊎_, inl, inr}
 use native.Mathlib.Omega.{arith}
 use native.Mathlib.Nat.{zero-mul}
 use lib.Dec.{eqb, leb}
-use lib.ListN.{length, take, drop, getD, replicate, length-take, length-drop}
+use lib.ListN.{length, take, drop, replicate, length-take, length-drop}
 use lib.Seq.{take-add, take-all}
 use borrow.Author.Tests.{eq-eqb, ne-eqb, leb-true, leb-false}
-use Rattle.laws.proofs.Auto.{tests}
-use Rattle.sequence.specs.Sequence.{distance, psnAfter, msnNext}
+use Rattle.sequence.specs.Sequence.{distance, psnAfter}
 use Rattle.sequence.specs.declared.Psn.{Psn}
-use Rattle.sequence.specs.declared.Msn.{Msn}
 use Rattle.sequence.proofs.Circle.{after-after}
 use Rattle.memory.specs.Memory.{put}
 use Rattle.memory.proofs.Put.{put-put, put-none}
 use Rattle.pieces.specs.Pieces.{starts, pieceAt}
 use Rattle.pieces.specs.Claims.{Counted}
 use Rattle.pieces.proofs.Counting.{counts, bounds}
-use Rattle.table.specs.Table.{slotAt}
-use Rattle.table.specs.declared.Entry.{Entry}
 use Rattle.pair.specs.Calls.{Whole}
 use Rattle.pair.specs.Pair.{noMessage}
 use Rattle.pair.specs.Claims.{SetupFit}
@@ -38,11 +34,11 @@ use Rattle.protocol.specs.Kept.{Steady}
 use Rattle.protocol.specs.declared.Completion.{Completion}
 use Rattle.delivery.specs.Stream.{Message, Slot, packetCount, packetAt}
 use Rattle.delivery.specs.Plain.{takes, isLast, completionFor}
-use Rattle.delivery.specs.Demand.{Run, taken, Addressed, Permitted, AtLeast}
+use Rattle.delivery.specs.Demand.{Run, taken, Addressed, Permitted}
 use Rattle.delivery.proofs.Cutting.{placeFor, cutPacket}
 use Rattle.delivery.proofs.Places.{starts-at}
-use Rattle.delivery.proofs.Rel.{IsOf, Holding, Under}
-use Rattle.unreliable.specs.Message.{Standing, Comes, Supplied, firstEntry, target, without, delivered, handed, HandedWhole}
+use Rattle.delivery.proofs.Rel.{IsOf, Under}
+use Rattle.unreliable.specs.Message.{Standing, Supplied, firstEntry, target, delivered, handed, HandedWhole}
 use Rattle.unreliable.proofs.Steps.{at}
 use Rattle.unreliable.proofs.Follow.{holding, holds, heldAt, Follows, steps, more, done, bounded, kept, steady}
 

@@ -1,6 +1,6 @@
 -- A pair and messages that meet what is asked: SEND and WRITE, with and without immediate, of one packet and of several,
 -- of no bytes, with numbers that wrap.
-use Prim.Native.Nat.{ℕ, suc}
+use Prim.Native.Nat.{ℕ}
 use mathlib.Core.Path.{_≡_}
 use mathlib.Core.Bool.{true, false}
 use mathlib.Core.List.{List, [], _∷_}

@@ -19,7 +19,7 @@ use Rattle.segment.specs.Claims.{Carrier}
 use Rattle.segment.specs.declared.Request.{Request}
 use Rattle.segment.specs.declared.Request.the-variants.{Send, SendImmediate, Write, WriteImmediate, Read, CmpSwap, FetchAdd}
 use Rattle.protocol.specs.Kept.{Steady}
-use Rattle.delivery.specs.Stream.{Message, Slot, packetCount, packetAt}
+use Rattle.delivery.specs.Stream.{Message, packetCount, packetAt}
 use Rattle.delivery.specs.Plain.{takes, completionFor, lies}
 use Rattle.delivery.specs.Demand.{Run, taken, Allowed, Addressed, AtLeast, entryOf}
 
