@@ -21,15 +21,15 @@ use Rattle.delivery.specs.Made.{NotSetUp, NoneSetUp, FreshMade, ReadyMad
 use Rattle.delivery.specs.Demand.{Fresh}
 
 -- nothing was delivered, and the pair is not in Error
-record Idle (s : Setup) (q : Pair) : Type 0 where
-  setup : q .setup ≡ s
-  state : q .state ≤ 1
-  expected : q .expected ≡ q .setup .start
-  msn : q .msn .0 ≡ 0
-  mark : q .mark ≡ false
-  message : q .message .kind ≡ 255
-  read : q .read .remaining ≡ 0
-  saved : q .saved .count ≡ 0
+pub record Idle (s : Setup) (q : Pair) : Type 0 where
+  pub setup : q .setup ≡ s
+  pub state : q .state ≤ 1
+  pub expected : q .expected ≡ q .setup .start
+  pub msn : q .msn .0 ≡ 0
+  pub mark : q .mark ≡ false
+  pub message : q .message .kind ≡ 255
+  pub read : q .read .remaining ≡ 0
+  pub saved : q .saved .count ≡ 0
 
 either : {s : Setup} {q r : Pair} (b : Bool) → Idle s q → Idle s r → Idle s (cond b q r)
 either true Q R = Q
@@ -52,13 +52,13 @@ called-idle s w (AddRegion r) h I = I
 called-idle s w (RemoveRegion key) h I = I
 called-idle s w (PostEntry e) h I = either (executed (postStatus (w .pair) e)) (moved-idle s (w .pair) (w .pair .state) _ (I .state) I) I
 
-all-idle : (s : Setup) (w : Whole) (calls : List HostCall) → NoneSetUp calls → Idle s (w .pair) → Idle s (calledAll w calls .pair)
+pub all-idle : (s : Setup) (w : Whole) (calls : List HostCall) → NoneSetUp calls → Idle s (w .pair) → Idle s (calledAll w calls .pair)
 unfolding calledAll
 all-idle s w [] h I = I
 all-idle s w (c ∷ cs) h I = all-idle s (called w c) cs (h .1) (called-idle s w c (h .0) I)
 
 -- a list without a set-up has none that is refused
-accepted : (calls : List HostCall) → NoneSetUp calls → AllAccepted calls
+pub accepted : (calls : List HostCall) → NoneSetUp calls → AllAccepted calls
 accepted [] h = tt
 accepted (SetUp s ∷ cs) h = absurd (h .0)
 accepted (Reset ∷ cs) h = (tt, accepted cs (h .1))
@@ -67,7 +67,7 @@ accepted (AddRegion r ∷ cs) h = (tt, accepted cs (h .1))
 accepted (RemoveRegion key ∷ cs) h = (tt, accepted cs (h .1))
 accepted (PostEntry e ∷ cs) h = (tt, accepted cs (h .1))
 
-begun-idle : (s : Setup) (regions entries saved : List (List ℕ)) → SetupSound s → Idle s (begun s regions entries saved .pair)
+pub begun-idle : (s : Setup) (regions entries saved : List (List ℕ)) → SetupSound s → Idle s (begun s regions entries saved .pair)
 unfolding begun
 begun-idle s regions entries saved h = subst (Idle s) (sym (set-up-pair s h)) (fresh-idle s s refl)
 

@@ -11,6 +11,8 @@ use Rattle.sequence.specs.declared.Psn.{Psn}
 use Rattle.header.specs.Bytes.{Bytes}
 use Rattle.header.specs.Read.{bthOf, headerOf}
 use Rattle.pair.specs.Answer.{statusNumber}
+use Rattle.pair.specs.Calls.{begun}
+use Rattle.pair.proofs.Kept.{begun-sound, calls-sound}
 use Rattle.request.specs.Packet.{packetOf}
 use Rattle.protocol.specs.Decide.{decided, quietly, placing}
 use Rattle.protocol.specs.Apply.{executedPair, pairBy, after, readBy}
@@ -20,11 +22,19 @@ use Rattle.protocol.proofs.Rows.UcRow.{unheard, abandon, deliver}
 use Rattle.protocol.proofs.Rows.AnyRow.{reliable, unreliable}
 use Rattle.protocol.proofs.Rows.{Quiet, UcRow, AnyRow, numbersOf, decided-row}
 use Rattle.protocol.proofs.Views.{number-taken}
-use Rattle.protocol.proofs.Kept.{inbound-steady, psn-below}
+use Rattle.protocol.proofs.Kept.{steady, inbound-steady, psn-below}
 use Rattle.delivery.specs.Stream.{Message}
 use Rattle.delivery.specs.Demand.{Run, taken}
-use Rattle.unreliable.specs.Message.{Standing, Apart, Arrival, heard, AllBytes, StandsOn, Foreign, ApartAfter}
+use Rattle.delivery.proofs.Made.{all-idle, accepted, begun-idle}
+use Rattle.unreliable.specs.Message.{Standing, StandsMade, Apart, Arrival, heard, AllBytes, StandsOn, Foreign, ApartAfter}
 use Rattle.unreliable.proofs.Steps.{carriedOut, taken-is}
+
+pub stands-made : StandsMade
+stands-made s regions entries saved calls h uc e l none ready =
+    let w = begun s regions entries saved in
+    let I = all-idle s w calls none (begun-idle s regions entries saved h) in
+    let S = calls-sound w calls (accepted calls none) (begun-sound s regions entries saved h e l) in
+    (record { steady = steady _ S; unreliable = ap (λ t. t .service) (I .setup) ∙ uc; ready = ready; idle = I .read }, I .message)
 
 module _ (x : Run) (p out : List ℕ) (uc : x .whole .pair .setup .service ≡ 1) where
   abbrev decides : Decision

@@ -10,33 +10,26 @@ use Rattle.header.specs.Read.{otherService}
 use Rattle.pieces.specs.Pieces.{pmtuFits, pieces}
 use Rattle.table.specs.Table.{regionRow, entryRow, firstFrom, sought, outside, pastTop, regionOutside, slotAt}
 use Rattle.table.specs.View.{regionOf}
-use Rattle.pair.specs.Claims.{SetupSound, WholeSound}
+use Rattle.pair.specs.Claims.{SetupSound}
 use Rattle.pair.specs.Answer.{statusNumber, executed}
 use Rattle.pair.specs.Pair.{freshPair}
 use Rattle.pair.specs.Calls.{begun, called, calledAll}
 use Rattle.pair.specs.Host.{setUpStatus, setUp, setUpRegions, addStatus, addRegions, postStatus, posted, postEntries, readyStatus, madeReady}
 use Rattle.pair.specs.Sound.{setupUnfit, setupUnsound, numbersUnsound, ringUnsound, messageUnsound, readUnsound, pairUnsound}
-use Rattle.pair.proofs.Kept.{begun-sound, calls-sound}
 use Rattle.segment.specs.Message.{carries, carriedLength, packetsOf}
 use Rattle.segment.specs.declared.Request.the-variants.{SendImmediate}
-use Rattle.protocol.proofs.Kept.{steady}
 use Rattle.unreliable.specs.Message.{Standing}
 use Rattle.unreliable.specs.Example.{setup, region, calls, made, message, fresh, AllMet, Delivered}
+use Rattle.unreliable.proofs.Before.{stands-made}
 use Rattle.unreliable.proofs.Whole.{handed-whole}
 
 sound : SetupSound setup
 unfolding setup
 sound = (record { pmtu = inl refl; service = inr refl; ours = omega arith; theirs = omega arith; start = omega arith; pkey = λ e. absurd (omega arith); timer = omega arith }, omega arith)
 
-made-sound : WholeSound made
-unfolding made calls
-made-sound =
-    calls-sound (begun setup [] (replicate 16 (replicate 3 0)) (replicate 16 (replicate 2 0))) calls (tt, (tt, (tt, tt)))
-    (begun-sound setup [] (replicate 16 (replicate 3 0)) (replicate 16 (replicate 2 0)) sound refl refl)
-
 is-standing : Standing made
 unfolding made setup calls region calledAll called begun setUp setUpStatus setUpRegions addStatus addRegions postStatus posted postEntries readyStatus madeReady executed statusNumber freshPair setupUnfit setupUnsound numbersUnsound ringUnsound messageUnsound readUnsound pairUnsound pmtuFits otherService outside pastTop regionOutside firstFrom sought regionRow entryRow slotAt
-is-standing = record { steady = steady made made-sound; unreliable = refl; ready = refl; idle = refl }
+is-standing = stands-made setup [] (replicate 16 (replicate 3 0)) (replicate 16 (replicate 2 0)) calls sound refl refl refl (tt, (tt, (tt, tt))) refl .0
 
 room : (i : ℕ) → 24 ≤ length (replicate {A = ℕ} 24 0)
 room i = omega arith

@@ -14,12 +14,15 @@ use Rattle.memory.specs.Memory.{put}
 use Rattle.table.specs.Table.{slotAt}
 use Rattle.table.specs.declared.Entry.{Entry}
 use Rattle.table.specs.declared.Ring.{Ring}
-use Rattle.pair.specs.Calls.{Whole}
+use Rattle.pair.specs.Calls.{Whole, HostCall, begun, calledAll}
+use Rattle.pair.specs.Claims.{SetupSound}
+use Rattle.pair.specs.declared.Setup.{Setup}
 use Rattle.segment.specs.Claims.{Carrier}
 use Rattle.segment.specs.declared.Request.{Request}
 use Rattle.segment.specs.declared.Request.the-variants.{Send, SendImmediate, Write, WriteImmediate, Read, CmpSwap, FetchAdd}
 use Rattle.protocol.specs.Kept.{Steady}
 use Rattle.delivery.specs.Stream.{Message, packetCount, packetAt}
+use Rattle.delivery.specs.Made.{NoneSetUp}
 use Rattle.delivery.specs.Plain.{takes, completionFor, lies}
 use Rattle.delivery.specs.Demand.{Run, taken, Allowed, Addressed, AtLeast, entryOf}
 
@@ -30,6 +33,18 @@ pub record Standing (w : Whole) : Type 0 where
   pub unreliable : w .pair .setup .service ≡ 1
   pub ready : w .pair .state ≡ 1
   pub idle : w .pair .read .remaining ≡ 0
+
+-- So is a pair that was set up, given regions and entries and made Ready by any calls of the host; none is open then.
+abbrev pub StandsMade : Type 0
+StandsMade =
+    (s : Setup) (regions entries saved : List (List ℕ)) (calls : List HostCall) → SetupSound s
+    → s .service ≡ 1
+    → length entries ≡ 16
+    → length saved ≡ 16
+    → NoneSetUp calls
+    → let w = calledAll (begun s regions entries saved) calls in
+    w .pair .state ≡ 1
+    → Standing w × (w .pair .message .kind ≡ 255)
 
 -- packet i of a message whose first packet has the PSN given; its bytes are those that the cutting call writes
 abbrev pub packetOf : Message → Psn → ℕ → List ℕ
