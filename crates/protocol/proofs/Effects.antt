@@ -6,14 +6,13 @@ use mathlib.Core.List.{List, []}
 use mathlib.Core.Logic.{_⊎_, inl, inr}
 use native.Mathlib.Omega.{arith}
 use lib.Dec.{eqb}
-use lib.ListN.{length, take, drop, getD, length-take}
+use lib.ListN.{length, take, drop, getD}
 use borrow.Author.Tests.{eq-eqb, ne-eqb, lt-leb, le-leb, eqb-true, eqb-false}
 use Rattle.sequence.specs.Sequence.{distance, psnAfter, msnNext}
 use Rattle.sequence.specs.declared.Psn.{Psn}
 use Rattle.sequence.specs.declared.Msn.{Msn}
 use Rattle.opcode.specs.Opcode.{followsOf, lowClass}
 use Rattle.header.specs.Read.{bthOf, rethOf, extensionOf, headerOf}
-use Rattle.header.specs.Write.{headerLength}
 use Rattle.memory.specs.Memory.{placed}
 use Rattle.memory.specs.Word.{wordAt, fetchAdded, swapped}
 use Rattle.memory.specs.Claims.{OnlyWord}
@@ -49,6 +48,7 @@ use Rattle.protocol.proofs.Rows.UcRow.{unheard, abandon, deliver}
 use Rattle.protocol.proofs.Rows.AnyRow.{reliable, unreliable}
 use Rattle.protocol.proofs.Rows.{Quiet, Asks, Row, UcRow, AnyRow, either, numbersOf, decided-row}
 use Rattle.protocol.proofs.Views.{number-taken}
+use Rattle.protocol.proofs.Ways.{payload-size, payload-is}
 
 pub silent : Silent noCompletion
 silent = record { some = refl; number = refl; length = refl; immediate = refl; value = refl }
@@ -198,20 +198,10 @@ module _ (q : Pair) (regions saved : List (List ℕ)) (m p out : List ℕ) where
   place-few true = omega arith
   place-few false = omega arith
 
-  -- the bytes from start to end are the payload
-  payload-by : take (numbersOf p .start + netOf (numbersOf p) - numbersOf p .start) (drop (numbersOf p .start) p) ≡ payloadOf p
-  unfolding payloadOf netOf packetOf
-  payload-by =
-      let s = headerLength (headerOf p) in
-      let n = length p - s - headerOf p .bth .pad in
-      let e : s + n - s ≡ n = omega arith in
-      ap (λ k. take k (drop s p)) e
-
+  -- no more bytes than the packet carries
   payload-most : length (payloadOf p) ≤ netOf (numbersOf p)
-  unfolding payloadOf netOf packetOf
-  payload-most =
-      let s = headerLength (headerOf p) in
-      omega (arith, length-take (length p - s - headerOf p .bth .pad) (drop s p))
+  unfolding netOf
+  payload-most = omega (arith, payload-size p)
 
   -- what a message's end does
   message-by : (t : OpenMessage) (spot net : ℕ) → 2 ≤ spot → grown spot t net ≡ noMessage
@@ -249,7 +239,7 @@ module _ (q : Pair) (regions saved : List (List ℕ)) (m p out : List ℕ) where
         executed = subst (Executes q) (sym e) (executes-by d);
         expected = λ h. ap (λ x. x .expected) e ∙ rc h;
         taken = λ h. ap (λ x. x .expected) e ∙ uc h;
-        memory = (d .at, omega (arith, w, payload-most), ap (placed m (d .at)) payload-by);
+        memory = (d .at, omega (arith, w, payload-most), ap (placed m (d .at)) (payload-is p));
         ends = λ h. (ap (λ x. x .msn) e ∙ ended (k .place) h, ap (λ x. x .message) e ∙ message-by t (k .place) (netOf k) h);
         onward = λ h. (ap (λ x. x .msn) e ∙ goes-on (k .place) h, silent-by k t _ h);
         completes = λ h. ap (λ x. x .entries) e ∙ entries-by (d .completion .some) true h;

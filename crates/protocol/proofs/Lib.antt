@@ -7,6 +7,7 @@ pub mod Codes
 pub mod Inside
 pub mod Views
 pub mod Rows
+pub mod Ways
 pub mod Effects
 pub mod Numbers
 pub mod Sizes
@@ -15,7 +16,6 @@ pub mod Replies
 pub mod Responses
 pub mod Draining
 pub mod Answers
-pub mod Ways
 pub mod Spans
 pub mod Reasons
 pub mod Uses
