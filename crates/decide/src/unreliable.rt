@@ -40,7 +40,7 @@ fn strays(p: Packet, expected: Psn, under: u8) -> bool
     under != p.kind
 }
 
-// The message that a packet of this place leaves open.
+// The message under which a packet of this place is checked.
 fn closed_by(place: u8, under: OpenMessage) -> OpenMessage
     ensures { λ r. ⌜ r ≡ closedBy place under ⌝ }
 {
@@ -51,7 +51,7 @@ fn closed_by(place: u8, under: OpenMessage) -> OpenMessage
     under
 }
 
-// A packet failed: the message that was open is closed.
+// A check failed with this code while this kind of message was open.
 fn abandoning(code: u8, under: u8) -> Decision
     ensures { λ r. ⌜ r ≡ abandoning code under ⌝ }
 {
@@ -63,8 +63,8 @@ fn abandoning(code: u8, under: u8) -> Decision
         let status = Status::Dropped;
         return quietly(status);
     }
-    let status = Status::Abandoned;
-    quietly(status)
+    let closed = Status::Abandoned;
+    quietly(closed)
 }
 
 // Nothing is sent, and so many PSNs are taken.
@@ -124,7 +124,7 @@ fn delivering(
     quietly(status)
 }
 
-// The request checks, on the message that the packet leaves open.
+// The request checks: what begins a message is checked with none open.
 fn settled(p: Packet, pair: Pair, entry: [u64; 3], region: [u64; 7]) -> Decision
     requires { ⌜ Shaped p ⌝ }
     ensures { λ r. ⌜ r ≡ ucSettled (requestCode (pair .setup) (closedBy (p .place) (pair .message)) p (pair .entries .count) entry region) p (pair .expected) (pair .message) entry region ⌝ }

@@ -1,5 +1,5 @@
--- Entries posted since set-up or reset are, in order, those completed, then the one held by an open message, then those
--- waiting: on both services, after every list of calls.
+-- The order of receive entries, on both services, after every list of calls since a set-up or reset: none is lost, none
+-- overtakes another.
 use Prim.Native.Nat.{ℕ}
 use mathlib.Core.Path.{_≡_}
 use mathlib.Core.Bool.{cond}

@@ -183,7 +183,8 @@ pub record Completes (k : Packet) (number n : ℕ) (c : Completion) : Type 0 whe
   pub immediate : c .immediate ≡ k .operands .immediate
   pub value : c .value ≡ k .operands .value
 
--- Answers 0 and 1, on both services: where the payload went, what completes, and the message that is open behind First and Middle.
+-- Answers 0 and 1, on both services: where the payload went, what completes, and the message that is open behind First
+-- and Middle.
 pub record Puts (q : Pair) (regions entries : List (List ℕ)) (bytes p : List ℕ) (k : Packet) (t : OpenMessage) (l : Left) : Type 0 where
   pub kind : Carries (k .kind)
   pub carried : length (payloadOf p) ≡ k .raw - k .pad

@@ -253,20 +253,24 @@ rcDecision q regions entries saved p =
     (regionFor (p .kind) (current (q .message) p .key) regions)
     (newestSaved (p .psn .0) saved (q .saved))
 
--- ON AN UNRELIABLE CONNECTION. A Middle or Last that comes while no message is open
+-- From here to ucDecision: the unreliable connection, UC.
+
+-- a Middle or Last while no message is open
 unfoldable pub orphaned : ℕ → ℕ → Bool
 orphaned place under = not (starts place) && eqb under 255
 
--- A Middle or Last that does not go on with the open message: its PSN is not the expected one, or its kind is another
+-- a Middle or Last that does not go on with the open message, by its PSN or by its kind
 unfoldable pub strays : Packet → Psn → ℕ → Bool
 strays p expected under =
     not (starts (p .place)) && (not (eqb (distance (p .psn .0) (expected .0)) 0) || not (eqb under (p .kind)))
 
--- A First or Only closes an open message; its entry, first in the ring, waits again
+-- The message under which a packet is checked: what begins a message has closed the one before, whose entry, still first
+-- in the ring, then counts as waiting
 unfoldable pub closedBy : ℕ → OpenMessage → OpenMessage
 closedBy place under = cond (starts place) noMessage under
 
--- Any failure closes and is quiet: 6 if a message was open, else 5. 34 for an entry that no call made
+-- A check failed: no NAK, but 6 where there is a message to abandon, by what was open when the packet came, and 5 where
+-- there is none. 34, for an entry that no call made, is the caller's mistake and abandons nothing
 unfoldable pub abandoning : ℕ → ℕ → Decision
 abandoning code under =
     cond (eqb code 34) (quietly status.OutOfRange)
@@ -295,8 +299,8 @@ unanswered numbers d =
       value = d .value;
     }
 
--- Executed: the packet's PSN is taken whatever was expected, with all that it passes over, so that its PSN plus 1 is
--- expected next. Only SEND and WRITE pass the header checks of such a pair
+-- Executed: the PSNs from the expected one up to the packet's own count as taken, so that the one behind it is expected
+-- next. The header checks let no other kind than SEND and WRITE come so far
 unfoldable pub delivering : Packet → Psn → OpenMessage → List ℕ → List ℕ → Decision
 delivering p expected m entry region =
     cond (carrying (p .kind))
@@ -306,7 +310,7 @@ unfoldable pub ucSettled : ℕ → Packet → Psn → OpenMessage → List ℕ �
 ucSettled code p expected under entry region =
     cond (eqb code 0) (delivering p expected (current under p) entry region) (abandoning code (under .kind))
 
--- None open 5, wrong PSN or kind 6, then the request checks
+-- a Middle or Last without its message first, then the request checks
 unfoldable pub ucDecision : Packet → Setup → Psn → OpenMessage → ℕ → List ℕ → List ℕ → Decision
 ucDecision p s expected under count entry region =
     cond (orphaned (p .place) (under .kind)) (quietly status.Dropped)

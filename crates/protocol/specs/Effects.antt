@@ -74,7 +74,7 @@ pub record Unchanged (q : Pair) (rows : List (List ℕ)) (bytes output : List �
   pub sent : l .sent ≡ 0
   pub out : l .out ≡ output
 
--- Of two pairs, what no answer from 4 on moves.
+-- Of two pairs, what no answer from 4 on moves; only 6 moves the message.
 pub record Fixed (old new : Pair) : Type 0 where
   pub setup : new .setup ≡ old .setup
   pub expected : new .expected ≡ old .expected
@@ -217,8 +217,8 @@ InboundTable =
     (q : Pair) (regions entries saved : List (List ℕ)) (m p out : List ℕ)
     → Table q regions saved m p out (inboundLeft q regions entries saved m p out)
 
--- No other number comes: never 6 on RC; on UC, service 1, no answer is sent, nothing waits to be sent, and there is neither
--- NAK nor duplicate.
+-- No other number comes: never 6 on RC; on UC, service 1, none that stands for an ACK, a READ, an atomic, a duplicate or a
+-- NAK.
 abbrev pub OneOf : List ℕ → ℕ → Type 0
 OneOf [] n = ⊥
 OneOf (k ∷ ks) n = (n ≡ k) ⊎ OneOf ks n

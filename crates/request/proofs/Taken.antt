@@ -1,6 +1,6 @@
 -- What is taken from a packet's bytes.
 use Prim.Native.Nat.{ℕ, _+_, _-_, _%_, _/_, _≤_, _<_}
-use mathlib.Core.Path.{_≡_, refl, sym, subst}
+use mathlib.Core.Path.{_≡_, refl, sym, ap, subst, _∙_}
 use mathlib.Core.Bool.{Bool, true, false, cond}
 use mathlib.Core.List.{List}
 use mathlib.Core.Logic.{inl, inr}
@@ -14,7 +14,7 @@ use Rattle.header.specs.Read.{bthOf, extensionOf, headerOf}
 use Rattle.header.specs.Write.{headerLength}
 use Rattle.request.specs.declared.Packet.{Packet}
 use Rattle.request.specs.Packet.{operandsOf, packetOf}
-use Rattle.request.specs.Claims.{Place, Form, NoOperands, FromReth, FromAtomic, BthTaken, OpcodeTaken, UcAlike}
+use Rattle.request.specs.Claims.{Place, Form, NoOperands, FromReth, FromAtomic, BthTaken, Taken, OpcodeTaken, UcAlike, UcTaken}
 
 -- by the class of the opcode
 abbrev numbers : OpcodeClass → List ℕ → ℕ → Packet
@@ -76,11 +76,10 @@ bth-taken bytes n =
 abbrev class : ℕ → ℕ → ℕ → ℕ → OpcodeClass
 class kind place follows length = record { kind = kind; place = place; follows = follows; length = length }
 
-classes : (low kind place follows length : ℕ) → classOf low ≡ class kind place follows length → (bytes : List ℕ) (n : ℕ) → bthOf bytes .opcode ≡ low
+classes : (low kind place follows length : ℕ) → classOf low ≡ class kind place follows length → (bytes : List ℕ) (n : ℕ)
+    → classOf (bthOf bytes .opcode) ≡ classOf low
     → packetOf (headerOf bytes) n ≡ numbers (class kind place follows length) bytes n
-classes low kind place follows length c bytes n e =
-    subst (λ x. packetOf (headerOf bytes) n ≡ numbers x bytes n) c
-    (subst (λ o. packetOf (headerOf bytes) n ≡ numbers (classOf o) bytes n) e (numbered bytes n))
+classes low kind place follows length c bytes n e = subst (λ x. packetOf (headerOf bytes) n ≡ numbers x bytes n) (e ∙ c) (numbered bytes n)
 
 -- what each kind of headers gives
 module _ (bytes : List ℕ) (n : ℕ) (p : Packet) (kind place : ℕ) where
@@ -139,28 +138,32 @@ reserved-class opcode h k =
       ne-eqb opcode 16 (λ e. omega arith),
     )
 
-pub opcode-taken : OpcodeTaken
+-- of a packet whose opcode has the class of this one
+taken-by : (bytes : List ℕ) (n low : ℕ) → classOf (bthOf bytes .opcode) ≡ classOf low → Taken bytes low (packetOf (headerOf bytes) n)
 unfolding classOf lowClass kindOf placeOf placeIn followsOf sendWriteFollows lengthOf
-opcode-taken bytes n =
+taken-by bytes n low same =
     let p = packetOf (headerOf bytes) n in
     record {
-      sendFirst = λ e. alone bytes n p 0 0 (classes 0 0 0 0 12 refl bytes n e);
-      sendMiddle = λ e. alone bytes n p 0 1 (classes 1 0 1 0 12 refl bytes n e);
-      sendLast = λ e. alone bytes n p 0 2 (classes 2 0 2 0 12 refl bytes n e);
-      sendLastImm = λ e. immediate bytes n p 0 2 (classes 3 0 2 3 16 refl bytes n e);
-      sendOnly = λ e. alone bytes n p 0 4 (classes 4 0 4 0 12 refl bytes n e);
-      sendOnlyImm = λ e. immediate bytes n p 0 4 (classes 5 0 4 3 16 refl bytes n e);
-      writeFirst = λ e. remote bytes n p 6 0 (classes 6 6 0 1 28 refl bytes n e);
-      writeMiddle = λ e. alone bytes n p 6 1 (classes 7 6 1 0 12 refl bytes n e);
-      writeLast = λ e. alone bytes n p 6 2 (classes 8 6 2 0 12 refl bytes n e);
-      writeLastImm = λ e. immediate bytes n p 6 2 (classes 9 6 2 3 16 refl bytes n e);
-      writeOnly = λ e. remote bytes n p 6 4 (classes 10 6 4 1 28 refl bytes n e);
-      writeOnlyImm = λ e. both bytes n p 6 4 (classes 11 6 4 2 32 refl bytes n e);
-      read = λ e. remote bytes n p 12 4 (classes 12 12 4 1 28 refl bytes n e);
-      cmpSwap = λ e. atomic bytes n p 19 4 (classes 19 19 4 4 40 refl bytes n e);
-      fetchAdd = λ e. atomic bytes n p 20 4 (classes 20 20 4 4 40 refl bytes n e);
-      reserved = λ h k. alone bytes n p 21 4 (classes (bthOf bytes .opcode) 21 4 0 12 (reserved-class (bthOf bytes .opcode) h k) bytes n refl);
+      sendFirst = λ e. alone bytes n p 0 0 (classes 0 0 0 0 12 refl bytes n (same ∙ ap classOf e));
+      sendMiddle = λ e. alone bytes n p 0 1 (classes 1 0 1 0 12 refl bytes n (same ∙ ap classOf e));
+      sendLast = λ e. alone bytes n p 0 2 (classes 2 0 2 0 12 refl bytes n (same ∙ ap classOf e));
+      sendLastImm = λ e. immediate bytes n p 0 2 (classes 3 0 2 3 16 refl bytes n (same ∙ ap classOf e));
+      sendOnly = λ e. alone bytes n p 0 4 (classes 4 0 4 0 12 refl bytes n (same ∙ ap classOf e));
+      sendOnlyImm = λ e. immediate bytes n p 0 4 (classes 5 0 4 3 16 refl bytes n (same ∙ ap classOf e));
+      writeFirst = λ e. remote bytes n p 6 0 (classes 6 6 0 1 28 refl bytes n (same ∙ ap classOf e));
+      writeMiddle = λ e. alone bytes n p 6 1 (classes 7 6 1 0 12 refl bytes n (same ∙ ap classOf e));
+      writeLast = λ e. alone bytes n p 6 2 (classes 8 6 2 0 12 refl bytes n (same ∙ ap classOf e));
+      writeLastImm = λ e. immediate bytes n p 6 2 (classes 9 6 2 3 16 refl bytes n (same ∙ ap classOf e));
+      writeOnly = λ e. remote bytes n p 6 4 (classes 10 6 4 1 28 refl bytes n (same ∙ ap classOf e));
+      writeOnlyImm = λ e. both bytes n p 6 4 (classes 11 6 4 2 32 refl bytes n (same ∙ ap classOf e));
+      read = λ e. remote bytes n p 12 4 (classes 12 12 4 1 28 refl bytes n (same ∙ ap classOf e));
+      cmpSwap = λ e. atomic bytes n p 19 4 (classes 19 19 4 4 40 refl bytes n (same ∙ ap classOf e));
+      fetchAdd = λ e. atomic bytes n p 20 4 (classes 20 20 4 4 40 refl bytes n (same ∙ ap classOf e));
+      reserved = λ h k. alone bytes n p 21 4 (classes low 21 4 0 12 (reserved-class low h k) bytes n same);
     }
+
+pub opcode-taken : OpcodeTaken
+opcode-taken bytes n = taken-by bytes n (bthOf bytes .opcode) refl
 
 pub uc-alike : UcAlike
 unfolding classOf ucHas
@@ -170,3 +173,6 @@ uc-alike low h =
     let t : low / 32 ≡ 0 = omega arith in
     let u : low % 32 ≡ low = omega arith in
     rw (s, l, t, u, lt-ltb low 12 h)
+
+pub uc-taken : UcTaken
+uc-taken bytes n low e h = taken-by bytes n low (ap classOf e ∙ uc-alike low h)

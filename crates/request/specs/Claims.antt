@@ -261,3 +261,9 @@ OpcodeTaken = (bytes : List ℕ) (n : ℕ) → Taken bytes (bthOf bytes .opcode)
 -- UC's opcodes are RC's first twelve, from 32 on.
 abbrev pub UcAlike : Type 0
 UcAlike = (low : ℕ) → low < 12 → classOf (32 + low) ≡ classOf low
+
+-- So the same is taken from a packet of UC as from one of RC with the same low five bits.
+abbrev pub UcTaken : Type 0
+UcTaken =
+    (bytes : List ℕ) (n low : ℕ) → bthOf bytes .opcode ≡ 32 + low → low < 12
+    → Taken bytes low (packetOf (headerOf bytes) n)

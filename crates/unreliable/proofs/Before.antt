@@ -1,10 +1,11 @@
 -- What came before the message: any bytes.
 use Prim.Native.Nat.{ℕ, _+_, _-_, _%_, _^_, _<_}
 use mathlib.Core.Path.{_≡_, refl, sym, ap, subst, _∙_}
+use mathlib.Core.Bool.{true, false}
 use mathlib.Core.List.{List, [], _∷_}
 use mathlib.Core.Logic.{_⊎_, inl, inr}
 use native.Mathlib.Omega.{arith}
-use lib.ListN.{length}
+use lib.ListN.{length, getD}
 use borrow.Author.Tests.{eqb-false}
 use Rattle.sequence.specs.Sequence.{psnAfter}
 use Rattle.sequence.specs.declared.Psn.{Psn}
@@ -21,12 +22,15 @@ use Rattle.protocol.proofs.Rows.Quiet.{dropped, short, range, unfinished}
 use Rattle.protocol.proofs.Rows.UcRow.{unheard, abandon, deliver}
 use Rattle.protocol.proofs.Rows.AnyRow.{reliable, unreliable}
 use Rattle.protocol.proofs.Rows.{Quiet, UcRow, AnyRow, numbersOf, decided-row}
+use Rattle.protocol.proofs.Sizes.{inbound-lengths}
 use Rattle.protocol.proofs.Views.{number-taken}
 use Rattle.protocol.proofs.Kept.{steady, inbound-steady, psn-below}
 use Rattle.delivery.specs.Stream.{Message}
-use Rattle.delivery.specs.Demand.{Run, taken}
+use Rattle.delivery.specs.Demand.{Run, taken, Addressed}
 use Rattle.delivery.proofs.Made.{all-idle, accepted, begun-idle}
-use Rattle.unreliable.specs.Message.{Standing, StandsMade, Apart, Arrival, heard, AllBytes, StandsOn, Foreign, ApartAfter}
+use Rattle.unreliable.specs.Message.{StandsMade, Apart, Arrival, heard, AllBytes, Foreign, Comes, ComesOn, ApartOn, WholeAfter, PartAfter}
+use Rattle.unreliable.proofs.Lost.{kind-open, handed-in-part}
+use Rattle.unreliable.proofs.Whole.{handed-whole}
 use Rattle.unreliable.proofs.Steps.{carriedOut, taken-is}
 
 pub stands-made : StandsMade
@@ -69,20 +73,32 @@ module _ (x : Run) (p out : List ℕ) (uc : x .whole .pair .setup .service ≡ 1
   pub leaves : Leaves (taken x p out)
   leaves = subst Leaves (sym (taken-is x p out decides refl)) (leaves-by decides row)
 
-stands-one : (x : Run) (p out : List ℕ) → Bytes p → Standing (x .whole) → Standing (taken x p out .whole)
-stands-one x p out B S =
+comes-one : (outs : ℕ → List ℕ) (m : Message) (first : Psn) (x : Run) (p out : List ℕ) → Bytes p → Comes outs m first x → Comes outs m first (taken x p out)
+comes-one outs m first x p out B K =
+    let S = K .standing in
     let l = leaves x p out (S .unreliable) in
     record {
-      steady = inbound-steady (x .whole) (x .memory) p out (psn-below p B) (S .steady);
-      unreliable = ap (λ s. s .service) (l .setup) ∙ S .unreliable;
-      ready = l .state ∙ S .ready;
-      idle = ap (λ a. a .remaining) (l .read) ∙ S .idle;
+      standing =
+          record {
+            steady = inbound-steady (x .whole) (x .memory) p out (psn-below p B) (S .steady);
+            unreliable = ap (λ s. s .service) (l .setup) ∙ S .unreliable;
+            ready = l .state ∙ S .ready;
+            idle = ap (λ a. a .remaining) (l .read) ∙ S .idle;
+          };
+      memory =
+          inbound-lengths (x .whole .pair) (x .whole .regions) (x .whole .entries) (x .whole .saved) (x .memory) p out .0
+          ∙ (K .memory ∙ ap (λ s. s .memory) (sym (l .setup)));
+      outputs = K .outputs;
+      first24 = K .first24;
+      addressed = subst (λ s. Addressed s m) (sym (l .setup)) (K .addressed);
+      carries = K .carries;
     }
 
-pub stands-on : StandsOn
+pub comes-on : ComesOn
 unfolding heard
-stands-on x [] B S = S
-stands-on x (a ∷ rest) B S = stands-on (taken x (a .packet) (a .output)) rest (B .1) (stands-one x (a .packet) (a .output) (B .0) S)
+comes-on outs m first x [] K B = K
+comes-on outs m first x (a ∷ rest) K B =
+    comes-on outs m first (taken x (a .packet) (a .output)) rest (comes-one outs m first x (a .packet) (a .output) (B .0) K) (B .1)
 
 -- the number before a later packet's is that of the packet before it
 before-it : (first : Psn) (n psn i : ℕ) → n < 2 ^ 24 → psn ≡ (n + 1) % 16777216 → 0 < i → psn ≡ psnAfter first i .0 → n ≡ psnAfter first (i - 1) .0
@@ -105,11 +121,23 @@ apart-from m first x (a ∷ rest) uc B A F =
         ⊎ ((y .whole .pair .message .kind ≡ 255) ⊎ (y .whole .pair .expected ≡ psnAfter (bthOf (a .packet) .psn) 1))
         → Apart (x .whole) m first
         → Apart (y .whole) m first
-    go (inl (e, f)) (inl z) = inl (ap (λ u. u .kind) e ∙ z)
+    go (inl (e, f)) (inl z) = inl (λ k. z (ap (λ u. u .kind) (sym e) ∙ k))
     go (inl (e, f)) (inr z) = inr (λ i o h g. z i o h (ap (λ p. p .0) (sym f) ∙ g))
-    go (inr (inl e)) A = inl e
+    go (inr (inl e)) A = inl (λ k. kind-open (m .request) (sym k ∙ e))
     go (inr (inr e)) A =
         inr (λ i o h g. F .0 (i - 1) (omega arith) (before-it first (bthOf (a .packet) .psn .0) (y .whole .pair .expected .0) i (psn-below (a .packet) (B .0)) (ap (λ p. p .0) e) (omega (arith, o)) g))
 
-pub apart-after : ApartAfter
-apart-after m first x before uc B e F = apart-from m first x before uc B (inl e) F
+pub apart-on : ApartOn
+apart-on outs m first x before K B A F = apart-from m first x before (K .standing .unreliable) B A F
+
+pub whole-after : WholeAfter
+whole-after outs m first x before K B allowed sup = handed-whole outs m first (heard x before) (comes-on outs m first x before K B) allowed sup
+
+pub part-after : PartAfter
+part-after outs m first x before chosen K B n lost a =
+    handed-in-part outs m first (heard x before) chosen (comes-on outs m first x before K B) n lost (go a)
+  where
+    go : (getD chosen 0 false ≡ true) ⊎ (Apart (x .whole) m first × Foreign m first before)
+        → (getD chosen 0 false ≡ true) ⊎ Apart (heard x before .whole) m first
+    go (inl e) = inl e
+    go (inr (A, F)) = inr (apart-on outs m first x before K B A F)

@@ -187,6 +187,18 @@ module _ (outs : ℕ → List ℕ) (m : Message) (first : Psn) (x : Run) (K : Co
   gone-none o e =
       subst Gone (sym (left-is (quietly status.Dropped) (is-decided ∙ rw (not-first o, eq-eqb (q .message .kind) 255 e)))) (gone-quiet e)
 
+  -- one of the other kind open
+  pub gone-kind : 0 < i → (q .message .kind ≡ kindNumber (m .request) → ⊥) → Gone left
+  unfolding ucDecision orphaned strays
+  gone-kind o n = go (eqb (q .message .kind) 255) refl (eqb (distance (psnAfter first i .0) (q .expected .0)) 0) refl
+    where
+      go : (b : Bool) → eqb (q .message .kind) 255 ≡ b → (c : Bool) → eqb (distance (psnAfter first i .0) (q .expected .0)) 0 ≡ c → Gone left
+      go true e c f = gone-none o (eqb-true (q .message .kind) 255 e)
+      go false e true f =
+          subst Gone
+          (sym (left-is (quietly status.Abandoned) (is-decided ∙ rw (not-first o, e, f, ne-eqb (q .message .kind) (kindNumber (m .request)) n)))) gone-shut
+      go false e false f = subst Gone (sym (left-is (quietly status.Abandoned) (is-decided ∙ rw (not-first o, e, f)))) gone-shut
+
   -- another number expected
   pub gone-other : 0 < i → (q .expected .0 ≡ psnAfter first i .0 → ⊥) → Gone left
   unfolding ucDecision orphaned strays
@@ -201,10 +213,20 @@ module _ (outs : ℕ → List ℕ) (m : Message) (first : Psn) (x : Run) (K : Co
           subst Gone
           (sym (left-is (quietly status.Abandoned) (is-decided ∙ rw (not-first o, e, ne-eqb (distance (psnAfter first i .0) (q .expected .0)) 0 away)))) gone-shut
 
+-- no request has the kind of a message that is not open
+pub kind-open : (r : Request) → kindNumber r ≡ 255 → ⊥
+kind-open Send e = omega arith
+kind-open (SendImmediate v) e = omega arith
+kind-open (Write t) e = omega arith
+kind-open (WriteImmediate t v) e = omega arith
+kind-open (Read a) e = omega arith
+kind-open (CmpSwap a) e = omega arith
+kind-open (FetchAdd t v) e = omega arith
+
 -- from packet j on, all that may still come is of no open message
 abbrev Off : Message → Psn → Run → ℕ → Type 0
 Off m first x j =
-    (x .whole .pair .message .kind ≡ 255)
+    (x .whole .pair .message .kind ≡ kindNumber (m .request) → ⊥)
     ⊎ ((i : ℕ) → j ≤ i → i < packetCount m → x .whole .pair .expected .0 ≡ psnAfter first i .0 → ⊥)
 
 -- the packets of a message have different numbers
@@ -237,8 +259,12 @@ module _ (outs : ℕ → List ℕ) (m : Message) (first : Psn) where
       → Off m first x j
       → Untold x (handed outs m first x j bs)
   unfolding handed
-  off-rest bs j x K o n (inl e) = closed-rest bs j x K o n e
-  off-rest [] j x K o n (inr f) = untold-same x
+  off-rest [] j x K o n f = untold-same x
+  off-rest (true ∷ bs) j x K o n (inl f) =
+      let g = gone-kind outs m first x K j (omega arith) o f in
+      let y = taken x (packet j) (outs j) in
+      untold-chain x y _ (g .told) (closed-rest bs (suc j) y (comes outs m first x K j (omega arith)) (omega arith) (omega arith) (g .closed))
+  off-rest (false ∷ bs) j x K o n (inl f) = off-rest bs (suc j) x K (omega arith) (omega arith) (inl f)
   off-rest (true ∷ bs) j x K o n (inr f) =
       let g = gone-other outs m first x K j (omega arith) o (f j (omega arith) (omega arith)) in
       let y = taken x (packet j) (outs j) in
@@ -263,7 +289,7 @@ module _ (outs : ℕ → List ℕ) (m : Message) (first : Psn) where
     where
       go : (taken x (packet i) (outs i) .whole .pair .message .kind ≡ 255) ⊎ (taken x (packet i) (outs i) .whole .pair .expected ≡ psnAfter first (suc i))
           → Off m first (taken x (packet i) (outs i)) (suc (suc i))
-      go (inl z) = inl z
+      go (inl z) = inl (λ e. kind-open (m .request) (sym e ∙ z))
       go (inr z) = inr (λ j b c d. apart-numbers first (suc i) j (packetCount m) (omega arith) c few (sym (ap (λ p. p .0) z) ∙ d))
 
 limit-bytes : (r : Request) (n : ℕ) → Carrier r → InLimit r n → n ≤ 1048576

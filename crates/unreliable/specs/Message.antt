@@ -17,7 +17,7 @@ use Rattle.table.specs.declared.Ring.{Ring}
 use Rattle.pair.specs.Calls.{Whole, HostCall, begun, calledAll}
 use Rattle.pair.specs.Claims.{SetupSound}
 use Rattle.pair.specs.declared.Setup.{Setup}
-use Rattle.segment.specs.Claims.{Carrier}
+use Rattle.segment.specs.Claims.{Carrier, kindNumber}
 use Rattle.segment.specs.declared.Request.{Request}
 use Rattle.segment.specs.declared.Request.the-variants.{Send, SendImmediate, Write, WriteImmediate, Read, CmpSwap, FetchAdd}
 use Rattle.protocol.specs.Kept.{Steady}
@@ -126,11 +126,11 @@ HandedWhole =
     → Supplied (x .whole) m
     → handed outs m first x 0 (replicate (packetCount m) true) ≡ delivered x m first
 
--- The pair does not take a later packet of the message for one of a message that is open already: none is open, or the
--- expected PSN is none of theirs.
+-- The pair does not take a later packet of the message for one of a message that is open already: none of its kind is open,
+-- or the expected PSN is none of theirs. Without this the rules let such a packet go on with the other message.
 abbrev pub Apart : Whole → Message → Psn → Type 0
 Apart w m first =
-    (w .pair .message .kind ≡ 255)
+    (w .pair .message .kind ≡ kindNumber (m .request) → ⊥)
     ⊎ ((i : ℕ) → 0 < i → i < packetCount m → w .pair .expected .0 ≡ psnAfter first i .0 → ⊥)
 
 -- a packet is lost
@@ -165,20 +165,41 @@ abbrev pub AllBytes : List Arrival → Type 0
 AllBytes [] = Unit {0}
 AllBytes (a ∷ rest) = Bytes (a .packet) × AllBytes rest
 
--- A pair stays as it must be, whatever it hears.
-abbrev pub StandsOn : Type 0
-StandsOn = (x : Run) (before : List Arrival) → AllBytes before → Standing (x .whole) → Standing (heard x before .whole)
-
--- No packet but the message's own has a PSN of the message's, the last packet's left out.
+-- None of these packets has a PSN of the message's; that of its last packet may be among theirs.
 abbrev pub Foreign : Message → Psn → List Arrival → Type 0
 Foreign m first [] = Unit {0}
 Foreign m first (a ∷ rest) = ((i : ℕ) → suc i < packetCount m → bthOf (a .packet) .psn .0 ≡ psnAfter first i .0 → ⊥) × Foreign m first rest
 
--- Then the pair is apart, if no message was open at first, as after set-up or reset.
-abbrev pub ApartAfter : Type 0
-ApartAfter =
-    (m : Message) (first : Psn) (x : Run) (before : List Arrival) → x .whole .pair .setup .service ≡ 1
+-- Whatever a pair hears, it stays as the claims ask, and a pair that is apart stays so if all of it was foreign.
+abbrev pub ComesOn : Type 0
+ComesOn =
+    (outs : ℕ → List ℕ) (m : Message) (first : Psn) (x : Run) (before : List Arrival) → Comes outs m first x
     → AllBytes before
-    → x .whole .pair .message .kind ≡ 255
+    → Comes outs m first (heard x before)
+
+abbrev pub ApartOn : Type 0
+ApartOn =
+    (outs : ℕ → List ℕ) (m : Message) (first : Psn) (x : Run) (before : List Arrival) → Comes outs m first x
+    → AllBytes before
+    → Apart (x .whole) m first
     → Foreign m first before
     → Apart (heard x before .whole) m first
+
+-- So both claims hold after any packets.
+abbrev pub WholeAfter : Type 0
+WholeAfter =
+    (outs : ℕ → List ℕ) (m : Message) (first : Psn) (x : Run) (before : List Arrival) → Comes outs m first x
+    → AllBytes before
+    → let y = heard x before in
+    Allowed (y .whole .pair .setup) (y .whole .regions) (m .request) (length (m .bytes))
+    → Supplied (y .whole) m
+    → handed outs m first y 0 (replicate (packetCount m) true) ≡ delivered y m first
+
+abbrev pub PartAfter : Type 0
+PartAfter =
+    (outs : ℕ → List ℕ) (m : Message) (first : Psn) (x : Run) (before : List Arrival) (chosen : List Bool) → Comes outs m first x
+    → AllBytes before
+    → length chosen ≡ packetCount m
+    → Lost chosen (packetCount m)
+    → (getD chosen 0 false ≡ true) ⊎ (Apart (x .whole) m first × Foreign m first before)
+    → Untold (heard x before) (handed outs m first (heard x before) 0 chosen)
