@@ -1,10 +1,11 @@
 -- The closed instance: by computation, and by the theorem.
 use Prim.Native.Nat.{ℕ, _≤_}
-use mathlib.Core.Path.{refl}
-use mathlib.Core.List.{[]}
+use mathlib.Core.Path.{_≡_, refl, sym, ap, subst, _∙_}
+use mathlib.Core.Bool.{true, false}
+use mathlib.Core.List.{[], _∷_}
 use mathlib.Core.Logic.{inl, inr}
 use native.Mathlib.Omega.{arith}
-use lib.ListN.{length, replicate}
+use lib.ListN.{length, getD, replicate}
 use Rattle.header.specs.Check.{pkeysMatch, fullMember}
 use Rattle.header.specs.Read.{otherService}
 use Rattle.pieces.specs.Pieces.{pmtuFits, pieces}
@@ -17,10 +18,13 @@ use Rattle.pair.specs.Calls.{begun, called, calledAll}
 use Rattle.pair.specs.Host.{setUpStatus, setUp, setUpRegions, addStatus, addRegions, postStatus, posted, postEntries, readyStatus, madeReady}
 use Rattle.pair.specs.Sound.{setupUnfit, setupUnsound, numbersUnsound, ringUnsound, messageUnsound, readUnsound, pairUnsound}
 use Rattle.segment.specs.Message.{carries, carriedLength, packetsOf}
-use Rattle.segment.specs.declared.Request.the-variants.{SendImmediate}
-use Rattle.unreliable.specs.Message.{Standing}
-use Rattle.unreliable.specs.Example.{setup, region, calls, made, message, fresh, AllMet, Delivered}
-use Rattle.unreliable.proofs.Before.{stands-made}
+use Rattle.segment.specs.declared.Request.the-variants.{Send, SendImmediate}
+use Rattle.unreliable.specs.Message.{Standing, packetOf, handed, Comes, firstEntry, Untold}
+use Rattle.unreliable.specs.Example.{setup, region, calls, made, message, out, first, fresh, AllMet, Delivered, broken, Interrupted}
+use Rattle.protocol.specs.Calls.{received}
+use Rattle.delivery.specs.Demand.{AtLeast, entryOf}
+use Rattle.unreliable.proofs.Before.{stands-made, leaves}
+use Rattle.unreliable.proofs.Lost.{comes, handed-in-part}
 use Rattle.unreliable.proofs.Whole.{handed-whole}
 
 sound : SetupSound setup
@@ -69,3 +73,42 @@ unfolding fresh message packetsOf carriedLength carries pieces
 is-delivered =
     let M = all-met .sendImmediate in
     (refl, handed-whole _ (message (SendImmediate 77) 600) _ fresh (M .comes) (M .allowed) (M .supplied))
+
+is-broken : Untold fresh broken
+unfolding broken fresh message packetsOf carriedLength carries pieces
+is-broken =
+    handed-in-part _ (message (SendImmediate 77) 600) _ fresh (true ∷ false ∷ false ∷ []) (all-met .sendImmediate .comes) refl (1, omega arith, refl) (inl refl)
+
+-- the pair after the one packet: set-up, regions and the table of entries are the same
+comes-broken : Comes out (message Send 3) first broken
+unfolding broken handed message packetsOf carriedLength carries pieces
+comes-broken =
+    let K = comes out (message (SendImmediate 77) 600) first fresh (all-met .sendImmediate .comes) 0 (omega arith) in
+    let A = K .addressed in
+    record {
+      standing = K .standing;
+      memory = K .memory;
+      outputs = K .outputs;
+      first24 = K .first24;
+      addressed = record { limit = omega arith; service = A .service; pmtu = A .pmtu; dest = A .dest; match = A .match; pkey = A .pkey; widths = tt };
+      carries = tt;
+    }
+
+sends-on : broken .whole .pair .setup .send ≡ true
+unfolding broken handed message fresh
+sends-on =
+    ap (λ s. s .send) (leaves fresh (packetOf (message (SendImmediate 77) 600) first 0) (out 0) (all-met .send .comes .standing .unreliable) .setup)
+    ∙ all-met .send .allowed
+
+fits-held : AtLeast (firstEntry (broken .whole) .length) Send 3
+unfolding broken handed received message fresh
+fits-held =
+    subst (λ r. 3 ≤ entryOf (getD (fresh .whole .entries) (slotAt (r .head) 0) []) .length) (sym (is-broken .entries)) (all-met .send .supplied .long)
+
+pub is-interrupted : Interrupted
+unfolding fresh message packetsOf carriedLength carries pieces
+is-interrupted = (
+  is-broken,
+  handed-whole _ (message Send 3) _ broken comes-broken sends-on
+      (record { some = λ e. subst (λ r. 1 ≤ r .count) (sym (is-broken .entries)) (all-met .send .supplied .some refl); long = fits-held }),
+)

@@ -14,7 +14,7 @@ use Rattle.segment.specs.declared.Request.{Request}
 use Rattle.segment.specs.declared.Request.the-variants.{Send, SendImmediate, Write, WriteImmediate}
 use Rattle.delivery.specs.Stream.{Message, packetCount}
 use Rattle.delivery.specs.Demand.{Run, Allowed}
-use Rattle.unreliable.specs.Message.{Comes, Supplied, handed, delivered}
+use Rattle.unreliable.specs.Message.{Comes, Supplied, handed, delivered, Untold}
 
 unfoldable pub setup : Setup
 setup =
@@ -73,3 +73,13 @@ Delivered =
     (packetCount (message (SendImmediate 77) 600) ≡ 3)
     × (handed out (message (SendImmediate 77) 600) first fresh 0 (true ∷ true ∷ true ∷ [])
     ≡ delivered fresh (message (SendImmediate 77) 600) first)
+
+-- And with the second and third packet lost nothing is told; then another SEND, an Only, comes to the pair whose one entry
+-- the first message holds, and is delivered with it.
+unfoldable pub broken : Run
+broken = handed out (message (SendImmediate 77) 600) first fresh 0 (true ∷ false ∷ false ∷ [])
+
+abbrev pub Interrupted : Type 0
+Interrupted =
+    Untold fresh broken
+    × (handed out (message Send 3) first broken 0 (true ∷ []) ≡ delivered broken (message Send 3) first)
