@@ -133,7 +133,7 @@ fn ack_length(ackreq: bool) -> usize
 }
 
 // A SEND's or a WRITE's bytes are placed.
-pub(crate) fn placing(p: Packet, m: OpenMessage, entry: [u64; 3], region: [u64; 7]) -> Decision
+fn placing(p: Packet, m: OpenMessage, entry: [u64; 3], region: [u64; 7]) -> Decision
     requires { ⌜ p .start + netOf p < 2 ^ 64 ⌝ }
     requires { ⌜ m .placed + netOf p < 2 ^ 64 ⌝ }
     requires { ⌜ PlaceFits (p .kind) m entry region ⌝ }

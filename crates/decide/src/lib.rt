@@ -6,6 +6,7 @@ mod unreliable;
 
 use header::Header;
 use idle::region_for;
+use pair::OpenMessage;
 use pair::Pair;
 use pair::Status;
 use protocol::Decision;
@@ -14,10 +15,12 @@ use sequence::Class;
 use sequence::Psn;
 ghost use mathlib.Core.Path.{_≡_};
 ghost use Prim.Native.Nat.{_≤_};
+ghost use lib.Dec.{eqb};
 ghost use Rattle.request.specs.Packet.{packetOf};
 ghost use Rattle.request.specs.Verdict.{current};
-ghost use Rattle.protocol.specs.Decide.{failed, expectedDecision, regionFor, packetDecision, headEntry};
-ghost use Rattle.decide.specs.Guard.{Shaped, guarded};
+ghost use Rattle.protocol.specs.Decide.{failed, regionFor, packetDecision, headEntry};
+ghost use Rattle.decide.specs.Guard.{Shaped, Executable, guarded};
+ghost use Rattle.decide.specs.Either.{classBy, refusedBy, finished, eitherDecision};
 
 // Expected, and refused by a check.
 fn failed(code: u8, psn: Psn, timer: u8) -> Decision
@@ -40,34 +43,99 @@ fn failed(code: u8, psn: Psn, timer: u8) -> Decision
     idle::quietly(status)
 }
 
-// The expected packet: executed if it passes every check, else refused.
-fn expected(p: Packet, pair: Pair, entry: [u64; 3], region: [u64; 7]) -> Decision
+// Refused by a check: a NAK, or the message abandoned.
+fn refused(uc: bool, code: u8, under: u8, psn: Psn, timer: u8) -> Decision
+    requires { ⌜ timer ≤ 31 ⌝ }
+    ensures { λ r. ⌜ r ≡ refusedBy uc code under psn timer ⌝ }
+{
+    if uc {
+        return unreliable::abandoning(code, under);
+    }
+    failed(code, psn, timer)
+}
+
+// Every check passed, of the message m.
+fn finished(
+    uc: bool,
+    p: Packet,
+    expected: Psn,
+    m: OpenMessage,
+    under: OpenMessage,
+    entry: [u64; 3],
+    region: [u64; 7],
+    pmtu: usize,
+) -> Decision
+    requires { ⌜ Executable p m entry region ⌝ }
+    ensures { λ r. ⌜ r ≡ finished uc p expected m under entry region pmtu ⌝ }
+{
+    let d = execute::executing(p, m, under, entry, region, pmtu);
+    if uc {
+        return unreliable::delivered(p, expected, d);
+    }
+    d
+}
+
+// A packet that is taken, by the rules of either service; the checks and the executing are called here alone, so that
+// they stand in one place of the compiled code.
+fn settled(p: Packet, pair: Pair, entry: [u64; 3], region: [u64; 7], uc: bool) -> Decision
     requires { ⌜ Shaped p ⌝ }
     requires { ⌜ pair .setup .timer ≤ 31 ⌝ }
-    ensures { λ r. ⌜ r ≡ expectedDecision p (pair .setup) (pair .message) (pair .entries .count) entry region ⌝ }
+    ensures { λ r. ⌜ r ≡ eitherDecision uc p (pair .setup) (pair .expected) (pair .message) (pair .entries .count) entry region ⌝ }
 {
     let setup = pair.setup;
     let under = pair.message;
-    let code = judge::expected_code(setup, under, p, pair.entries.count, entry, region);
+    let early = unreliable::early(uc, p, pair.expected, under.kind);
+    if early == 5 {
+        let status = Status::Dropped;
+        return idle::quietly(status);
+    }
+    if early == 6 {
+        let status = Status::Abandoned;
+        return idle::quietly(status);
+    }
+    let met = unreliable::met(uc, p.place, under);
+    let code = judge::expected_code(setup, met, p, pair.entries.count, entry, region);
     if code != 0 {
-        return failed(code, p.psn, setup.timer);
+        return refused(uc, code, under.kind, p.psn, setup.timer);
     }
     let m = judge::current(under, p);
-    execute::executing(p, m, under, entry, region, setup.pmtu)
+    finished(uc, p, pair.expected, m, under, entry, region, setup.pmtu)
 }
 
 // The same, by the tables: the entry at the head of its ring, and the region of its key.
-fn take(pair: Pair, regions: &[[u64; 7]; 16], entries: &[[u64; 3]; 16], p: Packet) -> Decision
+fn take(
+    pair: Pair,
+    regions: &[[u64; 7]; 16],
+    entries: &[[u64; 3]; 16],
+    p: Packet,
+    uc: bool,
+) -> Decision
     requires { ⌜ Shaped p ⌝ }
     requires { ⌜ pair .setup .timer ≤ 31 ⌝ }
-    ensures { λ r. ⌜ r ≡ expectedDecision p (pair .setup) (pair .message) (pair .entries .count) (headEntry pair (now (entries .entry))) (regionFor (p .kind) (current (pair .message) p .key) (now (regions .entry))) ⌝ }
+    ensures { λ r. ⌜ r ≡ eitherDecision uc p (pair .setup) (pair .expected) (pair .message) (pair .entries .count) (headEntry pair (now (entries .entry))) (regionFor (p .kind) (current (pair .message) p .key) (now (regions .entry))) ⌝ }
 {
     let at = table::slot(pair.entries.head, 0);
     let entry = entries[at];
     let under = pair.message;
     let m = judge::current(under, p);
     let region = region_for(regions, p.kind, m.key);
-    expected(p, pair, entry, region)
+    settled(p, pair, entry, region, uc)
+}
+
+fn unreliable_service(service: u8) -> bool
+    ensures { λ r. ⌜ r ≡ eqb service 1 ⌝ }
+{
+    service == opcode::UC
+}
+
+// The class of a packet's number; UC takes every number as the expected one.
+fn class_of(uc: bool, psn: Psn, expected: Psn) -> Class
+    ensures { λ r. ⌜ r ≡ classBy uc psn expected ⌝ }
+{
+    if uc {
+        return Class::Expected;
+    }
+    psn.class(expected)
 }
 
 // The decision on a packet of n bytes whose header passes the header checks.
@@ -86,13 +154,10 @@ pub fn decision(
         return idle::quietly(status);
     }
     let p = judge::packet_of(h, n);
-    if pair.setup.service == opcode::UC {
-        return unreliable::take(pair, regions, entries, p);
-    }
-    let psn = p.psn;
-    let class = psn.class(pair.expected);
+    let uc = unreliable_service(pair.setup.service);
+    let class = class_of(uc, p.psn, pair.expected);
     match class {
-        Class::Expected => take(pair, regions, entries, p),
+        Class::Expected => take(pair, regions, entries, p, uc),
         Class::Ahead => idle::ahead(pair.mark, pair.expected),
         Class::Duplicate => again::duplicate(p, pair, regions, saved),
     }

@@ -1,17 +1,17 @@
 // Decisions on an unreliable connection.
-use crate::execute::placing;
 use idle::quietly;
-use idle::region_for;
 use pair::OpenMessage;
-use pair::Pair;
 use pair::Status;
 use protocol::Decision;
 use request::Packet;
 use sequence::Psn;
+ghost use Prim.Native.Nat.{_+_};
 ghost use mathlib.Core.Path.{_≡_};
-ghost use Rattle.request.specs.Verdict.{current, requestCode};
-ghost use Rattle.protocol.specs.Decide.{orphaned, strays, closedBy, abandoning, unanswered, delivering, ucSettled, ucDecision, regionFor, headEntry};
-ghost use Rattle.decide.specs.Guard.{Shaped, Executable};
+ghost use mathlib.Core.Bool.{cond};
+ghost use Rattle.sequence.specs.Sequence.{distance};
+ghost use Rattle.request.specs.Verdict.{carrying};
+ghost use Rattle.protocol.specs.Decide.{quietly, orphaned, strays, closedBy, abandoning, unanswered};
+ghost use Rattle.decide.specs.Either.{earlyCode, metBy};
 
 // Whether a Middle or Last comes while no message is open.
 fn orphaned(place: u8, under: u8) -> bool
@@ -40,7 +40,7 @@ fn strays(p: Packet, expected: Psn, under: u8) -> bool
     under != p.kind
 }
 
-// The message under which a packet of this place is checked.
+// What is open under a packet of UC at this place.
 fn closed_by(place: u8, under: OpenMessage) -> OpenMessage
     ensures { λ r. ⌜ r ≡ closedBy place under ⌝ }
 {
@@ -52,7 +52,7 @@ fn closed_by(place: u8, under: OpenMessage) -> OpenMessage
 }
 
 // A check failed with this code while this kind of message was open.
-fn abandoning(code: u8, under: u8) -> Decision
+pub(crate) fn abandoning(code: u8, under: u8) -> Decision
     ensures { λ r. ⌜ r ≡ abandoning code under ⌝ }
 {
     if code == 34 {
@@ -102,20 +102,12 @@ fn wide(x: u32) -> usize
     x as usize
 }
 
-// A SEND or WRITE that passed every check, of the message m.
-fn delivering(
-    p: Packet,
-    expected: Psn,
-    m: OpenMessage,
-    entry: [u64; 3],
-    region: [u64; 7],
-) -> Decision
-    requires { ⌜ Executable p m entry region ⌝ }
-    ensures { λ r. ⌜ r ≡ delivering p expected m entry region ⌝ }
+// The decision d of a packet that passed every check: only a payload placed is one of UC.
+pub(crate) fn delivered(p: Packet, expected: Psn, d: Decision) -> Decision
+    ensures { λ r. ⌜ r ≡ cond (carrying (p .kind)) (unanswered (1 + distance (p .psn .0) (expected .0)) d) (quietly Status.Dropped) ⌝ }
 {
     let carries = judge::carrying(p.kind);
     if carries {
-        let d = placing(p, m, entry, region);
         let psn = p.psn;
         let skipped = psn.distance(expected);
         return unanswered(d, 1 + wide(skipped));
@@ -124,54 +116,30 @@ fn delivering(
     quietly(status)
 }
 
-// The request checks: what begins a message is checked with none open.
-fn settled(p: Packet, pair: Pair, entry: [u64; 3], region: [u64; 7]) -> Decision
-    requires { ⌜ Shaped p ⌝ }
-    ensures { λ r. ⌜ r ≡ ucSettled (requestCode (pair .setup) (closedBy (p .place) (pair .message)) p (pair .entries .count) entry region) p (pair .expected) (pair .message) entry region ⌝ }
+// 5 or 6 for a Middle or Last of UC that is not of the open message, 0 for all else.
+pub(crate) fn early(uc: bool, p: Packet, expected: Psn, under: u8) -> u8
+    ensures { λ r. ⌜ r ≡ earlyCode uc p expected under ⌝ }
 {
-    let setup = pair.setup;
-    let under = pair.message;
-    let rest = closed_by(p.place, under);
-    let code = judge::request_code(setup, rest, p, pair.entries.count, entry, region);
-    if code != 0 {
-        return abandoning(code, under.kind);
+    if uc {
+        let orphan = orphaned(p.place, under);
+        if orphan {
+            return 5;
+        }
+        let stray = strays(p, expected, under);
+        if stray {
+            return 6;
+        }
+        return 0;
     }
-    let m = judge::current(under, p);
-    delivering(p, pair.expected, m, entry, region)
+    0
 }
 
-fn examined(p: Packet, pair: Pair, entry: [u64; 3], region: [u64; 7]) -> Decision
-    requires { ⌜ Shaped p ⌝ }
-    ensures { λ r. ⌜ r ≡ ucDecision p (pair .setup) (pair .expected) (pair .message) (pair .entries .count) entry region ⌝ }
+// The message under which a packet is checked.
+pub(crate) fn met(uc: bool, place: u8, under: OpenMessage) -> OpenMessage
+    ensures { λ r. ⌜ r ≡ metBy uc place under ⌝ }
 {
-    let under = pair.message;
-    let orphan = orphaned(p.place, under.kind);
-    if orphan {
-        let status = Status::Dropped;
-        return quietly(status);
+    if uc {
+        return closed_by(place, under);
     }
-    let stray = strays(p, pair.expected, under.kind);
-    if stray {
-        let status = Status::Abandoned;
-        return quietly(status);
-    }
-    settled(p, pair, entry, region)
-}
-
-// By the tables: the entry at the head of its ring, and the region of its key.
-pub(crate) fn take(
-    pair: Pair,
-    regions: &[[u64; 7]; 16],
-    entries: &[[u64; 3]; 16],
-    p: Packet,
-) -> Decision
-    requires { ⌜ Shaped p ⌝ }
-    ensures { λ r. ⌜ r ≡ ucDecision p (pair .setup) (pair .expected) (pair .message) (pair .entries .count) (headEntry pair (now (entries .entry))) (regionFor (p .kind) (current (pair .message) p .key) (now (regions .entry))) ⌝ }
-{
-    let at = table::slot(pair.entries.head, 0);
-    let entry = entries[at];
-    let under = pair.message;
-    let m = judge::current(under, p);
-    let region = region_for(regions, p.kind, m.key);
-    examined(p, pair, entry, region)
+    under
 }

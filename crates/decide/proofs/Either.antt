@@ -1,0 +1,160 @@
+-- The steps of the code give the decision of either service.
+use Prim.Native.Nat.{ℕ, _+_}
+use mathlib.Core.Path.{_≡_, refl, sym, ap, subst, _∙_}
+use mathlib.Core.Bool.{Bool, true, false, cond, true≢false}
+use mathlib.Core.List.{List}
+use native.Mathlib.Omega.{arith}
+use lib.Dec.{eqb}
+use borrow.Author.Tests.{ne-eqb}
+use Rattle.sequence.specs.Sequence.{distance, psnClass}
+use Rattle.sequence.specs.declared.Psn.{Psn}
+use Rattle.sequence.specs.declared.Class.{Class}
+use Rattle.sequence.specs.declared.Class.the-variants as class
+use Rattle.table.specs.View.{newestSaved}
+use Rattle.pair.specs.declared.Setup.{Setup}
+use Rattle.pair.specs.declared.OpenMessage.{OpenMessage}
+use Rattle.pair.specs.declared.Pair.{Pair}
+use Rattle.pair.specs.declared.Status.the-variants as status
+use Rattle.request.specs.Verdict.{carrying, current, requestCode, expectedCode}
+use Rattle.request.specs.declared.Packet.{Packet}
+use Rattle.protocol.specs.Decide.{quietly, failed, aheadDecision, placing, swapping, accepting, executing, settled, expectedDecision, duplicateDecision, regionFor, headEntry, classed, rcDecision, orphaned, strays, closedBy, abandoning, unanswered, delivering, ucSettled, ucDecision, packetDecision}
+use Rattle.protocol.specs.declared.Decision.{Decision}
+use Rattle.protocol.proofs.Codes.{Passed, passes}
+use Rattle.protocol.proofs.Views.{current-closed, same-code}
+use Rattle.decide.specs.Either.{classBy, earlyCode, metBy, refusedBy, finished, eitherDecision}
+
+-- what an early code says
+module _ (p : Packet) (expected : Psn) (under : ℕ) where
+  none-early : (earlyCode true p expected under ≡ 5 → ⊥) → (earlyCode true p expected under ≡ 6 → ⊥)
+      → (orphaned (p .place) under ≡ false) × (strays p expected under ≡ false)
+  unfolding earlyCode
+  none-early a b = go (orphaned (p .place) under) (strays p expected under) a b
+    where
+      go : (o s : Bool) → (_≡_ {A = ℕ} (cond o 5 (cond s 6 0)) 5 → ⊥) → (_≡_ {A = ℕ} (cond o 5 (cond s 6 0)) 6 → ⊥) → (o ≡ false) × (s ≡ false)
+      go true s a b = absurd (a refl)
+      go false true a b = absurd (b refl)
+      go false false a b = (refl, refl)
+
+module _ (p : Packet) (s : Setup) (expected : Psn) (under : OpenMessage) (count : ℕ) (entry region : List ℕ) where
+  abbrev decides : Bool → Decision
+  decides uc = eitherDecision uc p s expected under count entry region
+
+  pub early-5 : (uc : Bool) → earlyCode uc p expected (under .kind) ≡ 5 → quietly status.Dropped ≡ decides uc
+  unfolding earlyCode eitherDecision ucDecision
+  early-5 false e = absurd (omega arith)
+  early-5 true e = go (orphaned (p .place) (under .kind)) (strays p expected (under .kind)) e
+    where
+      go : (o t : Bool) → _≡_ {A = ℕ} (cond o 5 (cond t 6 0)) 5
+          → quietly status.Dropped
+          ≡ cond o (quietly status.Dropped)
+          (cond t (quietly status.Abandoned) (ucSettled (requestCode s (closedBy (p .place) under) p count entry region) p expected under entry region))
+      go true t e = refl
+      go false true e = absurd (omega arith)
+      go false false e = absurd (omega arith)
+
+  pub early-6 : (uc : Bool) → earlyCode uc p expected (under .kind) ≡ 6 → quietly status.Abandoned ≡ decides uc
+  unfolding earlyCode eitherDecision ucDecision
+  early-6 false e = absurd (omega arith)
+  early-6 true e = go (orphaned (p .place) (under .kind)) (strays p expected (under .kind)) e
+    where
+      go : (o t : Bool) → _≡_ {A = ℕ} (cond o 5 (cond t 6 0)) 6
+          → quietly status.Abandoned
+          ≡ cond o (quietly status.Dropped)
+          (cond t (quietly status.Abandoned) (ucSettled (requestCode s (closedBy (p .place) under) p count entry region) p expected under entry region))
+      go true t e = absurd (omega arith)
+      go false true e = refl
+      go false false e = absurd (omega arith)
+
+  -- the code of the checks, on the message met
+  abbrev code : Bool → ℕ
+  code uc = expectedCode s (metBy uc (p .place) under) p count entry region
+
+  checked : (n : ℕ) → code true ≡ n → (earlyCode true p expected (under .kind) ≡ 5 → ⊥) → (earlyCode true p expected (under .kind) ≡ 6 → ⊥)
+      → decides true ≡ ucSettled n p expected under entry region
+  unfolding eitherDecision ucDecision metBy
+  checked n e a b =
+      let N = none-early p expected (under .kind) a b in
+      rw (N .0, N .1) (ap (λ k. ucSettled k p expected under entry region) (sym (same-code s under p expected count entry region (N .1)) ∙ e))
+
+  pub refuses : (uc : Bool) (n : ℕ) → code uc ≡ n → (earlyCode uc p expected (under .kind) ≡ 5 → ⊥) → (earlyCode uc p expected (under .kind) ≡ 6 → ⊥)
+      → (n ≡ 0 → ⊥)
+      → refusedBy uc n (under .kind) (p .psn) (s .timer) ≡ decides uc
+  unfolding refusedBy ucSettled settled expectedDecision metBy eitherDecision
+  refuses true n e a b z = sym (checked n e a b ∙ rw (ne-eqb n 0 z))
+  refuses false n e a b z = sym (ap (λ k. settled k p s under entry region) e ∙ rw (ne-eqb n 0 z))
+
+  pub executes : (uc : Bool) → code uc ≡ 0 → (earlyCode uc p expected (under .kind) ≡ 5 → ⊥) → (earlyCode uc p expected (under .kind) ≡ 6 → ⊥)
+      → finished uc p expected (current under p) under entry region (s .pmtu) ≡ decides uc
+  unfolding finished ucSettled settled expectedDecision metBy eitherDecision
+  executes true e a b = sym (checked 0 e a b)
+  executes false e a b = sym (ap (λ k. settled k p s under entry region) e)
+
+  -- all checks passed, of the message that the packet is of
+  pub passed : (uc : Bool) → code uc ≡ 0 → Passed s (metBy uc (p .place) under) p entry region
+  passed uc e = passes s (metBy uc (p .place) under) p count entry region e
+
+pub current-met : (uc : Bool) (under : OpenMessage) (p : Packet) → current (metBy uc (p .place) under) p ≡ current under p
+unfolding metBy
+current-met true under p = current-closed under p
+current-met false under p = refl
+
+placed-alone : (b : Bool) (n : ℕ) (d e f : Decision) → cond b (unanswered n (cond b d e)) f ≡ cond b (unanswered n d) f
+placed-alone true n d e f = refl
+placed-alone false n d e f = refl
+
+-- what is executed on UC is a payload placed
+pub delivers : (uc : Bool) (p : Packet) (expected : Psn) (m under : OpenMessage) (entry region : List ℕ) (pmtu : ℕ) → uc ≡ true
+    → cond (carrying (p .kind)) (unanswered (1 + distance (p .psn .0) (expected .0)) (executing p m under entry region pmtu)) (quietly status.Dropped)
+    ≡ finished uc p expected m under entry region pmtu
+unfolding finished delivering executing
+delivers true p expected m under entry region pmtu e =
+    placed-alone (carrying (p .kind)) (1 + distance (p .psn .0) (expected .0)) (placing p m entry region)
+    (cond (eqb (p .kind) 12) (accepting p m under region pmtu) (swapping p m under region)) (quietly status.Dropped)
+delivers false p expected m under entry region pmtu e = absurd (true≢false (sym e))
+
+-- by the class of the number
+module _ (q : Pair) (regions entries saved : List (List ℕ)) (p : Packet) (uc : Bool) (u : uc ≡ eqb (q .setup .service) 1) where
+  abbrev region : List ℕ
+  region = regionFor (p .kind) (current (q .message) p .key) regions
+
+  is-packet : packetDecision q regions entries saved p ≡ cond uc (ucDecision p (q .setup) (q .expected) (q .message) (q .entries .count) (headEntry q entries) region) (rcDecision q regions entries saved p)
+  unfolding packetDecision
+  is-packet = ap (λ b. cond b (ucDecision p (q .setup) (q .expected) (q .message) (q .entries .count) (headEntry q entries) region) (rcDecision q regions entries saved p)) (sym u)
+
+  pub taken : classBy uc (p .psn) (q .expected) ≡ class.Expected
+      → eitherDecision uc p (q .setup) (q .expected) (q .message) (q .entries .count) (headEntry q entries) region ≡ packetDecision q regions entries saved p
+  unfolding classBy eitherDecision rcDecision
+  taken e = go uc e ∙ sym is-packet
+    where
+      go : (b : Bool) → cond b class.Expected (psnClass (p .psn .0) (q .expected .0)) ≡ class.Expected
+          → cond b (ucDecision p (q .setup) (q .expected) (q .message) (q .entries .count) (headEntry q entries) region) (expectedDecision p (q .setup) (q .message) (q .entries .count) (headEntry q entries) region)
+          ≡ cond b (ucDecision p (q .setup) (q .expected) (q .message) (q .entries .count) (headEntry q entries) region)
+          (classed (psnClass (p .psn .0) (q .expected .0)) q p (headEntry q entries) region (newestSaved (p .psn .0) saved (q .saved)))
+      go true e = refl
+      go false e = ap (λ c. classed c q p (headEntry q entries) region (newestSaved (p .psn .0) saved (q .saved))) (sym e)
+
+  -- the other classes are RC's
+  other : (c : Class) → (class.Expected ≡ c → ⊥) → classBy uc (p .psn) (q .expected) ≡ c
+      → packetDecision q regions entries saved p ≡ classed c q p (headEntry q entries) region (newestSaved (p .psn .0) saved (q .saved))
+  unfolding classBy rcDecision
+  other c n e = is-packet ∙ go uc e
+    where
+      go : (b : Bool) → cond b class.Expected (psnClass (p .psn .0) (q .expected .0)) ≡ c
+          → cond b (ucDecision p (q .setup) (q .expected) (q .message) (q .entries .count) (headEntry q entries) region)
+          (classed (psnClass (p .psn .0) (q .expected .0)) q p (headEntry q entries) region (newestSaved (p .psn .0) saved (q .saved)))
+          ≡ classed c q p (headEntry q entries) region (newestSaved (p .psn .0) saved (q .saved))
+      go true e = absurd (n e)
+      go false e = ap (λ c. classed c q p (headEntry q entries) region (newestSaved (p .psn .0) saved (q .saved))) e
+
+  pub ahead : classBy uc (p .psn) (q .expected) ≡ class.Ahead → aheadDecision (q .mark) (q .expected) ≡ packetDecision q regions entries saved p
+  ahead e = sym (other class.Ahead (λ z. absurd (apart z)) e)
+    where
+      apart : class.Expected ≡ class.Ahead → ⊥
+      apart z = let x : _≡_ {A = ℕ} 0 1 = cc in omega arith
+
+  pub again : classBy uc (p .psn) (q .expected) ≡ class.Duplicate
+      → duplicateDecision p (q .setup) (q .expected) (current (q .message) p) region (newestSaved (p .psn .0) saved (q .saved)) ≡ packetDecision q regions entries saved p
+  again e = sym (other class.Duplicate (λ z. absurd (apart z)) e)
+    where
+      apart : class.Expected ≡ class.Duplicate → ⊥
+      apart z = let x : _≡_ {A = ℕ} 0 1 = cc in omega arith

@@ -1,0 +1,38 @@
+-- The decision on a packet that is taken, by the rules of either service, in the steps of the code: the request checks and
+-- the executing stand once in it.
+use Prim.Native.Nat.{ℕ}
+use mathlib.Core.Bool.{Bool, cond}
+use mathlib.Core.List.{List}
+use Rattle.sequence.specs.Sequence.{psnClass}
+use Rattle.sequence.specs.declared.Psn.{Psn}
+use Rattle.sequence.specs.declared.Class.{Class}
+use Rattle.sequence.specs.declared.Class.the-variants.{Expected}
+use Rattle.pair.specs.declared.Setup.{Setup}
+use Rattle.pair.specs.declared.OpenMessage.{OpenMessage}
+use Rattle.request.specs.declared.Packet.{Packet}
+use Rattle.protocol.specs.Decide.{failed, executing, expectedDecision, orphaned, strays, closedBy, abandoning, delivering, ucDecision}
+use Rattle.protocol.specs.declared.Decision.{Decision}
+
+-- on UC every number is taken as the expected one
+unfoldable pub classBy : Bool → Psn → Psn → Class
+classBy uc psn expected = cond uc Expected (psnClass (psn .0) (expected .0))
+
+-- a Middle or Last of UC that is not of the open message: 5 or 6
+unfoldable pub earlyCode : Bool → Packet → Psn → ℕ → ℕ
+earlyCode uc p expected under =
+    cond uc (cond (orphaned (p .place) under) 5 (cond (strays p expected under) 6 0)) 0
+
+-- the message under which it is checked
+unfoldable pub metBy : Bool → ℕ → OpenMessage → OpenMessage
+metBy uc place under = cond uc (closedBy place under) under
+
+unfoldable pub refusedBy : Bool → ℕ → ℕ → Psn → ℕ → Decision
+refusedBy uc code under psn timer = cond uc (abandoning code under) (failed code psn timer)
+
+unfoldable pub finished : Bool → Packet → Psn → OpenMessage → OpenMessage → List ℕ → List ℕ → ℕ → Decision
+finished uc p expected m under entry region pmtu =
+    cond uc (delivering p expected m entry region) (executing p m under entry region pmtu)
+
+unfoldable pub eitherDecision : Bool → Packet → Setup → Psn → OpenMessage → ℕ → List ℕ → List ℕ → Decision
+eitherDecision uc p s expected under count entry region =
+    cond uc (ucDecision p s expected under count entry region) (expectedDecision p s under count entry region)
