@@ -21,7 +21,7 @@ use Rattle.protocol.specs.Decide.{quietly, failed, aheadDecision, placing, swap
 use Rattle.protocol.specs.declared.Decision.{Decision}
 use Rattle.protocol.proofs.Codes.{Passed, passes}
 use Rattle.protocol.proofs.Views.{current-closed, same-code}
-use Rattle.decide.specs.Either.{classBy, earlyCode, metBy, refusedBy, finished, eitherDecision}
+use Rattle.decide.specs.Either.{classBy, earlyCode, metBy, refusedBy, answered, asksBy, numbersBy, finished, eitherDecision}
 
 -- what an early code says
 module _ (p : Packet) (expected : Psn) (under : ℕ) where
@@ -98,19 +98,24 @@ unfolding metBy
 current-met true under p = current-closed under p
 current-met false under p = refl
 
-placed-alone : (b : Bool) (n : ℕ) (d e f : Decision) → cond b (unanswered n (cond b d e)) f ≡ cond b (unanswered n d) f
-placed-alone true n d e f = refl
-placed-alone false n d e f = refl
+-- what each kind of packet comes to, once it passed
+module _ (p : Packet) (expected : Psn) (m under : OpenMessage) (entry region : List ℕ) (pmtu : ℕ) where
+  pub placed-by : (uc asked : Bool) (n : ℕ) → asked ≡ asksBy uc (p .ackreq) → n ≡ numbersBy uc (p .psn) expected → carrying (p .kind) ≡ true
+      → answered asked n (placing p m entry region) ≡ finished uc p expected m under entry region pmtu
+  unfolding finished delivering executing answered asksBy numbersBy placing
+  placed-by true asked n a b c = sym (simp (c, a, b))
+  placed-by false asked n a b c = sym (simp (c, a, b))
 
--- what is executed on UC is a payload placed
-pub delivers : (uc : Bool) (p : Packet) (expected : Psn) (m under : OpenMessage) (entry region : List ℕ) (pmtu : ℕ) → uc ≡ true
-    → cond (carrying (p .kind)) (unanswered (1 + distance (p .psn .0) (expected .0)) (executing p m under entry region pmtu)) (quietly status.Dropped)
-    ≡ finished uc p expected m under entry region pmtu
-unfolding finished delivering executing
-delivers true p expected m under entry region pmtu e =
-    placed-alone (carrying (p .kind)) (1 + distance (p .psn .0) (expected .0)) (placing p m entry region)
-    (cond (eqb (p .kind) 12) (accepting p m under region pmtu) (swapping p m under region)) (quietly status.Dropped)
-delivers false p expected m under entry region pmtu e = absurd (true≢false (sym e))
+  pub dropped-by : (uc : Bool) → uc ≡ true → carrying (p .kind) ≡ false → quietly status.Dropped ≡ finished uc p expected m under entry region pmtu
+  unfolding finished delivering
+  dropped-by true u c = sym (rw c)
+  dropped-by false u c = absurd (true≢false (sym u))
+
+  pub bare-by : (uc : Bool) → uc ≡ false → carrying (p .kind) ≡ false
+      → cond (eqb (p .kind) 12) (accepting p m under region pmtu) (swapping p m under region) ≡ finished uc p expected m under entry region pmtu
+  unfolding finished executing
+  bare-by true u c = absurd (true≢false u)
+  bare-by false u c = sym (rw c)
 
 -- by the class of the number
 module _ (q : Pair) (regions entries saved : List (List ℕ)) (p : Packet) (uc : Bool) (u : uc ≡ eqb (q .setup .service) 1) where

@@ -1,14 +1,15 @@
 -- The decision on a packet that is taken, by the rules of either service, in the steps of the code: the request checks and
 -- the executing stand once in it.
-use Prim.Native.Nat.{ℕ}
-use mathlib.Core.Bool.{Bool, cond}
+use Prim.Native.Nat.{ℕ, _+_}
+use mathlib.Core.Bool.{Bool, false, cond}
 use mathlib.Core.List.{List}
-use Rattle.sequence.specs.Sequence.{psnClass}
+use Rattle.sequence.specs.Sequence.{distance, psnClass}
 use Rattle.sequence.specs.declared.Psn.{Psn}
 use Rattle.sequence.specs.declared.Class.{Class}
 use Rattle.sequence.specs.declared.Class.the-variants.{Expected}
 use Rattle.pair.specs.declared.Setup.{Setup}
 use Rattle.pair.specs.declared.OpenMessage.{OpenMessage}
+use Rattle.pair.specs.declared.Status.the-variants as status
 use Rattle.request.specs.declared.Packet.{Packet}
 use Rattle.protocol.specs.Decide.{failed, executing, expectedDecision, orphaned, strays, closedBy, abandoning, delivering, ucDecision}
 use Rattle.protocol.specs.declared.Decision.{Decision}
@@ -28,6 +29,36 @@ metBy uc place under = cond uc (closedBy place under) under
 
 unfoldable pub refusedBy : Bool → ℕ → ℕ → Psn → ℕ → Decision
 refusedBy uc code under psn timer = cond uc (abandoning code under) (failed code psn timer)
+
+-- a payload placed, acknowledged or not, with so many PSNs taken
+unfoldable pub answered : Bool → ℕ → Decision → Decision
+answered asked numbers d =
+    record {
+      status = cond asked status.Acknowledged status.Executed;
+      act = d .act;
+      at = d .at;
+      start = d .start;
+      end = d .end;
+      swap = d .swap;
+      compare = d .compare;
+      message = d .message;
+      numbers = numbers;
+      ends = d .ends;
+      completion = d .completion;
+      responses = d .responses;
+      length = d .length;
+      sent = cond asked 16 0;
+      psn = d .psn;
+      syndrome = d .syndrome;
+      value = d .value;
+    }
+
+-- on UC none is acknowledged, and the numbers passed over are taken, too
+unfoldable pub asksBy : Bool → Bool → Bool
+asksBy uc ackreq = cond uc false ackreq
+
+unfoldable pub numbersBy : Bool → Psn → Psn → ℕ
+numbersBy uc psn expected = cond uc (1 + distance (psn .0) (expected .0)) 1
 
 unfoldable pub finished : Bool → Packet → Psn → OpenMessage → OpenMessage → List ℕ → List ℕ → ℕ → Decision
 finished uc p expected m under entry region pmtu =

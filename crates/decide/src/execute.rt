@@ -12,7 +12,8 @@ ghost use mathlib.Core.Bool.{cond};
 ghost use Prim.Native.Nat.{_+_, _-_, _<_, _^_};
 ghost use lib.Dec.{eqb};
 ghost use Rattle.request.specs.Verdict.{spot, netOf};
-ghost use Rattle.protocol.specs.Decide.{completes, completionOf, grown, placeOf, placing, swapping, reading, accepting, executing};
+ghost use Rattle.protocol.specs.Decide.{completes, completionOf, grown, placeOf, placing, swapping, reading, accepting};
+ghost use Rattle.decide.specs.Either.{answered, asksBy, numbersBy, finished};
 ghost use Rattle.decide.specs.Guard.{SpotFits, PlaceFits, Executable};
 
 fn completes(kind: u8, place: u8, immediate: bool) -> bool
@@ -132,20 +133,27 @@ fn ack_length(ackreq: bool) -> usize
     0
 }
 
-// A SEND's or a WRITE's bytes are placed.
-fn placing(p: Packet, m: OpenMessage, entry: [u64; 3], region: [u64; 7]) -> Decision
+// A SEND's or a WRITE's bytes are placed; whether it is acknowledged and how many PSNs are taken, its service says.
+fn placing(
+    p: Packet,
+    asked: bool,
+    numbers: usize,
+    m: OpenMessage,
+    entry: [u64; 3],
+    region: [u64; 7],
+) -> Decision
     requires { ⌜ p .start + netOf p < 2 ^ 64 ⌝ }
     requires { ⌜ m .placed + netOf p < 2 ^ 64 ⌝ }
     requires { ⌜ PlaceFits (p .kind) m entry region ⌝ }
-    ensures { λ r. ⌜ r ≡ placing p m entry region ⌝ }
+    ensures { λ r. ⌜ r ≡ answered asked numbers (placing p m entry region) ⌝ }
 {
     let net = judge::less(p.raw, p.pad);
     let at = place_of(p.kind, m, entry, region);
     let message = grown(p.place, m, net);
     let completion = completion_of(p, m, entry[0]);
     let ends = pieces::ends(p.place);
-    let status = answer(p.ackreq);
-    let sent = ack_length(p.ackreq);
+    let status = answer(asked);
+    let sent = ack_length(asked);
     let psn = p.psn;
     Decision {
         status,
@@ -156,7 +164,7 @@ fn placing(p: Packet, m: OpenMessage, entry: [u64; 3], region: [u64; 7]) -> Deci
         swap: 0,
         compare: 0,
         message,
-        numbers: 1,
+        numbers,
         ends,
         completion,
         responses: 0,
@@ -259,9 +267,38 @@ fn accepting(
     reading(status, under, at, m.length, count, true, count, p.psn)
 }
 
-// By the kind of a packet that passed every check, of the message m.
-pub(crate) fn executing(
+fn asks(uc: bool, ackreq: bool) -> bool
+    ensures { λ r. ⌜ r ≡ asksBy uc ackreq ⌝ }
+{
+    if uc {
+        return false;
+    }
+    ackreq
+}
+
+fn wide_number(x: u32) -> usize
+    ensures { λ r. ⌜ r ≡ x ⌝ }
+{
+    x as usize
+}
+
+// How many PSNs are taken.
+fn numbers(uc: bool, psn: Psn, expected: Psn) -> usize
+    ensures { λ r. ⌜ r ≡ numbersBy uc psn expected ⌝ }
+{
+    if uc {
+        let skipped = psn.distance(expected);
+        return 1 + wide_number(skipped);
+    }
+    1
+}
+
+// By the kind of a packet that passed every check, of the message m. UC has no READs and atomics: none comes so far. The
+// decision is built once for both services, since a copy of it would be made in memory.
+pub(crate) fn finished(
+    uc: bool,
     p: Packet,
+    expected: Psn,
     m: OpenMessage,
     under: OpenMessage,
     entry: [u64; 3],
@@ -269,11 +306,17 @@ pub(crate) fn executing(
     pmtu: usize,
 ) -> Decision
     requires { ⌜ Executable p m entry region ⌝ }
-    ensures { λ r. ⌜ r ≡ executing p m under entry region pmtu ⌝ }
+    ensures { λ r. ⌜ r ≡ finished uc p expected m under entry region pmtu ⌝ }
 {
     let carries = judge::carrying(p.kind);
     if carries {
-        return placing(p, m, entry, region);
+        let asked = asks(uc, p.ackreq);
+        let taken = numbers(uc, p.psn, expected);
+        return placing(p, asked, taken, m, entry, region);
+    }
+    if uc {
+        let status = Status::Dropped;
+        return idle::quietly(status);
     }
     if p.kind == opcode::READ {
         return accepting(p, m, under, region, pmtu);

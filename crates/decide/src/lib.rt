@@ -6,7 +6,6 @@ mod unreliable;
 
 use header::Header;
 use idle::region_for;
-use pair::OpenMessage;
 use pair::Pair;
 use pair::Status;
 use protocol::Decision;
@@ -19,8 +18,8 @@ ghost use lib.Dec.{eqb};
 ghost use Rattle.request.specs.Packet.{packetOf};
 ghost use Rattle.request.specs.Verdict.{current};
 ghost use Rattle.protocol.specs.Decide.{failed, regionFor, packetDecision, headEntry};
-ghost use Rattle.decide.specs.Guard.{Shaped, Executable, guarded};
-ghost use Rattle.decide.specs.Either.{classBy, refusedBy, finished, eitherDecision};
+ghost use Rattle.decide.specs.Guard.{Shaped, guarded};
+ghost use Rattle.decide.specs.Either.{classBy, refusedBy, eitherDecision};
 
 // Expected, and refused by a check.
 fn failed(code: u8, psn: Psn, timer: u8) -> Decision
@@ -54,27 +53,6 @@ fn refused(uc: bool, code: u8, under: u8, psn: Psn, timer: u8) -> Decision
     failed(code, psn, timer)
 }
 
-// Every check passed, of the message m.
-fn finished(
-    uc: bool,
-    p: Packet,
-    expected: Psn,
-    m: OpenMessage,
-    under: OpenMessage,
-    entry: [u64; 3],
-    region: [u64; 7],
-    pmtu: usize,
-) -> Decision
-    requires { ⌜ Executable p m entry region ⌝ }
-    ensures { λ r. ⌜ r ≡ finished uc p expected m under entry region pmtu ⌝ }
-{
-    let d = execute::executing(p, m, under, entry, region, pmtu);
-    if uc {
-        return unreliable::delivered(p, expected, d);
-    }
-    d
-}
-
 // A packet that is taken, by the rules of either service; the checks and the executing are called here alone, so that
 // they stand in one place of the compiled code.
 fn settled(p: Packet, pair: Pair, entry: [u64; 3], region: [u64; 7], uc: bool) -> Decision
@@ -99,7 +77,7 @@ fn settled(p: Packet, pair: Pair, entry: [u64; 3], region: [u64; 7], uc: bool) -
         return refused(uc, code, under.kind, p.psn, setup.timer);
     }
     let m = judge::current(under, p);
-    finished(uc, p, pair.expected, m, under, entry, region, setup.pmtu)
+    execute::finished(uc, p, pair.expected, m, under, entry, region, setup.pmtu)
 }
 
 // The same, by the tables: the entry at the head of its ring, and the region of its key.

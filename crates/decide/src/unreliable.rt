@@ -5,12 +5,8 @@ use pair::Status;
 use protocol::Decision;
 use request::Packet;
 use sequence::Psn;
-ghost use Prim.Native.Nat.{_+_};
 ghost use mathlib.Core.Path.{_≡_};
-ghost use mathlib.Core.Bool.{cond};
-ghost use Rattle.sequence.specs.Sequence.{distance};
-ghost use Rattle.request.specs.Verdict.{carrying};
-ghost use Rattle.protocol.specs.Decide.{quietly, orphaned, strays, closedBy, abandoning, unanswered};
+ghost use Rattle.protocol.specs.Decide.{orphaned, strays, closedBy, abandoning};
 ghost use Rattle.decide.specs.Either.{earlyCode, metBy};
 
 // Whether a Middle or Last comes while no message is open.
@@ -65,55 +61,6 @@ pub(crate) fn abandoning(code: u8, under: u8) -> Decision
     }
     let closed = Status::Abandoned;
     quietly(closed)
-}
-
-// Nothing is sent, and so many PSNs are taken.
-fn unanswered(d: Decision, numbers: usize) -> Decision
-    ensures { λ r. ⌜ r ≡ unanswered numbers d ⌝ }
-{
-    let status = Status::Executed;
-    let message = d.message;
-    let completion = d.completion;
-    let psn = d.psn;
-    Decision {
-        status,
-        act: d.act,
-        at: d.at,
-        start: d.start,
-        end: d.end,
-        swap: d.swap,
-        compare: d.compare,
-        message,
-        numbers,
-        ends: d.ends,
-        completion,
-        responses: d.responses,
-        length: d.length,
-        sent: 0,
-        psn,
-        syndrome: d.syndrome,
-        value: d.value,
-    }
-}
-
-fn wide(x: u32) -> usize
-    ensures { λ r. ⌜ r ≡ x ⌝ }
-{
-    x as usize
-}
-
-// The decision d of a packet that passed every check: only a payload placed is one of UC.
-pub(crate) fn delivered(p: Packet, expected: Psn, d: Decision) -> Decision
-    ensures { λ r. ⌜ r ≡ cond (carrying (p .kind)) (unanswered (1 + distance (p .psn .0) (expected .0)) d) (quietly Status.Dropped) ⌝ }
-{
-    let carries = judge::carrying(p.kind);
-    if carries {
-        let psn = p.psn;
-        let skipped = psn.distance(expected);
-        return unanswered(d, 1 + wide(skipped));
-    }
-    let status = Status::Dropped;
-    quietly(status)
 }
 
 // 5 or 6 for a Middle or Last of UC that is not of the open message, 0 for all else.

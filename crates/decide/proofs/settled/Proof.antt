@@ -11,7 +11,7 @@ use Rattle.decide.proofs.settled.Statement.{statement}
 use Rattle.decide.proofs.settled.Tie as tie
 use Rattle.decide.proofs.settled.Reads as reads
 use Rattle.decide.proofs.settled.Lts as lts
-use Rattle.decide.proofs.finished.Reads as finished-reads
+use Rattle.decide.proofs.execute.finished.Reads as finished-reads
 use Rattle.decide.proofs.refused.Reads as refused-reads
 use Rattle.decide.proofs.unreliable.early.Reads as early-reads
 use Rattle.decide.proofs.unreliable.met.Reads as met-reads

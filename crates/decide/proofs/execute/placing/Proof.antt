@@ -1,5 +1,6 @@
 use Rattle.protocol.specs.Decide.{placing}
 use Rattle.request.specs.Verdict.{netOf}
+use Rattle.decide.specs.Either.{answered}
 use borrow.Author.Needs.{needs}
 use Rattle.decide.proofs.execute.placing.Statement.{statement}
 use Rattle.decide.proofs.execute.placing.Tie as tie
@@ -36,12 +37,12 @@ answer-requires c κs = search needs
 ack-length-requires : tie.Need-ack-length-requires
 ack-length-requires c κs = search needs
 
-add-t18 : tie.Need-add-t18
+add-t20 : tie.Need-add-t20
 unfolding netOf
-add-t18 c = search needs
+add-t20 c = search needs
 
 returns : tie.Need-returns
-unfolding placing netOf
+unfolding placing netOf answered
 returns c = cc
 
 pub placing-spec : {M : Type 1} → statement M
@@ -56,5 +57,5 @@ placing-spec =
     ends-requires
     answer-requires
     ack-length-requires
-    add-t18
+    add-t20
     returns)
