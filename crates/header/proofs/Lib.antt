@@ -5,4 +5,7 @@ pub mod Writes
 pub mod Accepts
 pub mod ReadBack
 pub mod WriteBack
+pub mod Keys
+pub mod Conditions
+pub mod Drops
 pub mod Checks

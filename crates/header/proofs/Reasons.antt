@@ -1,7 +1,7 @@
 -- When reading finds no reason to drop a packet, and what it then answers.
 use Prim.Native.Nat.{ℕ, _%_, _≤_}
 use mathlib.Core.Path.{_≡_, refl, ap}
-use mathlib.Core.Bool.{Bool, true, false, cond, not}
+use mathlib.Core.Bool.{Bool, true, false, cond, not, true≢false}
 use mathlib.Core.List.{List}
 use native.Mathlib.Omega.{arith}
 use lib.Dec.{ltb, eqb}
@@ -10,8 +10,35 @@ use borrow.Author.Tests.{eq-eqb, le-ltb, eqb-true, ltb-false}
 use Rattle.opcode.specs.Opcode.{classOf, serviceOf}
 use Rattle.header.specs.Read.{bthOf, headerOf, badLength, otherService, readReason, readBy, readNumber, readHeader}
 use Rattle.header.specs.Claims.{ReadNumbers}
+use Rattle.header.specs.Drops.{LengthGood}
 use Rattle.header.specs.declared.Header.{Header}
 use Rattle.header.specs.declared.HeaderRead.the-variants.{Accepted, Dropped}
+
+-- a test of equality that names the failing case
+pub of-not : (a b : ℕ) → not (eqb a b) ≡ false → a ≡ b
+of-not a b h = go (eqb a b) refl h
+  where
+    go : (t : Bool) → eqb a b ≡ t → not t ≡ false → a ≡ b
+    go true e h = eqb-true a b e
+    go false e h = absurd (true≢false h)
+
+-- a good length, both ways: first what each part of its test says, whatever the other parts are
+unless : (b c : Bool) → cond b true c ≡ false → (b ≡ false) × (c ≡ false)
+unless true c h = absurd (true≢false h)
+unless false c h = (refl, h)
+
+low : (a b : ℕ) (c : Bool) → cond (ltb a b) true c ≡ false → b ≤ a
+low a b c h = ltb-false a b (unless (ltb a b) c h .0)
+
+high : (x : Bool) (a b : ℕ) (c : Bool) → cond x true (cond (ltb a b) true c) ≡ false → b ≤ a
+high x a b c h = low a b c (unless x (cond (ltb a b) true c) h .1)
+
+whole : (x y : Bool) (a b : ℕ) → cond x true (cond y true (not (eqb a b))) ≡ false → a ≡ b
+whole x y a b h = of-not a b (unless y (not (eqb a b)) (unless x (cond y true (not (eqb a b))) h .1) .1)
+
+pub length-good : (n : ℕ) → badLength n ≡ false → LengthGood n
+unfolding badLength
+length-good n h = record { least = omega (arith, low); most = omega (arith, high); words = omega (arith, whole) }
 
 pub good-length : (n : ℕ) → 12 ≤ n → n ≤ 4128 → n % 4 ≡ 0 → badLength n ≡ false
 unfolding badLength
