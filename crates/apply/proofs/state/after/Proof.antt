@@ -7,7 +7,7 @@ use Rattle.apply.proofs.state.after.Reads as reads
 use Rattle.apply.proofs.state.after.Lts as lts
 use Rattle.apply.proofs.state.executed_pair.Reads as executed-pair-reads
 use Rattle.apply.proofs.state.read_by.Reads as read-by-reads
-use Rattle.pair.proofs.no_message.Reads as no-message-reads
+use Rattle.apply.proofs.state.closing.Reads as closing-reads
 
 -- src/state.rt:105:9
 executed-pair-requires : tie.Need-executed-pair-requires
@@ -48,13 +48,13 @@ unfolding after
 returns-6 c = simp (lt-leb _ _ (c .before .before .before .before .before .if1 .left), lt-ltb _ _ (c .before .before .before .before .before .if1 .left), ne-eqb _ _ (c .before .before .before .before .if2 .left), ne-eqb _ _ (c .before .before .before .if3 .left), ne-eqb _ _ (c .before .before .if4 .left), ne-eqb _ _ (c .before .if5 .left), eq-eqb _ _ (c .if6 .taken))
 
 -- src/state.rt:131:13
-no-message-requires : tie.Need-no-message-requires
-no-message-requires c κs = search needs
+closing-requires : tie.Need-closing-requires
+closing-requires c κs = search needs
 
 -- src/state.rt:133:9
 returns-7 : tie.Need-returns-7
 unfolding after
-returns-7 c = simp (lt-leb _ _ (c .before .before .before .before .before .before .before .if1 .left), lt-ltb _ _ (c .before .before .before .before .before .before .before .if1 .left), ne-eqb _ _ (c .before .before .before .before .before .before .if2 .left), ne-eqb _ _ (c .before .before .before .before .before .if3 .left), ne-eqb _ _ (c .before .before .before .before .if4 .left), ne-eqb _ _ (c .before .before .before .if5 .left), ne-eqb _ _ (c .before .before .if6 .left), eq-eqb _ _ (c .before .if7 .taken), ← c .no-message .ensures)
+returns-7 c = simp (lt-leb _ _ (c .before .before .before .before .before .before .before .if1 .left), lt-ltb _ _ (c .before .before .before .before .before .before .before .if1 .left), ne-eqb _ _ (c .before .before .before .before .before .before .if2 .left), ne-eqb _ _ (c .before .before .before .before .before .if3 .left), ne-eqb _ _ (c .before .before .before .before .if4 .left), ne-eqb _ _ (c .before .before .before .if5 .left), ne-eqb _ _ (c .before .before .if6 .left), eq-eqb _ _ (c .before .if7 .taken), ← c .closing .ensures)
 
 -- src/state.rt:101:1
 returns-8 : tie.Need-returns-8
@@ -73,6 +73,6 @@ after-spec =
     returns-4
     returns-5
     returns-6
-    no-message-requires
+    closing-requires
     returns-7
     returns-8)

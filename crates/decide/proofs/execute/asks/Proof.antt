@@ -4,12 +4,10 @@ use Rattle.decide.proofs.execute.asks.Tie as tie
 use Rattle.decide.proofs.execute.asks.Reads as reads
 use Rattle.decide.proofs.execute.asks.Lts as lts
 
--- src/execute.rt:274:9
 returns : tie.Need-returns
 unfolding asksBy
 returns c = simp (c .if1 .taken)
 
--- src/execute.rt:270:1
 returns-2 : tie.Need-returns-2
 unfolding asksBy
 returns-2 c = simp (c .if1 .left)

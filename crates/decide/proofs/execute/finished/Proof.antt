@@ -14,49 +14,38 @@ use Rattle.decide.proofs.execute.swapping.Reads as swapping-reads
 use Rattle.idle.proofs.quietly.Reads as quietly-reads
 use Rattle.judge.proofs.carrying.Reads as carrying-reads
 
--- src/execute.rt:311:9
 carrying-requires : tie.Need-carrying-requires
 carrying-requires c κs = search needs
 
--- src/execute.rt:313:13
 asks-requires : tie.Need-asks-requires
 asks-requires c κs = search needs
 
--- src/execute.rt:314:13
 numbers-requires : tie.Need-numbers-requires
 numbers-requires c κs = search needs
 
--- src/execute.rt:315:9
 placing-requires : tie.Need-placing-requires
 placing-requires c κs =
     let k = sym (c .before .before .before .carrying .ensures) ∙ c .before .before .if1 .taken in
     (c .before .before .before .before .pre .end, (c .before .before .before .before .pre .total k, c .before .before .before .before .pre .place k))
 
--- src/execute.rt:315:9
 returns : tie.Need-returns
 returns c = c .placing .ensures ∙ placed-by _ _ _ _ _ _ _ _ _ _ (c .before .before .asks .ensures) (c .before .numbers .ensures) (sym (c .before .before .before .before .carrying .ensures) ∙ c .before .before .before .if1 .taken)
 
--- src/execute.rt:319:9
 quietly-requires : tie.Need-quietly-requires
 quietly-requires c κs = search needs
 
--- src/execute.rt:319:9
 returns-2 : tie.Need-returns-2
 returns-2 c = c .quietly .ensures ∙ dropped-by _ _ _ _ _ _ _ _ (c .before .if2 .taken) (sym (c .before .before .before .carrying .ensures) ∙ c .before .before .if1 .left)
 
--- src/execute.rt:322:9
 accepting-requires : tie.Need-accepting-requires
 accepting-requires c κs = c .before .before .before .before .before .pre .own (sym (c .before .before .before .before .carrying .ensures) ∙ c .before .before .before .if1 .left)
 
--- src/execute.rt:322:9
 returns-3 : tie.Need-returns-3
 returns-3 c = c .accepting .ensures ∙ sym (simp (eq-eqb _ _ (c .before .if3 .taken))) ∙ bare-by _ _ _ _ _ _ _ _ (c .before .before .before .if2 .left) (sym (c .before .before .before .before .before .carrying .ensures) ∙ c .before .before .before .before .if1 .left)
 
--- src/execute.rt:324:5
 swapping-requires : tie.Need-swapping-requires
 swapping-requires c κs = c .before .before .before .before .before .pre .own (sym (c .before .before .before .before .carrying .ensures) ∙ c .before .before .before .if1 .left)
 
--- src/execute.rt:298:1
 returns-4 : tie.Need-returns-4
 returns-4 c = c .swapping .ensures ∙ sym (simp (ne-eqb _ _ (c .before .if3 .left))) ∙ bare-by _ _ _ _ _ _ _ _ (c .before .before .before .if2 .left) (sym (c .before .before .before .before .before .carrying .ensures) ∙ c .before .before .before .before .if1 .left)
 

@@ -7,24 +7,19 @@ use Rattle.decide.proofs.execute.numbers.Lts as lts
 use Rattle.decide.proofs.execute.wide_number.Reads as wide-number-reads
 use Rattle.sequence.proofs.Psn.distance.Reads as distance-reads
 
--- src/execute.rt:290:13
 distance-requires : tie.Need-distance-requires
 distance-requires c κs = search needs
 
--- src/execute.rt:291:20
 wide-number-requires : tie.Need-wide-number-requires
 wide-number-requires c κs = search needs
 
--- src/execute.rt:291:16
 add-result : tie.Need-add-result
 add-result c = search needs
 
--- src/execute.rt:291:9
 returns : tie.Need-returns
 unfolding numbersBy
 returns c = simp (c .before .before .if1 .taken, ← c .before .distance .ensures, ← c .wide-number .ensures)
 
--- src/execute.rt:286:1
 returns-2 : tie.Need-returns-2
 unfolding numbersBy
 returns-2 c = simp (c .if1 .left)

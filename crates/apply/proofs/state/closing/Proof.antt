@@ -1,0 +1,13 @@
+use borrow.Author.Needs.{needs}
+use Rattle.apply.proofs.state.closing.Statement.{statement}
+use Rattle.apply.proofs.state.closing.Tie as tie
+use Rattle.pair.proofs.no_message.Reads as no-message-reads
+
+no-message-requires : tie.Need-no-message-requires
+no-message-requires c κs = search needs
+
+returns : tie.Need-returns
+returns c = simp (← c .before .before .before .before .before .no-message .ensures)
+
+pub closing-spec : {M : Type 1} → statement M
+closing-spec = tie.close (tie.spec no-message-requires returns)
