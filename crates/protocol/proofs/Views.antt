@@ -57,20 +57,17 @@ module _ (p : Packet) (s : Setup) (expected : Psn) (under : OpenMessage) (count 
   abbrev checked : Decision
   checked = ucSettled (requestCode s (closedBy (p .place) under) p count entry region) p expected under entry region
 
-  abbrev ordered : Bool → Bool → Decision
-  ordered orphan stray = cond orphan (quietly status.Dropped) (cond stray (quietly status.Abandoned) checked)
-
   pub orphan-dropped : orphaned (p .place) (under .kind) ≡ true → D ≡ quietly status.Dropped
   unfolding ucDecision
-  orphan-dropped o = λ i. ordered (o i) (strays p expected (under .kind))
+  orphan-dropped o = rw o refl
 
   pub stray-abandoned : orphaned (p .place) (under .kind) ≡ false → strays p expected (under .kind) ≡ true → D ≡ quietly status.Abandoned
   unfolding ucDecision
-  stray-abandoned o t = λ i. ordered (o i) (t i)
+  stray-abandoned o t = rw (o, t) refl
 
   pub others-checked : orphaned (p .place) (under .kind) ≡ false → strays p expected (under .kind) ≡ false → D ≡ checked
   unfolding ucDecision
-  others-checked o t = λ i. ordered (o i) (t i)
+  others-checked o t = rw (o, t) refl
 
 -- the pair as a packet of this place finds it
 abbrev pub viewed : ℕ → Pair → Pair
