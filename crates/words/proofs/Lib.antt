@@ -1,1 +1,4 @@
 pub mod Lists
+pub mod Laws
+pub mod Regions
+pub mod Headers

@@ -2,3 +2,4 @@ pub mod Words
 pub mod Pair
 pub mod Rows
 pub mod Fields
+pub mod Claims
