@@ -48,7 +48,6 @@ other-length [] [] n = absurd (n refl)
 other-length [] (y ∷ ys) n = refl
 other-length (x ∷ xs) [] n = refl
 other-length (x ∷ xs) (y ∷ ys) n = ap (λ b. cond (eqb x y) b false) (other-length xs ys (λ e. n (ap suc e))) ∙ either (eqb x y)
-
   where
     either : (b : Bool) → cond b false false ≡ false
     either true = refl

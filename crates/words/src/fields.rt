@@ -1,8 +1,8 @@
 // A header as words: 11 of its BTH, and 10 of the headers that follow it.
 use crate::flag;
+use crate::low8;
 use crate::low16;
 use crate::low32;
-use crate::low8;
 use header::Aeth;
 use header::AtomicEth;
 use header::Bth;
@@ -137,18 +137,7 @@ fn remote_words(follows: u64, r: Reth, immediate: u32) -> [u64; 10]
 fn atomic_words(a: AtomicEth) -> [u64; 10]
     ensures { λ r. ⌜ r ≡ atomicWords a ⌝ }
 {
-    [
-        4,
-        a.address,
-        a.key as u64,
-        0,
-        a.swap,
-        a.compare,
-        0,
-        0,
-        0,
-        0,
-    ]
+    [4, a.address, a.key as u64, 0, a.swap, a.compare, 0, 0, 0, 0]
 }
 
 fn aeth_words(follows: u64, a: Aeth, value: u64) -> [u64; 10]

@@ -1,0 +1,4 @@
+pub mod Host
+pub mod Packets
+pub mod Headers
+pub mod Cutting
