@@ -29,3 +29,6 @@ pub empty-names : (p : List ℕ) → length p ≡ 0 → false ≡ names p
 unfolding names
 empty-names [] e = refl
 empty-names (x ∷ xs) e = absurd (omega arith)
+
+pub thirty-four : _≡_ {A = ℕ} 34 0 → ⊥
+thirty-four e = omega arith

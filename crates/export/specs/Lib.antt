@@ -2,3 +2,4 @@ pub mod Host
 pub mod Packets
 pub mod Headers
 pub mod Cutting
+pub mod Claims

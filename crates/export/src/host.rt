@@ -8,7 +8,8 @@ use table::Region;
 ghost use mathlib.Core.Path.{_≡_};
 ghost use Rattle.pair.specs.Answer.{statusNumber};
 ghost use Rattle.words.specs.Words.{put};
-ghost use Rattle.words.specs.Pair.{pairWords};
+ghost use mathlib.Core.Bool.{false};
+ghost use Rattle.words.specs.Pair.{pairWords, strange};
 ghost use Rattle.export.specs.Host.{setUpNumber, setUpWords, setUpTable, resetNumber, resetWords, resetTable, readyNumber, readyWords, addNumber, addTable, removeNumber, removeTable, postNumber, postWords, postTable};
 
 fn wide(x: usize) -> u64
@@ -21,6 +22,7 @@ fn wide(x: usize) -> u64
 pub(crate) fn leave(pair: &mut [u64], q: Pair, status: Status) -> u8
     ensures { λ r. ⌜ r ≡ statusNumber status ⌝ }
     ensures { λ r. ⌜ now (pair .exit) ≡ put (now (pair .entry)) (pairWords q) ⌝ }
+    ensures { λ r. ⌜ strange (pairWords q) ≡ false ⌝ }
 {
     let next = words::pair_words(q);
     words::put(pair, &next);
@@ -48,6 +50,7 @@ pub extern "C" fn udalopek_set_up(
     ensures { λ r. ⌜ r ≡ setUpNumber (now (pair .entry)) (record { pmtu = pmtu; memory = memory; ours = ours; theirs = theirs; start = record { 0 = start }; pkey = pkey; service = service; timer = timer; send = send; write = write; read = read; atomic = atomic }) ⌝ }
     ensures { λ r. ⌜ now (pair .exit) ≡ setUpWords (now (pair .entry)) (record { pmtu = pmtu; memory = memory; ours = ours; theirs = theirs; start = record { 0 = start }; pkey = pkey; service = service; timer = timer; send = send; write = write; read = read; atomic = atomic }) ⌝ }
     ensures { λ r. ⌜ now (regions .exit) ≡ setUpTable (now (pair .entry)) (now (regions .entry)) (record { pmtu = pmtu; memory = memory; ours = ours; theirs = theirs; start = record { 0 = start }; pkey = pkey; service = service; timer = timer; send = send; write = write; read = read; atomic = atomic }) ⌝ }
+    ensures { λ r. ⌜ (r ≡ 0 → strange (now (pair .exit)) ≡ false) ⌝ }
 {
     if pair.len() != 30 {
         return 34;
@@ -83,6 +86,7 @@ pub extern "C" fn udalopek_reset(pair: &mut [u64], regions: &mut [[u64; 7]; 16])
     ensures { λ r. ⌜ r ≡ resetNumber (now (pair .entry)) ⌝ }
     ensures { λ r. ⌜ now (pair .exit) ≡ resetWords (now (pair .entry)) ⌝ }
     ensures { λ r. ⌜ now (regions .exit) ≡ resetTable (now (pair .entry)) (now (regions .entry)) ⌝ }
+    ensures { λ r. ⌜ strange (now (pair .exit)) ≡ strange (now (pair .entry)) ⌝ }
 {
     let bad = words::strange(pair);
     if bad {
@@ -100,6 +104,7 @@ pub extern "C" fn udalopek_reset(pair: &mut [u64], regions: &mut [[u64; 7]; 16])
 pub extern "C" fn udalopek_make_ready(pair: &mut [u64]) -> u8
     ensures { λ r. ⌜ r ≡ readyNumber (now (pair .entry)) ⌝ }
     ensures { λ r. ⌜ now (pair .exit) ≡ readyWords (now (pair .entry)) ⌝ }
+    ensures { λ r. ⌜ strange (now (pair .exit)) ≡ strange (now (pair .entry)) ⌝ }
 {
     let bad = words::strange(pair);
     if bad {
@@ -181,6 +186,7 @@ pub extern "C" fn udalopek_post_entry(
     ensures { λ r. ⌜ r ≡ postNumber (now (pair .entry)) (record { number = number; offset = offset; length = length }) ⌝ }
     ensures { λ r. ⌜ now (pair .exit) ≡ postWords (now (pair .entry)) (record { number = number; offset = offset; length = length }) ⌝ }
     ensures { λ r. ⌜ now (entries .exit) ≡ postTable (now (pair .entry)) (now (entries .entry)) (record { number = number; offset = offset; length = length }) ⌝ }
+    ensures { λ r. ⌜ strange (now (pair .exit)) ≡ strange (now (pair .entry)) ⌝ }
 {
     let bad = words::strange(pair);
     if bad {

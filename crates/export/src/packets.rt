@@ -4,6 +4,7 @@ use protocol::Completion;
 ghost use mathlib.Core.Path.{_≡_};
 ghost use mathlib.Core.Bool.{cond};
 ghost use lib.ListN.{length};
+ghost use Rattle.words.specs.Pair.{strange};
 ghost use Rattle.export.specs.Packets.{names, oddFor, inboundNumber, inboundWords, inboundRows, inboundBytes, inboundOutput, inboundTold, toldWords, nextNumber, nextWords, nextOutput, nextTold};
 
 // Whether a packet may name a region: all opcodes but those of SEND.
@@ -78,6 +79,7 @@ pub extern "C" fn udalopek_inbound(
     ensures { λ r. ⌜ now (mem .exit) ≡ inboundBytes (now (pair .entry)) (now (regions .entry)) (now (entries .entry)) (now (saved .entry)) (now (mem .entry)) (now (packet .entry)) (now (out .entry)) ⌝ }
     ensures { λ r. ⌜ now (out .exit) ≡ inboundOutput (now (pair .entry)) (now (regions .entry)) (now (entries .entry)) (now (saved .entry)) (now (mem .entry)) (now (packet .entry)) (now (out .entry)) ⌝ }
     ensures { λ r. ⌜ now (told .exit) ≡ inboundTold (now (pair .entry)) (now (regions .entry)) (now (entries .entry)) (now (saved .entry)) (now (mem .entry)) (now (packet .entry)) (now (out .entry)) ⌝ }
+    ensures { λ r. ⌜ strange (now (pair .exit)) ≡ strange (now (pair .entry)) ⌝ }
 {
     let bad = words::strange(pair);
     if bad {
@@ -110,6 +112,7 @@ pub extern "C" fn udalopek_next_response(
     ensures { λ r. ⌜ now (pair .exit) ≡ nextWords (now (pair .entry)) (now (mem .entry)) (now (out .entry)) ⌝ }
     ensures { λ r. ⌜ now (out .exit) ≡ nextOutput (now (pair .entry)) (now (mem .entry)) (now (out .entry)) ⌝ }
     ensures { λ r. ⌜ now (told .exit) ≡ nextTold (now (pair .entry)) (now (mem .entry)) (now (out .entry)) ⌝ }
+    ensures { λ r. ⌜ strange (now (pair .exit)) ≡ strange (now (pair .entry)) ⌝ }
 {
     let bad = words::strange(pair);
     if bad {

@@ -3,16 +3,17 @@ use Prim.Native.Nat.{ℕ, _%_, _^_, _<_}
 use mathlib.Core.Path.{_≡_, refl, sym, ap, _∙_}
 use mathlib.Core.Bool.{Bool, true, false, cond, not, true≢false}
 use mathlib.Core.List.{List, [], _∷_}
-use lib.Dec.{eqb}
+use lib.Dec.{eqb, ltb}
 use lib.ListN.{length}
 use native.Mathlib.Nat.{mod-eq-of-lt}
+use native.Mathlib.Omega.{arith}
 use borrow.Author.Tests.{eqb-true, eq-eqb}
 use Rattle.laws.proofs.Tests.{not-false}
-use Rattle.pair.specs.declared.Setup.{Setup}
+use Rattle.pair.specs.Pair.{freshPair, blankPair}
 use Rattle.pair.specs.declared.Pair.{Pair}
 use Rattle.words.specs.Words.{eqWords, put, flag, bit}
-use Rattle.words.specs.Pair.{pairOf, pairWords, strange, setupOf, messageOf, readOf}
-use Rattle.words.specs.Claims.{SameIs, LetIn, PairBack, SetupFields, PairFields}
+use Rattle.words.specs.Pair.{narrowed, pairOf, pairWords, strange, setupOf, messageOf, readOf}
+use Rattle.words.specs.Claims.{SameIs, LetIn, PairBack, SaidFits, OthersStrange, SetupFields, PairFields}
 
 pub same-self : (a : List ℕ) → eqWords a a ≡ true
 unfolding eqWords
@@ -103,3 +104,36 @@ back q f = λ i. record {
 pub pair-back : PairBack
 unfolding strange
 pair-back q f = (back q f, ap not (ap (λ p. eqWords (pairWords q) (pairWords p)) (back q f) ∙ same-self (pairWords q)))
+
+pub said-fits : SaidFits
+unfolding pairOf blankPair freshPair setupOf messageOf readOf
+said-fits w = go (ltb (length w) 30)
+  where
+    go : (b : Bool) → PairFields (cond b blankPair (narrowed w))
+    go true = record {
+      setup = record { ours = omega arith; theirs = omega arith; start = omega arith; pkey = omega arith; service = omega arith; timer = omega arith };
+      kind = omega arith;
+      key = omega arith;
+      psn = omega arith;
+      answered = omega arith;
+      expected = omega arith;
+      msn = omega arith;
+      state = omega arith;
+    }
+    go false = record {
+      setup = record { ours = omega arith; theirs = omega arith; start = omega arith; pkey = omega arith; service = omega arith; timer = omega arith };
+      kind = omega arith;
+      key = omega arith;
+      psn = omega arith;
+      answered = omega arith;
+      expected = omega arith;
+      msn = omega arith;
+      state = omega arith;
+    }
+
+pub others-strange : OthersStrange
+others-strange w n = go (strange w) refl
+  where
+    go : (b : Bool) → strange w ≡ b → strange w ≡ true
+    go true e = e
+    go false e = absurd (n (pairOf w) (said-fits w) (let-in w e))

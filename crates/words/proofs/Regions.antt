@@ -14,7 +14,7 @@ use Rattle.table.specs.declared.Region.{Region}
 use Rattle.table.specs.Claims.{RegionsSound, RowSound, RegionFits, Free}
 use Rattle.table.proofs.Regions.{region-tested}
 use Rattle.words.specs.Rows.{rowStrange, strangeFrom}
-use Rattle.words.specs.Claims.{RegionsLetIn, RowsKnown, RegionNumbers}
+use Rattle.words.specs.Claims.{RegionsLetIn, RowsKnown, RowStrange, RegionNumbers}
 
 bit-small : (b : Bool) → ltb 1 (cond b 1 0) ≡ false
 bit-small true = refl
@@ -102,3 +102,10 @@ at-row memory rows (suc n) i e j h k = go (rowStrange (getD rows i []) memory) r
 
 pub rows-known : RowsKnown
 rows-known memory rows e i h = known-row memory (getD rows i []) (at-row memory rows 16 0 e i (omega arith) (omega arith))
+
+pub row-strange : RowStrange
+row-strange memory rows i h n = go (strangeFrom rows memory 0 16) refl
+  where
+    go : (b : Bool) → strangeFrom rows memory 0 16 ≡ b → strangeFrom rows memory 0 16 ≡ true
+    go true e = e
+    go false e = absurd (n (rows-known memory rows e i h))

@@ -46,6 +46,13 @@ pub record PairFields (q : Pair) : Type 0 where
   pub msn : q .msn .0 < 2 ^ 32
   pub state : q .state < 2 ^ 8
 
+-- Whatever the words, the pair that they say has such numbers. So words that are not those of any such pair are not let in.
+abbrev pub SaidFits : Type 0
+SaidFits = (w : List ℕ) → PairFields (pairOf w)
+
+abbrev pub OthersStrange : Type 0
+OthersStrange = (w : List ℕ) → ((q : Pair) → PairFields q → w ≡ pairWords q → ⊥) → strange w ≡ true
+
 -- The words of a pair say that pair, and are let in.
 abbrev pub PairBack : Type 0
 PairBack = (q : Pair) → PairFields q → (pairOf (pairWords q) ≡ q) × (strange (pairWords q) ≡ false)
@@ -69,6 +76,12 @@ abbrev pub RowsKnown : Type 0
 RowsKnown =
     (memory : ℕ) (rows : List (List ℕ)) → strangeFrom rows memory 0 16 ≡ false
     → (i : ℕ) → i < 16 → Free (getD rows i []) ⊎ RegionNumbers memory (getD rows i [])
+
+-- So one row that is neither makes the table strange.
+abbrev pub RowStrange : Type 0
+RowStrange =
+    (memory : ℕ) (rows : List (List ℕ)) (i : ℕ) → i < 16 → (Free (getD rows i []) ⊎ RegionNumbers memory (getD rows i []) → ⊥)
+    → strangeFrom rows memory 0 16 ≡ true
 
 -- Headers whose numbers fit their fields.
 pub record BthFields (b : Bth) : Type 0 where

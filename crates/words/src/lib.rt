@@ -162,9 +162,10 @@ pub fn pair_of(w: &[u64]) -> Pair
     }
 }
 
-// The words of a pair.
+// The words of a pair. As every number fits its field, they are not strange.
 pub fn pair_words(q: Pair) -> [u64; 30]
     ensures { λ r. ⌜ r ≡ pairWords q ⌝ }
+    ensures { λ r. ⌜ strange r ≡ false ⌝ }
 {
     let s = q.setup;
     let m = q.message;

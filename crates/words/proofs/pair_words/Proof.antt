@@ -1,3 +1,5 @@
+use native.Mathlib.Omega.{arith}
+use Rattle.words.proofs.Laws.{pair-back}
 use Rattle.words.specs.Pair.{pairWords}
 use mathlib.Core.Path.{refl}
 use borrow.Author.Needs.{needs}
@@ -60,7 +62,20 @@ cast-t40 c = search needs
 
 returns : tie.Need-returns
 unfolding pairWords
-returns c = refl
+returns c =
+    let G = c .before .before .before .before .before .before .before .before .before .before .before .before .before .before .before .before .before .before .before .before .before .before .before .before .before .before .before .before .good .0 in (
+      refl,
+      pair-back (c .before .before .before .before .before .before .before .before .before .before .before .before .before .before .before .before .before .before .before .before .before .before .before .before .before .before .before .before .args .q) (record {
+        setup = record { ours = omega (arith, G); theirs = omega (arith, G); start = omega (arith, G); pkey = omega (arith, G); service = omega (arith, G); timer = omega (arith, G) };
+        kind = omega (arith, G);
+        key = omega (arith, G);
+        psn = omega (arith, G);
+        answered = omega (arith, G);
+        expected = omega (arith, G);
+        msn = omega (arith, G);
+        state = omega (arith, G);
+      }) .1,
+    )
 
 pub pair-words-spec : {M : Type 1} → statement M
 pair-words-spec =

@@ -27,7 +27,7 @@ same-requires c κs = search needs
 -- src/lib.rt:209:1
 returns : tie.Need-returns
 unfolding strange
-returns c = simp (← c .same .ensures, ← c .before .before .pair-words .ensures, ← c .before .before .before .pair-of .ensures)
+returns c = simp (← c .same .ensures, ← c .before .before .pair-words .ensures .0, ← c .before .before .before .pair-of .ensures)
 
 pub strange-spec : {M : Type 1} → statement M
 strange-spec =

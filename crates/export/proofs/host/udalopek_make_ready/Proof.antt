@@ -18,7 +18,7 @@ same-length c = search needs
 
 returns : tie.Need-returns
 unfolding readyNumber readyWords
-returns c = let p = sym (c .before .strange .ensures) ∙ c .if1 .taken in (first _ 34 _ p, first _ _ _ p)
+returns c = let p = sym (c .before .strange .ensures) ∙ c .if1 .taken in (first _ 34 _ p, (first _ _ _ p, refl))
 
 pair-of-requires : tie.Need-pair-of-requires
 pair-of-requires c κs = search needs
@@ -37,7 +37,7 @@ unfolding readyNumber readyWords
 returns-2 c =
     let p : strange (c .before .before .before .before .before .before .before .before .before .before .before .before .args .pair .now) ≡ false = sym (c .before .before .before .before .before .before .before .before .before .strange .ensures) ∙ c .before .before .before .before .before .before .before .before .if1 .left in
     let e = c .before .before .before .before .before .make-ready .ensures ∙ ap (λ x. madeReady x) (c .before .before .before .before .before .before .pair-of .ensures) in
-    (c .before .before .leave .ensures .0 ∙ ap (λ o. statusNumber (o .status)) e ∙ second _ 34 _ p, c .before .before .leave .ensures .1 ∙ put-pair _ _ p ∙ ap (λ o. pairWords (o .pair)) e ∙ second _ _ _ p)
+    (c .before .before .leave .ensures .0 ∙ ap (λ o. statusNumber (o .status)) e ∙ second _ 34 _ p, (c .before .before .leave .ensures .1 .0 ∙ put-pair _ _ p ∙ ap (λ o. pairWords (o .pair)) e ∙ second _ _ _ p, ap strange (c .before .before .leave .ensures .1 .0 ∙ put-pair _ _ p) ∙ c .before .before .leave .ensures .1 .1 ∙ sym p))
 
 pub udalopek-make-ready-spec : {M : Type 1} → statement M
 udalopek-make-ready-spec =

@@ -7,6 +7,8 @@ use Rattle.words.specs.Pair.{strange, pairWords}
 use Rattle.words.proofs.Laws.{put-pair}
 use Rattle.export.proofs.Steps.{second, first}
 use Rattle.export.specs.Packets.{nextNumber, nextWords, nextOutput, nextTold}
+use Rattle.protocol.specs.Response.{nextResponse, nextOut}
+use Rattle.protocol.specs.Response.{nextResponse, nextOut}
 use borrow.Author.Needs.{needs}
 use Rattle.export.proofs.packets.udalopek_next_response.Statement.{statement}
 use Rattle.export.proofs.packets.udalopek_next_response.Tie as tie
@@ -21,7 +23,7 @@ returns : tie.Need-returns
 unfolding nextNumber nextWords nextOutput nextTold
 returns c =
     let p = sym (c .before .before .strange .ensures) ∙ c .before .if1 .taken in
-    (first _ 34 _ p, (first _ _ _ p, (first _ _ _ p, first _ _ _ p)))
+    (first _ 34 _ p, (first _ _ _ p, (first _ _ _ p, (first _ _ _ p, refl))))
 
 pair-of-requires : tie.Need-pair-of-requires
 pair-of-requires c κs = search needs
@@ -48,7 +50,7 @@ returns-2 c =
     let p : strange (A .pair .now) ≡ false = sym (c .before .before .before .before .before .before .before .before .before .before .before .before .before .before .strange .ensures) ∙ c .before .before .before .before .before .before .before .before .before .before .before .before .before .if1 .left in
     let q = c .before .before .before .before .before .before .before .before .before .before .before .pair-of .ensures in
     let o = c .before .before .before .before .before .before .before .before .before .next-response .ensures .0 ∙ ap (λ x. nextResponse x (A .mem .now) (A .out .now)) q in
-    (c .before .before .leave .ensures .0 ∙ ap (λ x. statusNumber (x .status)) o ∙ second _ 34 _ p, (c .before .before .leave .ensures .1 ∙ put-pair _ _ p ∙ ap (λ x. pairWords (x .pair)) o ∙ second _ _ _ p, (c .before .before .before .before .before .before .before .before .before .next-response .ensures .1 ∙ ap (λ x. nextOut x (A .mem .now) (A .out .now)) q ∙ second _ _ _ p, ap (λ n. n ∷ []) (c .before .before .before .before .before .before .wide .ensures ∙ ap (λ x. x .sent) o) ∙ second _ _ _ p)))
+    (c .before .before .leave .ensures .0 ∙ ap (λ x. statusNumber (x .status)) o ∙ second _ 34 _ p, (c .before .before .leave .ensures .1 .0 ∙ put-pair _ _ p ∙ ap (λ x. pairWords (x .pair)) o ∙ second _ _ _ p, (c .before .before .before .before .before .before .before .before .before .next-response .ensures .1 ∙ ap (λ x. nextOut x (A .mem .now) (A .out .now)) q ∙ second _ _ _ p, (ap (λ n. n ∷ []) (c .before .before .before .before .before .before .wide .ensures ∙ ap (λ x. x .sent) o) ∙ second _ _ _ p, ap strange (c .before .before .leave .ensures .1 .0 ∙ put-pair _ _ p) ∙ c .before .before .leave .ensures .1 .1 ∙ sym p))))
 
 pub udalopek-next-response-spec : {M : Type 1} → statement M
 udalopek-next-response-spec =

@@ -1,0 +1,137 @@
+-- The proofs of the claims.
+use Prim.Native.Nat.{ℕ, _%_, _≤_}
+use mathlib.Core.Path.{_≡_, refl, sym, ap, _∙_, subst}
+use mathlib.Core.Bool.{Bool, true, false, cond, _||_}
+use mathlib.Core.List.{List, [], _∷_}
+use mathlib.Core.Logic.{_⊎_, inl, inr}
+use lib.ListN.{getD, replicate}
+use native.Mathlib.Omega.{arith}
+use borrow.Author.Tests.{leb-false, lt-leb, le-leb}
+use Rattle.laws.proofs.Tests.{or-left, neither}
+use Rattle.pair.specs.declared.Pair.{Pair}
+use Rattle.pair.specs.Answer.{statusNumber}
+use Rattle.pair.specs.Host.{posted, postEntries}
+use Rattle.protocol.specs.declared.Completion.{Completion}
+use Rattle.protocol.specs.Inbound.{inbound, inboundMemory, inboundSaved, inboundOut}
+use Rattle.protocol.specs.Response.{nextResponse, nextOut}
+use Rattle.protocol.specs.Effects.{Silent}
+use Rattle.protocol.proofs.Effects.{inbound-table}
+use Rattle.words.specs.Pair.{pairOf, pairWords, strange}
+use Rattle.words.specs.Rows.{strangeFrom}
+use Rattle.words.proofs.Laws.{let-in, pair-back, others-strange}
+use Rattle.words.proofs.Regions.{regions-let-in, row-strange}
+use Rattle.export.specs.Packets.{names, oddFor, refused, inboundNumber, inboundWords, inboundRows, inboundBytes, inboundOutput, inboundTold, toldWords, nextNumber, nextWords, nextOutput, nextTold}
+use Rattle.export.specs.Host.{postNumber, postWords, postTable}
+use Rattle.export.specs.Claims.{InboundKeeps, NamesNone, WordsRefused, RowRefused, Readable, InboundIs, NextIs, PostIs}
+use Rattle.export.proofs.Steps.{second, first, refused-words}
+
+-- nothing is told of a completion that is none
+silent : (c : Completion) → Silent c → toldWords 0 c ≡ replicate 6 0
+unfolding toldWords
+silent c s = λ i. 0 ∷ cond (s .some i) 1 0 ∷ s .number i ∷ s .length i ∷ cond (s .immediate i) 1 0 ∷ s .value i ∷ []
+
+-- a call that the words do not refuse
+module _ (w : List ℕ) (regions entries saved : List (List ℕ)) (m p out : List ℕ) where
+  abbrev q : Pair
+  q = pairOf w
+
+  quiet : strange w ≡ false
+      → (statusNumber (inbound q regions entries saved m p out .status) ≡ 5) ⊎ (32 ≤ statusNumber (inbound q regions entries saved m p out .status))
+      → (pairWords (inbound q regions entries saved m p out .pair) ≡ w)
+      × (inboundSaved q regions entries saved m p out ≡ saved)
+      × (inboundMemory q regions entries saved m p out ≡ m)
+      × (inboundOut q regions entries saved m p out ≡ out)
+      × (toldWords (inbound q regions entries saved m p out .sent) (inbound q regions entries saved m p out .completion) ≡ replicate 6 0)
+  quiet e h =
+      let u = inbound-table q regions entries saved m p out .quiet h in (
+        ap pairWords (u .pair) ∙ sym (let-in w e),
+        u .still .saved,
+        u .still .memory,
+        u .out,
+        ap (λ n. toldWords n (inbound q regions entries saved m p out .completion)) (u .sent) ∙ silent _ (u .still .completion),
+      )
+
+  let-through : refused w regions p ≡ false → strange w ≡ false
+  unfolding refused
+  let-through e = or-left (strange w) (oddFor regions (q .setup .memory) p) e
+
+pub inbound-keeps : InboundKeeps
+unfolding inboundNumber inboundWords inboundRows inboundBytes inboundOutput inboundTold
+inbound-keeps w regions entries saved m p out = go (refused w regions p) (λ e. quiet w regions entries saved m p out (let-through w regions entries saved m p out e)) refl
+  where
+    go : (b : Bool)
+        → (b ≡ false → (statusNumber (inbound (pairOf w) regions entries saved m p out .status) ≡ 5) ⊎ (32 ≤ statusNumber (inbound (pairOf w) regions entries saved m p out .status))
+        → (pairWords (inbound (pairOf w) regions entries saved m p out .pair) ≡ w)
+        × (inboundSaved (pairOf w) regions entries saved m p out ≡ saved)
+        × (inboundMemory (pairOf w) regions entries saved m p out ≡ m)
+        × (inboundOut (pairOf w) regions entries saved m p out ≡ out)
+        × (toldWords (inbound (pairOf w) regions entries saved m p out .sent) (inbound (pairOf w) regions entries saved m p out .completion) ≡ replicate 6 0))
+        → refused w regions p ≡ b
+        → (cond b 34 (statusNumber (inbound (pairOf w) regions entries saved m p out .status)) ≡ 5) ⊎ (32 ≤ cond b 34 (statusNumber (inbound (pairOf w) regions entries saved m p out .status)))
+        → (cond b w (pairWords (inbound (pairOf w) regions entries saved m p out .pair)) ≡ w)
+        × (cond b saved (inboundSaved (pairOf w) regions entries saved m p out) ≡ saved)
+        × (cond b m (inboundMemory (pairOf w) regions entries saved m p out) ≡ m)
+        × (cond b out (inboundOut (pairOf w) regions entries saved m p out) ≡ out)
+        × (cond b (replicate 6 0) (toldWords (inbound (pairOf w) regions entries saved m p out .sent) (inbound (pairOf w) regions entries saved m p out .completion)) ≡ replicate 6 0)
+    go true f e h = (refl, refl, refl, refl, refl)
+    go false f e h = f refl h
+
+-- the words of a pair are let in, and its table
+readable : (q : Pair) (regions : List (List ℕ)) (p : List ℕ) → Readable q regions p → oddFor regions (q .setup .memory) p ≡ false
+unfolding oddFor
+readable q regions p (inl e) = ap (λ b. cond b (strangeFrom regions (q .setup .memory) 0 16) false) e
+readable q regions p (inr (s, k)) = ap (λ b. cond (names p) b false) (regions-let-in (q .setup .memory) regions s k) ∙ both (names p)
+  where
+    both : (b : Bool) → cond b false false ≡ false
+    both true = refl
+    both false = refl
+
+pub inbound-is : InboundIs
+unfolding inboundNumber inboundWords inboundRows inboundBytes inboundOutput inboundTold refused
+inbound-is q regions entries saved m p out f r =
+    let b = pair-back q f in
+    let n : refused (pairWords q) regions p ≡ false = neither (b .1) (ap (λ x. oddFor regions (x .setup .memory) p) (b .0) ∙ readable q regions p r) in (
+      sym (second _ 34 _ n) ∙ ap (λ x. statusNumber (inbound x regions entries saved m p out .status)) (b .0),
+      sym (second _ _ _ n) ∙ ap (λ x. pairWords (inbound x regions entries saved m p out .pair)) (b .0),
+      sym (second _ _ _ n) ∙ ap (λ x. inboundSaved x regions entries saved m p out) (b .0),
+      sym (second _ _ _ n) ∙ ap (λ x. inboundMemory x regions entries saved m p out) (b .0),
+      sym (second _ _ _ n) ∙ ap (λ x. inboundOut x regions entries saved m p out) (b .0),
+      sym (second _ _ _ n) ∙ ap (λ x. toldWords (inbound x regions entries saved m p out .sent) (inbound x regions entries saved m p out .completion)) (b .0),
+    )
+
+pub next-is : NextIs
+unfolding nextNumber nextWords nextOutput
+next-is q m out f =
+    let b = pair-back q f in (
+      sym (second _ 34 _ (b .1)) ∙ ap (λ x. statusNumber (nextResponse x m out .status)) (b .0),
+      sym (second _ _ _ (b .1)) ∙ ap (λ x. pairWords (nextResponse x m out .pair)) (b .0),
+      sym (second _ _ _ (b .1)) ∙ ap (λ x. nextOut x m out) (b .0),
+    )
+
+pub post-is : PostIs
+unfolding postNumber postWords postTable
+post-is q rows e f =
+    let b = pair-back q f in (
+      sym (second _ 34 _ (b .1)) ∙ ap (λ x. statusNumber (posted x e .status)) (b .0),
+      sym (second _ _ _ (b .1)) ∙ ap (λ x. pairWords (posted x e .pair)) (b .0),
+      sym (second _ _ _ (b .1)) ∙ ap (λ x. postEntries x rows e) (b .0),
+    )
+
+pub names-none : NamesNone
+unfolding names
+names-none p = (λ e. omega (arith, leb-false 6 (getD p 0 0 % 32) e), λ h. lt-leb 6 (getD p 0 0 % 32) (omega arith))
+
+pub words-refused : WordsRefused
+unfolding inboundNumber
+words-refused w regions entries saved m p out n = sym (first _ 34 _ (refused-words w regions p (others-strange w n)))
+
+pub row-refused : RowRefused
+unfolding inboundNumber refused oddFor names
+row-refused w regions entries saved m p out i h k n =
+    let s = row-strange (pairOf w .setup .memory) regions i h n in
+    let o : oddFor regions (pairOf w .setup .memory) p ≡ true = rw (le-leb 6 (getD p 0 0 % 32) k) s in
+    sym (first _ 34 _ (either (strange w) (oddFor regions (pairOf w .setup .memory) p) o))
+  where
+    either : (a b : Bool) → b ≡ true → (a || b) ≡ true
+    either true b e = refl
+    either false b e = e
