@@ -122,7 +122,7 @@ pub extern "C" fn udalopek_next_response(
     let q = words::pair_of(pair);
     let got = responder::next_response(q, mem, out);
     *told = [wide(got.sent)];
-    let left = got.pair;
+    let after = got.pair;
     let status = got.status;
-    leave(pair, left, status)
+    leave(pair, after, status)
 }

@@ -13,7 +13,7 @@ use Rattle.table.specs.Table.{regionOutside, outside, pastTop, regionRow}
 use Rattle.table.specs.declared.Region.{Region}
 use Rattle.table.specs.Claims.{RegionsSound, RowSound, RegionFits, Free}
 use Rattle.table.proofs.Regions.{region-tested}
-use Rattle.words.specs.Rows.{rowStrange, strangeFrom}
+use Rattle.words.specs.Rows.{noRegionsRow, rowStrange, strangeFrom}
 use Rattle.words.specs.Claims.{RegionsLetIn, RowsKnown, RowStrange, RegionNumbers}
 
 bit-small : (b : Bool) → ltb 1 (cond b 1 0) ≡ false
@@ -25,10 +25,9 @@ unfolding rowStrange
 free-row memory row e = rw (eq-eqb _ _ e)
 
 region-row : (memory : ℕ) (r : Region) → r .key < 2 ^ 32 → RegionFits memory r → rowStrange (regionRow r) memory ≡ false
-unfolding rowStrange regionRow
+unfolding rowStrange noRegionsRow regionRow
 region-row memory r k f =
-    rw (ne-eqb (r .length) 0 (λ e. omega (arith, f .some)))
-    (neither (lt-leb _ _ k) (neither (bit-small (r .write)) (neither (bit-small (r .read)) (neither (bit-small (r .atomic)) (region-tested memory r .1 f)))))
+    simp (ne-eqb (r .length) 0 (λ e. omega (arith, f .some)), lt-leb (2 ^ 32) (r .key) k, bit-small (r .write), bit-small (r .read), bit-small (r .atomic), region-tested memory r .1 f)
 
 -- each of seven tests of which none is true
 none : (k w x y l o t : Bool) → (k || (w || (x || (y || (l || (o || t)))))) ≡ false
@@ -41,10 +40,8 @@ none k w x y l o t r =
     let e = or-right l (o || t) d in
     (or-left k (w || (x || (y || (l || (o || t))))) r, (or-left w (x || (y || (l || (o || t)))) a, (or-left x (y || (l || (o || t))) b, (or-left y (l || (o || t)) c, (or-left o t e, or-right o t e)))))
 
-tests-of : (memory : ℕ) (row : List ℕ)
-    → (leb (2 ^ 32) (getD row 0 0) || (ltb 1 (getD row 4 0) || (ltb 1 (getD row 5 0) || (ltb 1 (getD row 6 0) || regionOutside (getD row 1 0) (getD row 2 0) (getD row 3 0) memory)))) ≡ false
-    → RegionNumbers memory row
-unfolding regionOutside outside pastTop
+tests-of : (memory : ℕ) (row : List ℕ) → noRegionsRow row memory ≡ false → RegionNumbers memory row
+unfolding noRegionsRow regionOutside outside pastTop
 tests-of memory row r =
     let f = none (leb (2 ^ 32) (getD row 0 0)) (ltb 1 (getD row 4 0)) (ltb 1 (getD row 5 0)) (ltb 1 (getD row 6 0)) (eqb (getD row 2 0) 0) (ltb memory (getD row 3 0 + getD row 2 0)) (leb (2 ^ 64) (getD row 1 0 + getD row 2 0)) r in
     record {
@@ -60,9 +57,7 @@ known-row : (memory : ℕ) (row : List ℕ) → rowStrange row memory ≡ false 
 unfolding rowStrange
 known-row memory row e = go (eqb (getD row 2 0) 0) refl e
   where
-    go : (b : Bool) → eqb (getD row 2 0) 0 ≡ b
-        → cond b false (leb (2 ^ 32) (getD row 0 0) || (ltb 1 (getD row 4 0) || (ltb 1 (getD row 5 0) || (ltb 1 (getD row 6 0) || regionOutside (getD row 1 0) (getD row 2 0) (getD row 3 0) memory)))) ≡ false
-        → Free row ⊎ RegionNumbers memory row
+    go : (b : Bool) → eqb (getD row 2 0) 0 ≡ b → cond b false (noRegionsRow row memory) ≡ false → Free row ⊎ RegionNumbers memory row
     go true h r = inl (eqb-true (getD row 2 0) 0 h)
     go false h r = inr (tests-of memory row r)
 

@@ -7,12 +7,15 @@ use lib.ListN.{getD}
 use Rattle.table.specs.Table.{regionOutside}
 use Rattle.words.specs.Words.{word}
 
--- a row of length 0 is free; any other is a region's: a key of 32 bits, a range in memory, rights of 0 or 1
+-- numbers of no region: a key over 32 bits, a right that is neither 0 nor 1, a range outside memory
+unfoldable pub noRegionsRow : List ℕ → ℕ → Bool
+noRegionsRow row memory =
+    leb (2 ^ 32) (word row 0)
+    || (ltb 1 (word row 4) || (ltb 1 (word row 5) || (ltb 1 (word row 6) || regionOutside (word row 1) (word row 2) (word row 3) memory)))
+
+-- a row of length 0 is free; any other is a region's
 unfoldable pub rowStrange : List ℕ → ℕ → Bool
-rowStrange row memory =
-    cond (eqb (word row 2) 0) false
-    (leb (2 ^ 32) (word row 0)
-    || (ltb 1 (word row 4) || (ltb 1 (word row 5) || (ltb 1 (word row 6) || regionOutside (word row 1) (word row 2) (word row 3) memory))))
+rowStrange row memory = cond (eqb (word row 2) 0) false (noRegionsRow row memory)
 
 -- one of the n rows from row i on is neither
 unfoldable pub strangeFrom : List (List ℕ) → ℕ → ℕ → ℕ → Bool
