@@ -1,10 +1,14 @@
 /* The transport side of an InfiniBand queue pair, as a static library.
  *
  * Every function answers a number of the rules; those from 32 on are refusals, and a refusal changes nothing that was
- * lent. No function keeps anything between calls, allocates, or calls out. Two calls may run at once unless they are
- * lent the same bytes or words.
+ * lent, but for told, which is then all 0. No function keeps anything between calls, allocates, or calls out. Two calls
+ * may run at once unless they are lent the same bytes or words.
  *
- * The state of a pair is 30 words and three tables, all lent by the caller. Words that no call wrote are refused with 34.
+ * The state of a pair is 30 words and three tables, all lent by the caller. Words that no call wrote are refused: with 34
+ * before all else where there are not 30 of them or one does not fit its field, and where they are no sound pair with 34 at
+ * its place in the call's order of checks. A row of a table that no call wrote is refused with 34 when it is used: an entry
+ * when a packet takes it, and any row of the regions by a packet that may name one, which a SEND may not. The words of an
+ * open message are not looked at where none is open, nor those of a READ where none is being answered.
  *
  * What a caller owes, since C cannot say it: a pointer is never null, even with length 0; it points to as many elements
  * as the length beside it says, or as its array type has; what is written overlaps nothing else that is lent. */
@@ -38,8 +42,9 @@ struct udalopek_pair {
     uint64_t saved[16][2];
 };
 
-/* Set-up. 39: PMTU, service, a number over 24 bits, a P_Key whose low 15 bits are 0, a timer code over 31; 34: memory over
- * 1,048,576 bytes, or not 30 words. start is the first PSN to expect; send to atomic are the functions enabled. */
+/* Set-up, whatever the words and the table hold. 34: not 30 words; 39: PMTU, service, a number over 24 bits, a P_Key whose
+ * low 15 bits are 0, a timer code over 31; 34: memory over 1,048,576 bytes. start is the first PSN to expect; send to
+ * atomic are the functions enabled. */
 uint8_t udalopek_set_up(uint64_t *pair, size_t pair_words, uint64_t regions[16][7], uint8_t service, size_t pmtu,
                         uint32_t ours, uint32_t theirs, uint16_t pkey, uint32_t start, uint8_t timer, bool send,
                         bool write, bool read, bool atomic, size_t memory);
@@ -64,11 +69,11 @@ uint8_t udalopek_post_entry(uint64_t *pair, size_t pair_words, uint64_t entries[
 
 /* Takes a packet, from its BTH to the end of its pad. 35: out under 24 bytes; 34: memory not of the length set up; 32: a READ
  * is still being answered. told: bytes of out to send, then the completion: 1 if there is one, entry, bytes, 1 if there
- * is an immediate, the immediate; all 0 where there is nothing to tell. */
-uint8_t udalopek_inbound(uint64_t *pair, size_t pair_words, const uint64_t regions[16][7],
-                         const uint64_t entries[16][3], uint64_t saved[16][2], uint8_t *memory, size_t memory_length,
-                         const uint8_t *packet, size_t packet_length, uint8_t *out, size_t out_length,
-                         uint64_t told[6]);
+ * is an immediate, the immediate; all 0 where there is nothing to tell. regions and entries are only read; they are not
+ * const, as C before C23 would ask for a cast. */
+uint8_t udalopek_inbound(uint64_t *pair, size_t pair_words, uint64_t regions[16][7], uint64_t entries[16][3],
+                         uint64_t saved[16][2], uint8_t *memory, size_t memory_length, const uint8_t *packet,
+                         size_t packet_length, uint8_t *out, size_t out_length, uint64_t told[6]);
 
 /* Writes the next response of a READ. 36: none pending; 35: out under 16 + PMTU; 34: memory. told: bytes of out to send. */
 uint8_t udalopek_next_response(uint64_t *pair, size_t pair_words, const uint8_t *memory, size_t memory_length,

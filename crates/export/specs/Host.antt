@@ -9,6 +9,7 @@ use Rattle.table.specs.declared.Entry.{Entry}
 use Rattle.pair.specs.declared.Setup.{Setup}
 use Rattle.pair.specs.Answer.{statusNumber, executed}
 use Rattle.pair.specs.Host.{setUp, setUpRegions, resetTo, resetRegions, madeReady, addStatus, addRegions, removeStatus, removeRegions, posted, postEntries}
+use Rattle.pair.specs.Sound.{pairUnsound}
 use Rattle.words.specs.Pair.{pairOf, pairWords, strange}
 use Rattle.words.specs.Rows.{strangeFrom}
 
@@ -25,14 +26,18 @@ setUpWords w s = cond (tooMany w) w (cond (executed (setUp s .status)) (pairWord
 unfoldable pub setUpTable : List ℕ → List (List ℕ) → Setup → List (List ℕ)
 setUpTable w rows s = cond (tooMany w) rows (setUpRegions s rows)
 
+-- reset and remove region test the whole pair here, since as calls of a pair they need not
+unfoldable pub unmade : List ℕ → Bool
+unmade w = pairUnsound (pairOf w)
+
 unfoldable pub resetNumber : List ℕ → ℕ
-resetNumber w = cond (strange w) 34 (statusNumber (resetTo (pairOf w) .status))
+resetNumber w = cond (strange w) 34 (cond (unmade w) 34 (statusNumber (resetTo (pairOf w) .status)))
 
 unfoldable pub resetWords : List ℕ → List ℕ
-resetWords w = cond (strange w) w (pairWords (resetTo (pairOf w) .pair))
+resetWords w = cond (strange w) w (cond (unmade w) w (pairWords (resetTo (pairOf w) .pair)))
 
 unfoldable pub resetTable : List ℕ → List (List ℕ) → List (List ℕ)
-resetTable w rows = cond (strange w) rows (resetRegions (pairOf w) rows)
+resetTable w rows = cond (strange w) rows (cond (unmade w) rows (resetRegions (pairOf w) rows))
 
 unfoldable pub readyNumber : List ℕ → ℕ
 readyNumber w = cond (strange w) 34 (statusNumber (madeReady (pairOf w) .status))
@@ -51,10 +56,12 @@ unfoldable pub addTable : List ℕ → List (List ℕ) → Region → List (List
 addTable w rows r = cond (strange w) rows (cond (oddRegions w rows) rows (addRegions (pairOf w) rows r))
 
 unfoldable pub removeNumber : List ℕ → List (List ℕ) → ℕ → ℕ
-removeNumber w rows key = cond (strange w) 34 (cond (oddRegions w rows) 34 (statusNumber (removeStatus rows key)))
+removeNumber w rows key =
+    cond (strange w) 34 (cond (unmade w) 34 (cond (oddRegions w rows) 34 (statusNumber (removeStatus rows key))))
 
 unfoldable pub removeTable : List ℕ → List (List ℕ) → ℕ → List (List ℕ)
-removeTable w rows key = cond (strange w) rows (cond (oddRegions w rows) rows (removeRegions rows key))
+removeTable w rows key =
+    cond (strange w) rows (cond (unmade w) rows (cond (oddRegions w rows) rows (removeRegions rows key)))
 
 unfoldable pub postNumber : List ℕ → Entry → ℕ
 postNumber w e = cond (strange w) 34 (statusNumber (posted (pairOf w) e .status))

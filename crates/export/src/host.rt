@@ -93,6 +93,10 @@ pub extern "C" fn udalopek_reset(pair: &mut [u64], regions: &mut [[u64; 7]; 16])
         return 34;
     }
     let q = words::pair_of(pair);
+    let unsound = pair::sound::unsound(q);
+    if unsound {
+        return 34;
+    }
     let left = pair::host::reset(q, regions);
     let q = left.pair;
     let status = left.status;
@@ -166,6 +170,10 @@ pub extern "C" fn udalopek_remove_region(pair: &[u64], regions: &mut [[u64; 7]; 
         return 34;
     }
     let q = words::pair_of(pair);
+    let unsound = pair::sound::unsound(q);
+    if unsound {
+        return 34;
+    }
     let odd = words::regions_strange(regions, wide(q.setup.memory));
     if odd {
         return 34;

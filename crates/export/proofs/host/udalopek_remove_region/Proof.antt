@@ -1,54 +1,68 @@
-use Rattle.export.specs.Host.{removeNumber, removeTable, oddRegions}
+use mathlib.Core.Path.{_≡_, refl, sym, ap, _∙_}
+use mathlib.Core.Bool.{true, false}
+use Rattle.pair.specs.Answer.{statusNumber}
+use Rattle.pair.specs.Sound.{pairUnsound}
+use Rattle.words.specs.Pair.{strange}
+use Rattle.words.specs.Rows.{strangeFrom}
+use Rattle.export.proofs.Steps.{second, first}
+use Rattle.export.specs.Host.{unmade, oddRegions, removeNumber, removeTable}
 use borrow.Author.Needs.{needs}
 use Rattle.export.proofs.host.udalopek_remove_region.Statement.{statement}
 use Rattle.export.proofs.host.udalopek_remove_region.Tie as tie
-use Rattle.export.proofs.host.udalopek_remove_region.Reads as reads
-use Rattle.export.proofs.host.udalopek_remove_region.Lts as lts
-use Rattle.export.proofs.host.wide.Reads as wide-reads
-use Rattle.pair.proofs.Status.number.Reads as number-reads
-use Rattle.pair.proofs.host.remove_region.Reads as remove-region-reads
-use Rattle.words.proofs.pair_of.Reads as pair-of-reads
-use Rattle.words.proofs.regions_strange.Reads as regions-strange-reads
-use Rattle.words.proofs.strange.Reads as strange-reads
 
--- src/host.rt:147:9
 strange-requires : tie.Need-strange-requires
 strange-requires c κs = search needs
 
--- src/host.rt:149:9
 returns : tie.Need-returns
-unfolding removeNumber removeTable oddRegions
-returns c = (simp (← c .before .strange .ensures, c .if1 .taken), simp (← c .before .strange .ensures, c .if1 .taken))
+unfolding removeNumber removeTable unmade oddRegions
+returns c = let p = sym (c .before .strange .ensures) ∙ c .if1 .taken in (first _ 34 _ p, first _ _ _ p)
 
--- src/host.rt:151:9
 pair-of-requires : tie.Need-pair-of-requires
 pair-of-requires c κs = search needs
 
--- src/host.rt:152:47
+unsound-requires : tie.Need-unsound-requires
+unsound-requires c κs = search needs
+
+returns-2 : tie.Need-returns-2
+unfolding removeNumber removeTable unmade oddRegions
+returns-2 c =
+    let A = c .before .before .before .before .before .before .args in
+    let p : strange (A .pair .now) ≡ false = sym (c .before .before .before .before .strange .ensures) ∙ c .before .before .before .if1 .left in
+    let q = c .before .before .pair-of .ensures in
+    let u : unmade (A .pair .now) ≡ true = ap pairUnsound (sym q) ∙ sym (c .before .unsound .ensures) ∙ c .if2 .taken in
+    (first _ 34 _ u ∙ second _ 34 _ p, first _ _ _ u ∙ second _ _ _ p)
+
 wide-requires : tie.Need-wide-requires
 wide-requires c κs = search needs
 
--- src/host.rt:152:9
 regions-strange-requires : tie.Need-regions-strange-requires
 regions-strange-requires c κs = search needs
 
--- src/host.rt:154:9
-returns-2 : tie.Need-returns-2
-unfolding removeNumber removeTable oddRegions
-returns-2 c = (simp (← c .before .before .before .before .before .before .strange .ensures, c .before .before .before .before .before .if1 .left, ← c .before .before .before .before .pair-of .ensures, ← c .before .before .wide .ensures, ← c .before .regions-strange .ensures, c .if2 .taken), simp (← c .before .before .before .before .before .before .strange .ensures, c .before .before .before .before .before .if1 .left, ← c .before .before .before .before .pair-of .ensures, ← c .before .before .wide .ensures, ← c .before .regions-strange .ensures, c .if2 .taken))
+returns-3 : tie.Need-returns-3
+unfolding removeNumber removeTable unmade oddRegions
+returns-3 c =
+    let A = c .before .before .before .before .before .before .before .before .before .before .args in
+    let p : strange (A .pair .now) ≡ false = sym (c .before .before .before .before .before .before .before .before .strange .ensures) ∙ c .before .before .before .before .before .before .before .if1 .left in
+    let q = c .before .before .before .before .before .before .pair-of .ensures in
+    let u : unmade (A .pair .now) ≡ false = ap pairUnsound (sym q) ∙ sym (c .before .before .before .before .before .unsound .ensures) ∙ c .before .before .before .before .if2 .left in
+    let o : oddRegions (A .pair .now) (A .regions .now) ≡ true = ap (λ x. strangeFrom (A .regions .now) (x .setup .memory) 0 16) (sym q) ∙ ap (λ n. strangeFrom (A .regions .now) n 0 16) (sym (c .before .before .wide .ensures)) ∙ sym (c .before .regions-strange .ensures) ∙ c .if3 .taken in
+    (first _ 34 _ o ∙ second _ 34 _ u ∙ second _ 34 _ p, first _ _ _ o ∙ second _ _ _ u ∙ second _ _ _ p)
 
--- src/host.rt:156:9
 remove-region-requires : tie.Need-remove-region-requires
 remove-region-requires c κs = search needs
 
--- src/host.rt:157:5
 number-requires : tie.Need-number-requires
 number-requires c κs = search needs
 
--- src/host.rt:142:1
-returns-3 : tie.Need-returns-3
-unfolding removeNumber removeTable oddRegions
-returns-3 c = (simp (← c .before .before .before .before .before .before .before .before .before .strange .ensures, c .before .before .before .before .before .before .before .before .if1 .left, ← c .before .before .before .before .before .before .before .pair-of .ensures, ← c .before .before .before .before .before .wide .ensures, ← c .before .before .before .before .regions-strange .ensures, c .before .before .before .if2 .left, ← c .before .remove-region .ensures .1, ← c .before .remove-region .ensures .0, ← c .number .ensures), simp (← c .before .before .before .before .before .before .before .before .before .strange .ensures, c .before .before .before .before .before .before .before .before .if1 .left, ← c .before .before .before .before .before .before .before .pair-of .ensures, ← c .before .before .before .before .before .wide .ensures, ← c .before .before .before .before .regions-strange .ensures, c .before .before .before .if2 .left, ← c .before .remove-region .ensures .1, ← c .before .remove-region .ensures .0, ← c .number .ensures))
+returns-4 : tie.Need-returns-4
+unfolding removeNumber removeTable unmade oddRegions
+returns-4 c =
+    let A = c .before .before .before .before .before .before .before .before .before .before .before .before .before .args in
+    let p : strange (A .pair .now) ≡ false = sym (c .before .before .before .before .before .before .before .before .before .before .before .strange .ensures) ∙ c .before .before .before .before .before .before .before .before .before .before .if1 .left in
+    let q = c .before .before .before .before .before .before .before .before .before .pair-of .ensures in
+    let u : unmade (A .pair .now) ≡ false = ap pairUnsound (sym q) ∙ sym (c .before .before .before .before .before .before .before .before .unsound .ensures) ∙ c .before .before .before .before .before .before .before .if2 .left in
+    let o : oddRegions (A .pair .now) (A .regions .now) ≡ false = ap (λ x. strangeFrom (A .regions .now) (x .setup .memory) 0 16) (sym q) ∙ ap (λ n. strangeFrom (A .regions .now) n 0 16) (sym (c .before .before .before .before .before .wide .ensures)) ∙ sym (c .before .before .before .before .regions-strange .ensures) ∙ c .before .before .before .if3 .left in
+    (c .number .ensures ∙ ap statusNumber (c .before .remove-region .ensures .0) ∙ second _ 34 _ o ∙ second _ 34 _ u ∙ second _ 34 _ p, c .before .remove-region .ensures .1 ∙ second _ _ _ o ∙ second _ _ _ u ∙ second _ _ _ p)
 
 pub udalopek-remove-region-spec : {M : Type 1} → statement M
 udalopek-remove-region-spec =
@@ -57,9 +71,11 @@ udalopek-remove-region-spec =
     strange-requires
     returns
     pair-of-requires
+    unsound-requires
+    returns-2
     wide-requires
     regions-strange-requires
-    returns-2
+    returns-3
     remove-region-requires
     number-requires
-    returns-3)
+    returns-4)

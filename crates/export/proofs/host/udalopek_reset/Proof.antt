@@ -4,8 +4,9 @@ use Rattle.pair.specs.Answer.{statusNumber}
 use Rattle.words.specs.Pair.{strange, pairOf, pairWords}
 use Rattle.words.proofs.Laws.{put-pair}
 use Rattle.export.proofs.Steps.{second, first}
+use Rattle.pair.specs.Sound.{pairUnsound}
 use Rattle.pair.specs.Host.{resetTo, resetRegions}
-use Rattle.export.specs.Host.{resetNumber, resetWords, resetTable}
+use Rattle.export.specs.Host.{unmade, resetNumber, resetWords, resetTable}
 use borrow.Author.Needs.{needs}
 use Rattle.export.proofs.host.udalopek_reset.Statement.{statement}
 use Rattle.export.proofs.host.udalopek_reset.Tie as tie
@@ -17,11 +18,25 @@ same-length : tie.Need-same-length
 same-length c = search needs
 
 returns : tie.Need-returns
-unfolding resetNumber resetWords resetTable
+unfolding resetNumber resetWords resetTable unmade
 returns c = let p = sym (c .before .strange .ensures) ∙ c .if1 .taken in (first _ 34 _ p, (first _ _ _ p, (first _ _ _ p, refl)))
 
 pair-of-requires : tie.Need-pair-of-requires
 pair-of-requires c κs = search needs
+
+unsound-requires : tie.Need-unsound-requires
+unsound-requires c κs = search needs
+
+same-length-2 : tie.Need-same-length-2
+same-length-2 c = search needs
+
+returns-2 : tie.Need-returns-2
+unfolding resetNumber resetWords resetTable unmade
+returns-2 c =
+    let A = c .before .before .before .before .before .before .before .before .args in
+    let p : strange (A .pair .now) ≡ false = sym (c .before .before .before .before .before .strange .ensures) ∙ c .before .before .before .before .if1 .left in
+    let u : unmade (A .pair .now) ≡ true = ap pairUnsound (sym (c .before .before .pair-of .ensures)) ∙ sym (c .before .unsound .ensures) ∙ c .if2 .taken in
+    (first _ 34 _ u ∙ second _ 34 _ p, (first _ _ _ u ∙ second _ _ _ p, (first _ _ _ u ∙ second _ _ _ p, refl)))
 
 reset-requires : tie.Need-reset-requires
 reset-requires c κs = search needs
@@ -29,15 +44,18 @@ reset-requires c κs = search needs
 leave-requires : tie.Need-leave-requires
 leave-requires c κs = search needs
 
-same-length-2 : tie.Need-same-length-2
-same-length-2 c = search needs
+same-length-3 : tie.Need-same-length-3
+same-length-3 c = search needs
 
-returns-2 : tie.Need-returns-2
-unfolding resetNumber resetWords resetTable
-returns-2 c =
-    let p : strange (c .before .before .before .before .before .before .before .before .before .before .before .before .before .args .pair .now) ≡ false = sym (c .before .before .before .before .before .before .before .before .before .before .strange .ensures) ∙ c .before .before .before .before .before .before .before .before .before .if1 .left in
-    let e = c .before .before .before .before .before .reset .ensures .0 ∙ ap (λ x. resetTo x) (c .before .before .before .before .before .before .before .pair-of .ensures) in
-    (c .before .before .leave .ensures .0 ∙ ap (λ o. statusNumber (o .status)) e ∙ second _ 34 _ p, (c .before .before .leave .ensures .1 .0 ∙ put-pair _ _ p ∙ ap (λ o. pairWords (o .pair)) e ∙ second _ _ _ p, (c .before .before .before .before .before .reset .ensures .1 ∙ ap (λ x. resetRegions x (c .before .before .before .before .before .before .before .before .before .before .before .before .before .args .regions .now)) (c .before .before .before .before .before .before .before .pair-of .ensures) ∙ second _ _ _ p, ap strange (c .before .before .leave .ensures .1 .0 ∙ put-pair _ _ p) ∙ c .before .before .leave .ensures .1 .1 ∙ sym p)))
+returns-3 : tie.Need-returns-3
+unfolding resetNumber resetWords resetTable unmade
+returns-3 c =
+    let A = c .before .before .before .before .before .before .before .before .before .before .before .before .before .before .before .args in
+    let p : strange (A .pair .now) ≡ false = sym (c .before .before .before .before .before .before .before .before .before .before .before .before .strange .ensures) ∙ c .before .before .before .before .before .before .before .before .before .before .before .if1 .left in
+    let q = c .before .before .before .before .before .before .before .before .before .pair-of .ensures in
+    let u : unmade (A .pair .now) ≡ false = ap pairUnsound (sym q) ∙ sym (c .before .before .before .before .before .before .before .before .unsound .ensures) ∙ c .before .before .before .before .before .before .before .if2 .left in
+    let e = c .before .before .before .before .before .reset .ensures .0 ∙ ap resetTo q in
+    (c .before .before .leave .ensures .0 ∙ ap (λ o. statusNumber (o .status)) e ∙ second _ 34 _ u ∙ second _ 34 _ p, (c .before .before .leave .ensures .1 .0 ∙ put-pair _ _ p ∙ ap (λ o. pairWords (o .pair)) e ∙ second _ _ _ u ∙ second _ _ _ p, (c .before .before .before .before .before .reset .ensures .1 ∙ ap (λ x. resetRegions x (A .regions .now)) q ∙ second _ _ _ u ∙ second _ _ _ p, ap strange (c .before .before .leave .ensures .1 .0 ∙ put-pair _ _ p) ∙ c .before .before .leave .ensures .1 .1 ∙ sym p)))
 
 pub udalopek-reset-spec : {M : Type 1} → statement M
 udalopek-reset-spec =
@@ -47,7 +65,10 @@ udalopek-reset-spec =
     same-length
     returns
     pair-of-requires
+    unsound-requires
+    same-length-2
+    returns-2
     reset-requires
     leave-requires
-    same-length-2
-    returns-2)
+    same-length-3
+    returns-3)

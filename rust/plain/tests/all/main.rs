@@ -1,0 +1,10 @@
+mod binaries;
+mod common;
+mod cut;
+mod duplicates;
+mod fuzz;
+mod header;
+mod host;
+mod rc;
+mod stream;
+mod uc;
