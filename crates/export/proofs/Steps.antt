@@ -1,11 +1,14 @@
 -- What the exported functions leave, over plain values: each step takes what its callees answered.
 use Prim.Native.Nat.{ℕ}
 use mathlib.Core.Path.{_≡_, refl, sym, ap, _∙_}
-use mathlib.Core.Bool.{Bool, true, false, cond, _||_}
+use mathlib.Core.Bool.{Bool, true, false, cond, not, _||_}
 use mathlib.Core.List.{List, [], _∷_}
 use lib.ListN.{length}
 use native.Mathlib.Omega.{arith}
-use Rattle.words.specs.Pair.{pairOf, strange}
+use Rattle.pair.specs.declared.Pair.{Pair}
+use Rattle.words.specs.Words.{eqWords, put}
+use Rattle.words.specs.Pair.{pairOf, pairWords, strange}
+use Rattle.words.proofs.Laws.{put-pair}
 use Rattle.export.specs.Packets.{refused, oddFor, names}
 
 -- a test that is false leads to the second, one that is true to the first
@@ -32,3 +35,12 @@ empty-names (x ∷ xs) e = absurd (omega arith)
 
 pub thirty-four : _≡_ {A = ℕ} 34 0 → ⊥
 thirty-four e = omega arith
+
+-- words read, written anew and compared with themselves: whether they are strange
+pub strange-by : (w own : List ℕ) (q : Pair) (s : Bool) → q ≡ pairOf w → own ≡ pairWords q → s ≡ eqWords w own → strange w ≡ not s
+unfolding strange
+strange-by w own q s a b c = ap not (ap (λ x. eqWords w (pairWords x)) (sym a) ∙ ap (eqWords w) (sym b) ∙ sym c)
+
+-- a pair written over words that were let in
+pub left-words : (w own new : List ℕ) (q : Pair) → strange w ≡ false → own ≡ pairWords q → new ≡ put w own → new ≡ pairWords q
+left-words w own new q p b e = e ∙ ap (put w) b ∙ put-pair w q p

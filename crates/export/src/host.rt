@@ -196,18 +196,21 @@ pub extern "C" fn udalopek_post_entry(
     ensures { λ r. ⌜ now (entries .exit) ≡ postTable (now (pair .entry)) (now (entries .entry)) (record { number = number; offset = offset; length = length }) ⌝ }
     ensures { λ r. ⌜ strange (now (pair .exit)) ≡ strange (now (pair .entry)) ⌝ }
 {
-    let bad = words::strange(pair);
-    if bad {
+    let q = words::pair_of(pair);
+    let own = words::pair_words(q);
+    let said = words::same(pair, &own);
+    if !said {
         return 34;
     }
-    let q = words::pair_of(pair);
     let entry = Entry {
         number,
         offset,
         length,
     };
     let left = pair::host::post_entry(q, entries, entry);
-    let q = left.pair;
+    let after = left.pair;
     let status = left.status;
-    leave(pair, q, status)
+    let next = words::pair_words(after);
+    words::put(pair, &next);
+    status.number()
 }

@@ -1,5 +1,4 @@
 // The calls of a responder, on words that are lent.
-use crate::host::leave;
 use protocol::Completion;
 ghost use mathlib.Core.Path.{_≡_};
 ghost use mathlib.Core.Bool.{cond};
@@ -61,7 +60,8 @@ fn told_words(sent: usize, c: Completion) -> [u64; 6]
     [s, some, c.number, n, i, v]
 }
 
-// Takes a packet.
+// Takes a packet. Here, and in the calls beside it, the words are read, tested and written in the function itself: a call
+// with the pair would write it to memory for every packet.
 #[no_mangle]
 pub extern "C" fn udalopek_inbound(
     pair: &mut [u64],
@@ -81,12 +81,13 @@ pub extern "C" fn udalopek_inbound(
     ensures { λ r. ⌜ now (told .exit) ≡ inboundTold (now (pair .entry)) (now (regions .entry)) (now (entries .entry)) (now (saved .entry)) (now (mem .entry)) (now (packet .entry)) (now (out .entry)) ⌝ }
     ensures { λ r. ⌜ strange (now (pair .exit)) ≡ strange (now (pair .entry)) ⌝ }
 {
-    let bad = words::strange(pair);
-    if bad {
+    let q = words::pair_of(pair);
+    let own = words::pair_words(q);
+    let said = words::same(pair, &own);
+    if !said {
         *told = [0; 6];
         return 34;
     }
-    let q = words::pair_of(pair);
     let odd = odd_for(regions, wide(q.setup.memory), packet);
     if odd {
         *told = [0; 6];
@@ -97,7 +98,9 @@ pub extern "C" fn udalopek_inbound(
     *told = told_words(got.sent, completion);
     let left = got.pair;
     let status = got.status;
-    leave(pair, left, status)
+    let next = words::pair_words(left);
+    words::put(pair, &next);
+    status.number()
 }
 
 // Writes the next response of a READ.
@@ -114,15 +117,18 @@ pub extern "C" fn udalopek_next_response(
     ensures { λ r. ⌜ now (told .exit) ≡ nextTold (now (pair .entry)) (now (mem .entry)) (now (out .entry)) ⌝ }
     ensures { λ r. ⌜ strange (now (pair .exit)) ≡ strange (now (pair .entry)) ⌝ }
 {
-    let bad = words::strange(pair);
-    if bad {
+    let q = words::pair_of(pair);
+    let own = words::pair_words(q);
+    let said = words::same(pair, &own);
+    if !said {
         *told = [0; 1];
         return 34;
     }
-    let q = words::pair_of(pair);
     let got = responder::next_response(q, mem, out);
     *told = [wide(got.sent)];
     let after = got.pair;
     let status = got.status;
-    leave(pair, after, status)
+    let next = words::pair_words(after);
+    words::put(pair, &next);
+    status.number()
 }

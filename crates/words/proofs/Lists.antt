@@ -72,3 +72,24 @@ module _ (rows : List (List ℕ)) (memory i n : ℕ) (h : i < n) where
 pub strange-end : (rows : List (List ℕ)) (memory i n : ℕ) → n ≤ i → strangeFrom rows memory i (n - i) ≡ false
 unfolding strangeFrom
 strange-end rows memory i n h = let e : n - i ≡ 0 = omega arith in rw e
+
+-- one word more of the test: equal so far, and here
+pub still-next : (ok : Bool) (a b : List ℕ) (i : ℕ) → i < length a → i < length b
+    → cond ok (eqWords (drop i a) (drop i b)) false
+    ≡ cond (cond (eqb (getD a i 0) (getD b i 0)) ok false) (eqWords (drop (suc i) a) (drop (suc i) b)) false
+still-next ok a b i h k =
+    ap (λ x. cond ok x false) (same-next a b i h k) ∙ go ok (eqb (getD a i 0) (getD b i 0))
+  where
+    go : (ok e : Bool) → cond ok (cond e (eqWords (drop (suc i) a) (drop (suc i) b)) false) false ≡ cond (cond e ok false) (eqWords (drop (suc i) a) (drop (suc i) b)) false
+    go true true = refl
+    go true false = refl
+    go false true = refl
+    go false false = refl
+
+-- and past the end the test is over
+pub still-end : (ok : Bool) (a b : List ℕ) (i : ℕ) → length a ≤ i → length a ≡ length b → cond ok (eqWords (drop i a) (drop i b)) false ≡ ok
+still-end ok a b i h e = ap (λ x. cond ok x false) (same-end a b i h e) ∙ go ok
+  where
+    go : (ok : Bool) → cond ok true false ≡ ok
+    go true = refl
+    go false = refl

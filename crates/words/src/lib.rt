@@ -49,21 +49,31 @@ pub(crate) fn flag(x: u64) -> bool
     x != 0
 }
 
-// Whether two lists of words are the same, their lengths too.
+// What is left of `same` so far, after one word more.
+fn still(ok: bool, x: u64, y: u64) -> bool
+    ensures { λ r. ⌜ r ≡ cond (eqb x y) ok false ⌝ }
+{
+    if x != y {
+        return false;
+    }
+    ok
+}
+
+// Whether two lists of words are the same, their lengths too. It looks at all of them: a loop that may end early is not
+// unrolled.
 pub fn same(a: &[u64], b: &[u64]) -> bool
     ensures { λ r. ⌜ r ≡ eqWords (now (a .entry)) (now (b .entry)) ⌝ }
 {
     if a.len() != b.len() {
         return false;
     }
+    let mut ok = true;
     let mut i = 0;
-    while i < a.len() {
-        if a[i] != b[i] {
-            return false;
-        }
+    while i < b.len() {
+        ok = still(ok, a[i], b[i]);
         i += 1;
     }
-    true
+    ok
 }
 
 // Writes new over words of the same length; else nothing changes.
