@@ -285,19 +285,13 @@ fn damaged_words_take_no_region() {
 }
 
 #[test]
-fn damaged_numbers_of_the_set_up_are_not_reset() {
-    refused(&Lent::busy(), 0, Lent::reset, |word, _| {
-        (word < 12).then_some(34)
-    });
+fn damaged_words_are_not_reset() {
+    refused(&Lent::busy(), 0, Lent::reset, OUT_OF_RANGE);
 }
 
 #[test]
-fn words_over_their_width_lose_no_region() {
-    // Taking a key back asks for no more than that each word fits its field; these fields have 64 bits.
-    let full = [0, 1, 13, 14, 16, 17, 18, PENDING, 20, 21, 24, 25];
-    refused(&Lent::busy(), 0, Lent::remove_region, |word, value| {
-        (value == u64::MAX && !full.contains(&word)).then_some(34)
-    });
+fn damaged_words_lose_no_region() {
+    refused(&Lent::busy(), 0, Lent::remove_region, OUT_OF_RANGE);
 }
 
 #[test]
