@@ -1,6 +1,7 @@
 // A message cut into packets, one a call.
 use crate::headers::bytes_told;
 use crate::headers::refusal_told;
+use crate::number::wide32;
 use header::AtomicEth;
 use header::Reth;
 use segment::Connection;
@@ -54,12 +55,6 @@ fn request_of(
         return Request::CmpSwap(atomic);
     }
     Request::FetchAdd(target, swap)
-}
-
-fn wide32(x: u32) -> u64
-    ensures { λ r. ⌜ r ≡ x ⌝ }
-{
-    x as u64
 }
 
 fn following_psn(f: Following) -> u64

@@ -1,4 +1,5 @@
 // The calls of a host, on words that are lent.
+use crate::number::wide;
 use pair::Pair;
 use pair::Setup;
 use pair::Status;
@@ -11,12 +12,6 @@ ghost use Rattle.words.specs.Words.{put};
 ghost use mathlib.Core.Bool.{false};
 ghost use Rattle.words.specs.Pair.{pairWords, strange};
 ghost use Rattle.export.specs.Host.{setUpNumber, setUpWords, setUpTable, resetNumber, resetWords, resetTable, readyNumber, readyWords, addNumber, addTable, removeNumber, removeTable, postNumber, postWords, postTable};
-
-fn wide(x: usize) -> u64
-    ensures { λ r. ⌜ r ≡ x ⌝ }
-{
-    x as u64
-}
 
 // Writes a pair over its words, and answers a number.
 pub(crate) fn leave(pair: &mut [u64], q: Pair, status: Status) -> u8

@@ -3,4 +3,5 @@
 mod cutting;
 mod headers;
 mod host;
+mod number;
 mod packets;

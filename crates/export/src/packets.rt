@@ -1,7 +1,9 @@
 // The calls of a responder, on words that are lent.
+use crate::number::bit;
+use crate::number::wide;
+use crate::number::wide32;
 use protocol::Completion;
 ghost use mathlib.Core.Path.{_≡_};
-ghost use mathlib.Core.Bool.{cond};
 ghost use lib.ListN.{length};
 ghost use Rattle.words.specs.Pair.{strange};
 ghost use Rattle.export.specs.Packets.{names, oddFor, inboundNumber, inboundWords, inboundRows, inboundBytes, inboundOutput, inboundTold, toldWords, nextNumber, nextWords, nextOutput, nextTold};
@@ -25,27 +27,6 @@ fn odd_for(regions: &[[u64; 7]; 16], memory: u64, packet: &[u8]) -> bool
         return words::regions_strange(regions, memory);
     }
     false
-}
-
-fn wide(x: usize) -> u64
-    ensures { λ r. ⌜ r ≡ x ⌝ }
-{
-    x as u64
-}
-
-fn wide32(x: u32) -> u64
-    ensures { λ r. ⌜ r ≡ x ⌝ }
-{
-    x as u64
-}
-
-fn bit(b: bool) -> u64
-    ensures { λ r. ⌜ r ≡ cond b 1 0 ⌝ }
-{
-    if b {
-        return 1;
-    }
-    0
 }
 
 // What the host is told: bytes to send, and the completion.

@@ -2,28 +2,20 @@ use Rattle.export.specs.Cutting.{followingPsn}
 use borrow.Author.Needs.{needs}
 use Rattle.export.proofs.cutting.following_psn.Statement.{statement}
 use Rattle.export.proofs.cutting.following_psn.Tie as tie
-use Rattle.export.proofs.cutting.following_psn.Reads as reads
-use Rattle.export.proofs.cutting.following_psn.Lts as lts
-use Rattle.export.proofs.cutting.wide32.Reads as wide32-reads
 
--- src/cutting.rt:69:25
 enum-known-f : tie.Need-enum-known-f
 enum-known-f c = search needs
 
--- src/cutting.rt:69:33
 wide32-requires : tie.Need-wide32-requires
 wide32-requires c κs = search needs
 
--- src/cutting.rt:70:34
 enum-told : tie.Need-enum-told
 enum-told c = search needs
 
--- src/cutting.rt:65:1
 returns : tie.Need-returns
 unfolding followingPsn
 returns c = simp (c .before .before .f .given .1, ← c .wide32 .ensures)
 
--- src/cutting.rt:65:1
 returns-2 : tie.Need-returns-2
 unfolding followingPsn
 returns-2 c = simp (c .enum-told .given .1)

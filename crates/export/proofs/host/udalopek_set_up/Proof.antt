@@ -1,7 +1,6 @@
-use mathlib.Core.Path.{_≡_, refl, sym, ap, _∙_}
-use mathlib.Core.Bool.{true, false, not}
+use mathlib.Core.Path.{sym, ap, _∙_}
+use mathlib.Core.Bool.{not}
 use lib.Dec.{eqb}
-use lib.ListN.{length}
 use borrow.Author.Tests.{eq-eqb, ne-eqb}
 use Rattle.pair.specs.Answer.{statusNumber, executed}
 use Rattle.words.specs.Pair.{pairWords, strange}
@@ -9,15 +8,10 @@ use Rattle.words.proofs.Laws.{put-many}
 use Rattle.export.proofs.Steps.{second, first, thirty-four}
 use Rattle.export.specs.Host.{setUpNumber, setUpWords, setUpTable, tooMany}
 use lib.Dec.{eqb}
-use lib.ListN.{length}
 use lib.Dec.{eqb}
-use lib.ListN.{length}
 use lib.Dec.{eqb}
-use lib.ListN.{length}
 use lib.Dec.{eqb}
-use lib.ListN.{length}
 use lib.Dec.{eqb}
-use lib.ListN.{length}
 use borrow.Author.Needs.{needs}
 use Rattle.export.proofs.host.udalopek_set_up.Statement.{statement}
 use Rattle.export.proofs.host.udalopek_set_up.Tie as tie

@@ -2,25 +2,17 @@ use Rattle.export.specs.Packets.{oddFor}
 use borrow.Author.Needs.{needs}
 use Rattle.export.proofs.packets.odd_for.Statement.{statement}
 use Rattle.export.proofs.packets.odd_for.Tie as tie
-use Rattle.export.proofs.packets.odd_for.Reads as reads
-use Rattle.export.proofs.packets.odd_for.Lts as lts
-use Rattle.export.proofs.packets.names.Reads as names-reads
-use Rattle.words.proofs.regions_strange.Reads as regions-strange-reads
 
--- src/packets.rt:22:9
 names-requires : tie.Need-names-requires
 names-requires c κs = search needs
 
--- src/packets.rt:24:9
 regions-strange-requires : tie.Need-regions-strange-requires
 regions-strange-requires c κs = search needs
 
--- src/packets.rt:24:9
 returns : tie.Need-returns
 unfolding oddFor
 returns c = simp (← c .before .before .names .ensures, c .before .if1 .taken, ← c .regions-strange .ensures)
 
--- src/packets.rt:19:1
 returns-2 : tie.Need-returns-2
 unfolding oddFor
 returns-2 c = simp (← c .before .names .ensures, c .if1 .left)

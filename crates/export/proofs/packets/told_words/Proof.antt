@@ -2,33 +2,22 @@ use Rattle.export.specs.Packets.{toldWords}
 use borrow.Author.Needs.{needs}
 use Rattle.export.proofs.packets.told_words.Statement.{statement}
 use Rattle.export.proofs.packets.told_words.Tie as tie
-use Rattle.export.proofs.packets.told_words.Reads as reads
-use Rattle.export.proofs.packets.told_words.Lts as lts
-use Rattle.export.proofs.packets.bit.Reads as bit-reads
-use Rattle.export.proofs.packets.wide.Reads as wide-reads
-use Rattle.export.proofs.packets.wide32.Reads as wide32-reads
 
--- src/packets.rt:54:9
 wide-requires : tie.Need-wide-requires
 wide-requires c κs = search needs
 
--- src/packets.rt:55:9
 bit-requires : tie.Need-bit-requires
 bit-requires c κs = search needs
 
--- src/packets.rt:56:9
 wide-requires-2 : tie.Need-wide-requires-2
 wide-requires-2 c κs = search needs
 
--- src/packets.rt:57:9
 bit-requires-2 : tie.Need-bit-requires-2
 bit-requires-2 c κs = search needs
 
--- src/packets.rt:58:9
 wide32-requires : tie.Need-wide32-requires
 wide32-requires c κs = search needs
 
--- src/packets.rt:51:1
 returns : tie.Need-returns
 unfolding toldWords
 returns c = simp (← c .before .before .before .before .wide .ensures, ← c .before .before .before .bit .ensures, ← c .before .before .wide2 .ensures, ← c .before .bit2 .ensures, ← c .wide32 .ensures)

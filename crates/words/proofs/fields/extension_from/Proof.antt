@@ -3,88 +3,64 @@ use Rattle.words.specs.Fields.{extensionFrom}
 use borrow.Author.Needs.{needs}
 use Rattle.words.proofs.fields.extension_from.Statement.{statement}
 use Rattle.words.proofs.fields.extension_from.Tie as tie
-use Rattle.words.proofs.fields.extension_from.Reads as reads
-use Rattle.words.proofs.fields.extension_from.Lts as lts
-use Rattle.words.proofs.fields.aeth_from.Reads as aeth-from-reads
-use Rattle.words.proofs.fields.atomic_from.Reads as atomic-from-reads
-use Rattle.words.proofs.fields.reth_from.Reads as reth-from-reads
-use Rattle.words.proofs.low32.Reads as low32-reads
 
--- src/fields.rt:89:19
 element-copy-out-follows : tie.Need-element-copy-out-follows
 element-copy-out-follows c = search needs
 
--- src/fields.rt:91:13
 reth-from-requires : tie.Need-reth-from-requires
 reth-from-requires c κs = search needs
 
--- src/fields.rt:92:9
 returns : tie.Need-returns
 unfolding extensionFrom
 returns c = simp (eq-eqb _ _ (c .before .if1 .taken), ← c .reth-from .ensures)
 
--- src/fields.rt:95:13
 reth-from-requires-2 : tie.Need-reth-from-requires-2
 reth-from-requires-2 c κs = search needs
 
--- src/fields.rt:96:31
 element-copy-out-low32 : tie.Need-element-copy-out-low32
 element-copy-out-low32 c = search needs
 
--- src/fields.rt:96:13
 low32-requires : tie.Need-low32-requires
 low32-requires c κs = search needs
 
--- src/fields.rt:97:9
 returns-2 : tie.Need-returns-2
 unfolding extensionFrom
 returns-2 c = simp (ne-eqb _ _ (c .before .before .before .before .if1 .left), eq-eqb _ _ (c .before .before .before .if2 .taken), ← c .before .before .reth-from2 .ensures, ← c .low32 .ensures)
 
--- src/fields.rt:100:31
 element-copy-out-low32-2 : tie.Need-element-copy-out-low32-2
 element-copy-out-low32-2 c = search needs
 
--- src/fields.rt:100:13
 low32-requires-2 : tie.Need-low32-requires-2
 low32-requires-2 c κs = search needs
 
--- src/fields.rt:101:9
 returns-3 : tie.Need-returns-3
 unfolding extensionFrom
 returns-3 c = simp (ne-eqb _ _ (c .before .before .before .before .if1 .left), ne-eqb _ _ (c .before .before .before .if2 .left), eq-eqb _ _ (c .before .before .if3 .taken), ← c .low322 .ensures)
 
--- src/fields.rt:104:13
 atomic-from-requires : tie.Need-atomic-from-requires
 atomic-from-requires c κs = search needs
 
--- src/fields.rt:105:9
 returns-4 : tie.Need-returns-4
 unfolding extensionFrom
 returns-4 c = simp (ne-eqb _ _ (c .before .before .before .before .if1 .left), ne-eqb _ _ (c .before .before .before .if2 .left), ne-eqb _ _ (c .before .before .if3 .left), eq-eqb _ _ (c .before .if4 .taken), ← c .atomic-from .ensures)
 
--- src/fields.rt:108:13
 aeth-from-requires : tie.Need-aeth-from-requires
 aeth-from-requires c κs = search needs
 
--- src/fields.rt:109:9
 returns-5 : tie.Need-returns-5
 unfolding extensionFrom
 returns-5 c = simp (ne-eqb _ _ (c .before .before .before .before .before .if1 .left), ne-eqb _ _ (c .before .before .before .before .if2 .left), ne-eqb _ _ (c .before .before .before .if3 .left), ne-eqb _ _ (c .before .before .if4 .left), eq-eqb _ _ (c .before .if5 .taken), ← c .aeth-from .ensures)
 
--- src/fields.rt:112:13
 aeth-from-requires-2 : tie.Need-aeth-from-requires-2
 aeth-from-requires-2 c κs = search needs
 
--- src/fields.rt:113:51
 element-copy-out-t22 : tie.Need-element-copy-out-t22
 element-copy-out-t22 c = search needs
 
--- src/fields.rt:113:9
 returns-6 : tie.Need-returns-6
 unfolding extensionFrom
 returns-6 c = simp (ne-eqb _ _ (c .before .before .before .before .before .before .before .if1 .left), ne-eqb _ _ (c .before .before .before .before .before .before .if2 .left), ne-eqb _ _ (c .before .before .before .before .before .if3 .left), ne-eqb _ _ (c .before .before .before .before .if4 .left), ne-eqb _ _ (c .before .before .before .if5 .left), eq-eqb _ _ (c .before .before .if6 .taken), ← c .before .aeth-from2 .ensures)
 
--- src/fields.rt:86:1
 returns-7 : tie.Need-returns-7
 unfolding extensionFrom
 returns-7 c = simp (ne-eqb _ _ (c .before .before .before .before .before .if1 .left), ne-eqb _ _ (c .before .before .before .before .if2 .left), ne-eqb _ _ (c .before .before .before .if3 .left), ne-eqb _ _ (c .before .before .if4 .left), ne-eqb _ _ (c .before .if5 .left), ne-eqb _ _ (c .if6 .left))

@@ -2,96 +2,70 @@ use Rattle.words.specs.Fields.{extensionWords}
 use borrow.Author.Needs.{needs}
 use Rattle.words.proofs.fields.extension_words.Statement.{statement}
 use Rattle.words.proofs.fields.extension_words.Tie as tie
-use Rattle.words.proofs.fields.extension_words.Reads as reads
-use Rattle.words.proofs.fields.extension_words.Lts as lts
-use Rattle.words.proofs.fields.aeth_words.Reads as aeth-words-reads
-use Rattle.words.proofs.fields.atomic_words.Reads as atomic-words-reads
-use Rattle.words.proofs.fields.immediate_words.Reads as immediate-words-reads
-use Rattle.words.proofs.fields.remote_words.Reads as remote-words-reads
 
--- src/fields.rt:181:28
 enum-told : tie.Need-enum-told
 enum-told c = search needs
 
--- src/fields.rt:182:27
 enum-known-e : tie.Need-enum-known-e
 enum-known-e c = search needs
 
--- src/fields.rt:182:33
 remote-words-requires : tie.Need-remote-words-requires
 remote-words-requires c κs = search needs
 
--- src/fields.rt:183:36
 enum-known-e-2 : tie.Need-enum-known-e-2
 enum-known-e-2 c = search needs
 
--- src/fields.rt:183:45
 remote-words-requires-2 : tie.Need-remote-words-requires-2
 remote-words-requires-2 c κs = search needs
 
--- src/fields.rt:184:30
 enum-known-e-3 : tie.Need-enum-known-e-3
 enum-known-e-3 c = search needs
 
--- src/fields.rt:184:36
 immediate-words-requires : tie.Need-immediate-words-requires
 immediate-words-requires c κs = search needs
 
--- src/fields.rt:185:27
 enum-known-e-4 : tie.Need-enum-known-e-4
 enum-known-e-4 c = search needs
 
--- src/fields.rt:185:33
 atomic-words-requires : tie.Need-atomic-words-requires
 atomic-words-requires c κs = search needs
 
--- src/fields.rt:186:32
 enum-known-e-5 : tie.Need-enum-known-e-5
 enum-known-e-5 c = search needs
 
--- src/fields.rt:186:38
 aeth-words-requires : tie.Need-aeth-words-requires
 aeth-words-requires c κs = search needs
 
--- src/fields.rt:187:38
 enum-known-e-6 : tie.Need-enum-known-e-6
 enum-known-e-6 c = search needs
 
--- src/fields.rt:187:47
 aeth-words-requires-2 : tie.Need-aeth-words-requires-2
 aeth-words-requires-2 c κs = search needs
 
--- src/fields.rt:177:1
 returns : tie.Need-returns
 unfolding extensionWords
 returns c = simp (c .enum-told .given .1)
 
--- src/fields.rt:177:1
 returns-2 : tie.Need-returns-2
 unfolding extensionWords
 returns-2 c = simp (c .before .before .e .given .1, ← c .remote-words .ensures)
 
--- src/fields.rt:177:1
 returns-3 : tie.Need-returns-3
 unfolding extensionWords
 returns-3 c = simp (c .before .before .e2 .given .1, ← c .remote-words2 .ensures)
 
--- src/fields.rt:177:1
 returns-4 : tie.Need-returns-4
 unfolding extensionWords
 returns-4 c = simp (c .before .before .e3 .given .1, ← c .immediate-words .ensures)
 
--- src/fields.rt:177:1
 returns-5 : tie.Need-returns-5
 unfolding extensionWords
 returns-5 c = simp (c .before .before .e4 .given .1, ← c .atomic-words .ensures)
 
--- src/fields.rt:177:1
 returns-6 : tie.Need-returns-6
 unfolding extensionWords
 returns-6 c = simp (c .before .before .e5 .given .1, ← c .aeth-words .ensures)
 
--- src/fields.rt:177:1
 returns-7 : tie.Need-returns-7
 unfolding extensionWords
 returns-7 c = simp (c .before .before .e6 .given .1, ← c .aeth-words2 .ensures)
