@@ -1,6 +1,6 @@
 -- The proofs of the claims.
 use Prim.Native.Nat.{ℕ, _%_, _≤_}
-use mathlib.Core.Path.{_≡_, refl, sym, ap, _∙_, subst}
+use mathlib.Core.Path.{_≡_, refl, sym, ap, _∙_}
 use mathlib.Core.Bool.{Bool, true, false, cond, _||_}
 use mathlib.Core.List.{List, [], _∷_}
 use mathlib.Core.Logic.{_⊎_, inl, inr}
@@ -100,12 +100,13 @@ inbound-is q regions entries saved m p out f r =
     )
 
 pub next-is : NextIs
-unfolding nextNumber nextWords nextOutput
+unfolding nextNumber nextWords nextOutput nextTold
 next-is q m out f =
     let b = pair-back q f in (
       sym (second _ 34 _ (b .1)) ∙ ap (λ x. statusNumber (nextResponse x m out .status)) (b .0),
       sym (second _ _ _ (b .1)) ∙ ap (λ x. pairWords (nextResponse x m out .pair)) (b .0),
       sym (second _ _ _ (b .1)) ∙ ap (λ x. nextOut x m out) (b .0),
+      sym (second _ _ _ (b .1)) ∙ ap (λ x. nextResponse x m out .sent ∷ []) (b .0),
     )
 
 pub post-is : PostIs

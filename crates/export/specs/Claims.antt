@@ -2,7 +2,7 @@
 use Prim.Native.Nat.{ℕ, _%_, _≤_, _<_, _^_}
 use mathlib.Core.Path.{_≡_}
 use mathlib.Core.Bool.{false}
-use mathlib.Core.List.{List, []}
+use mathlib.Core.List.{List, [], _∷_}
 use mathlib.Core.Logic.{_⊎_}
 use lib.ListN.{getD, replicate}
 use Rattle.table.specs.Claims.{RegionsSound, Free}
@@ -68,6 +68,7 @@ NextIs =
     → (nextNumber (pairWords q) m out ≡ statusNumber (nextResponse q m out .status))
     × (nextWords (pairWords q) m out ≡ pairWords (nextResponse q m out .pair))
     × (nextOutput (pairWords q) m out ≡ nextOut q m out)
+    × (nextTold (pairWords q) m out ≡ nextResponse q m out .sent ∷ [])
 
 abbrev pub PostIs : Type 0
 PostIs =

@@ -3,7 +3,6 @@ use header::Answer;
 use header::Header;
 use header::HeaderRead;
 ghost use mathlib.Core.Path.{_≡_};
-ghost use lib.ListN.{length};
 ghost use Rattle.header.specs.Write.{answerNumber};
 ghost use Rattle.responder.specs.Unchanged.{doneBytes};
 ghost use Rattle.words.specs.Fields.{bthWords, extensionWords};

@@ -4,7 +4,6 @@ use crate::number::wide;
 use crate::number::wide32;
 use protocol::Completion;
 ghost use mathlib.Core.Path.{_≡_};
-ghost use lib.ListN.{length};
 ghost use Rattle.words.specs.Pair.{strange};
 ghost use Rattle.export.specs.Packets.{names, oddFor, inboundNumber, inboundWords, inboundRows, inboundBytes, inboundOutput, inboundTold, toldWords, nextNumber, nextWords, nextOutput, nextTold};
 

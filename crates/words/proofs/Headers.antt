@@ -1,8 +1,6 @@
 -- The proofs of the claims about headers.
-use Prim.Native.Nat.{_%_, _^_, _<_}
-use mathlib.Core.Path.{_≡_, refl}
-use Rattle.header.specs.declared.Aeth.{Aeth}
-use Rattle.header.specs.declared.Reth.{Reth}
+use Prim.Native.Nat.{_^_}
+use mathlib.Core.Path.{refl}
 use Rattle.header.specs.declared.Extension.the-variants.{Bare, Remote, RemoteImmediate, Immediate, Atomic, Acknowledge, AtomicAcknowledge}
 use Rattle.words.specs.Fields.{bthFrom, bthWords, rethFrom, atomicFrom, aethFrom, extensionFrom, remoteWords, atomicWords, aethWords, immediateWords, extensionWords}
 use Rattle.words.specs.Claims.{BthBack, ExtensionBack, ExtensionFields}

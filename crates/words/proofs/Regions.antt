@@ -1,6 +1,6 @@
 -- The proofs of the claims about the table of regions.
-use Prim.Native.Nat.{ℕ, zero, suc, _+_, _-_, _^_, _≤_, _<_}
-use mathlib.Core.Path.{_≡_, refl, sym, ap, _∙_, subst}
+use Prim.Native.Nat.{ℕ, zero, suc, _+_, _^_, _≤_, _<_}
+use mathlib.Core.Path.{_≡_, refl, ap, _∙_, subst}
 use mathlib.Core.Bool.{Bool, true, false, cond, _||_, true≢false}
 use mathlib.Core.List.{List, []}
 use mathlib.Core.Logic.{_⊎_, inl, inr}
@@ -8,10 +8,10 @@ use lib.Dec.{eqb, ltb, leb}
 use lib.ListN.{getD}
 use native.Mathlib.Omega.{arith}
 use borrow.Author.Tests.{eqb-true, eqb-false, eq-eqb, ne-eqb, ltb-false, leb-false, lt-leb}
-use Rattle.laws.proofs.Tests.{or-left, or-right, neither}
+use Rattle.laws.proofs.Tests.{or-left, or-right}
 use Rattle.table.specs.Table.{regionOutside, outside, pastTop, regionRow}
 use Rattle.table.specs.declared.Region.{Region}
-use Rattle.table.specs.Claims.{RegionsSound, RowSound, RegionFits, Free}
+use Rattle.table.specs.Claims.{RowSound, RegionFits, Free}
 use Rattle.table.proofs.Regions.{region-tested}
 use Rattle.words.specs.Rows.{noRegionsRow, rowStrange, strangeFrom}
 use Rattle.words.specs.Claims.{RegionsLetIn, RowsKnown, RowStrange, RegionNumbers}

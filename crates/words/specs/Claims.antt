@@ -8,7 +8,6 @@ use lib.ListN.{getD}
 use Rattle.header.specs.declared.Bth.{Bth}
 use Rattle.header.specs.declared.Reth.{Reth}
 use Rattle.header.specs.declared.Aeth.{Aeth}
-use Rattle.header.specs.declared.AtomicEth.{AtomicEth}
 use Rattle.header.specs.declared.Extension.{Extension}
 use Rattle.header.specs.declared.Extension.the-variants.{Bare, Remote, RemoteImmediate, Immediate, Atomic, Acknowledge, AtomicAcknowledge}
 use Rattle.table.specs.Claims.{RegionsSound, Free}
