@@ -110,7 +110,7 @@ fn side_by_side(seed: u64, enough: &Enough) -> bool {
         return false;
     }
     println!("{} calls agree", counts.total());
-    true
+    counts.total() > 0
 }
 
 fn report(seed: u64, disagreement: &Disagreement) {

@@ -11,7 +11,7 @@ pub const UC: u8 = plain::UC;
 pub const LIMIT: usize = 1 << 20;
 pub const PMTUS: [usize; 5] = [256, 512, 1024, 2048, 4096];
 
-/// All that a host can see of a pair.
+/// All that a pair keeps, but the numbers of its set-up, which a reset shows.
 #[derive(Clone, Debug, PartialEq, Eq)]
 pub struct View {
     pub expected: u32,
@@ -28,6 +28,10 @@ pub struct View {
     pub saved: Vec<(u32, u64)>,
     /// 0 SEND or 6 WRITE, and the bytes placed.
     pub open: Option<(u8, u64)>,
+    /// An open WRITE's address, R_Key and DMA length.
+    pub write: Option<(u64, u32, u64)>,
+    /// What is left of a READ: place of the next bytes, how many, next PSN, MSN.
+    pub read: Option<(Option<u64>, u64, u32, u32)>,
 }
 
 /// The numbers of a pair that can be had without a list.

@@ -298,6 +298,28 @@ impl QueuePair {
         })
     }
 
+    /// Address, R_Key and DMA length of an open WRITE, as its First gave them.
+    pub fn open_write(&self) -> Option<(u64, u32, u64)> {
+        match self.open {
+            Some(Open::Write {
+                address,
+                key,
+                length,
+                ..
+            }) => Some((address, key, length as u64)),
+            _ => None,
+        }
+    }
+
+    /// What is left of the READ being answered: the place in memory of the next response's bytes if there are any, how many
+    /// bytes are left, the PSN of the next response, and the MSN.
+    pub fn read_answer(&self) -> Option<(Option<u64>, u64, u32, u32)> {
+        self.answer.map(|answer| {
+            let at = (answer.left > 0).then_some(answer.at as u64);
+            (at, answer.left as u64, answer.psn, answer.msn)
+        })
+    }
+
     /// The region of this key.
     #[inline]
     pub(crate) fn region(&self, key: u32) -> Option<&Region> {

@@ -145,10 +145,15 @@ pub struct QueuePair {
 }
 
 // Which of the words are looked at here.
+const PMTU: usize = 0;
 const KIND: usize = 12;
 const PLACED: usize = 13;
+/// Address, R_Key and DMA length of an open WRITE.
+const WRITE: [usize; 3] = [14, 15, 16];
 const ENTRIES: (usize, usize) = (17, 18);
 const PENDING: usize = 19;
+/// Offset, length, first PSN and MSN of a READ that is being answered.
+const READ: [usize; 4] = [20, 21, 22, 23];
 const SAVED: (usize, usize) = (24, 25);
 const EXPECTED: usize = 26;
 const MSN: usize = 27;
@@ -156,6 +161,7 @@ const STATE: usize = 28;
 const MARK: usize = 29;
 
 const KIND_SEND: u64 = 0;
+const KIND_WRITE: u64 = 6;
 const KIND_NONE: u64 = 255;
 
 impl QueuePair {
@@ -333,6 +339,31 @@ impl QueuePair {
             KIND_NONE => None,
             kind => Some((kind as u8, self.words[PLACED])),
         }
+    }
+
+    /// Address, R_Key and DMA length of an open WRITE, as its First gave them.
+    pub fn open_write(&self) -> Option<(u64, u32, u64)> {
+        (self.words[KIND] == KIND_WRITE).then(|| {
+            let [address, key, length] = WRITE.map(|at| self.words[at]);
+            (address, key as u32, length)
+        })
+    }
+
+    /// What is left of the READ being answered: the place in memory of the next response's bytes if there are any, how many
+    /// bytes are left, the PSN of the next response, and the MSN that all of them carry.
+    pub fn read_answer(&self) -> Option<(Option<u64>, u64, u32, u32)> {
+        let remaining = self.words[PENDING];
+        let [offset, length, first, msn] = READ.map(|at| self.words[at]);
+        if remaining == 0 {
+            return None;
+        }
+        // The words have the whole READ; a response has the PMTU's bytes but the last, and there is at least one.
+        let pmtu = self.words[PMTU];
+        let taken = length.div_ceil(pmtu).max(1) - remaining;
+        let left = length - taken * pmtu;
+        let at = (left > 0).then_some(offset + taken * pmtu);
+        let psn = (first + taken) % (1 << 24);
+        Some((at, left, psn as u32, msn as u32))
     }
 
     /// As many rows as are counted, from the head on; row 0 comes after the last.

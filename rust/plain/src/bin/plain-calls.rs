@@ -9,7 +9,7 @@ use plain::{
     Request, Setup, RC, UC,
 };
 
-/// The most bytes of memory or output that a line may ask for.
+/// The most bytes of memory or output that are lent: longer than any memory or packet.
 const MOST: usize = 1 << 24;
 
 fn main() -> io::Result<()> {
@@ -47,8 +47,16 @@ impl<'a> Words<'a> {
         number(self.word()?)
     }
 
+    /// A number too large for its field, where the rules refuse it: `large`, which they refuse alike.
+    fn number_up_to<T: FromStr>(&mut self, large: T) -> Option<T> {
+        let word = self.word()?;
+        let digits = !word.is_empty() && word.iter().all(u8::is_ascii_digit);
+        digits.then(|| number(word).unwrap_or(large))
+    }
+
+    /// A length to lend; a longer one is answered as the longest is.
     fn bounded(&mut self) -> Option<usize> {
-        self.number().filter(|length| *length <= MOST)
+        Some(self.number_up_to(MOST)?.min(MOST))
     }
 
     fn flag(&mut self) -> Option<bool> {
@@ -117,15 +125,16 @@ impl Driver {
             b"pair" => self.set_up(words),
             b"region" => self.region(words),
             b"unregion" => {
-                let key = words.number()?;
+                let key: u64 = words.number_up_to(u64::MAX)?;
                 words.end()?;
-                Some(self.on_pair(37, |pair| pair.remove_region(key)))
+                let key = u32::try_from(key);
+                Some(self.on_pair(37, |pair| key.map_or(37, |key| pair.remove_region(key))))
             }
             b"post" => {
                 let entry = Entry {
                     number: words.number()?,
-                    offset: words.number()?,
-                    length: words.number()?,
+                    offset: words.number_up_to(u64::MAX)?,
+                    length: words.number_up_to(u64::MAX)?,
                 };
                 words.end()?;
                 Some(self.on_pair(36, |pair| pair.post_entry(entry)))
@@ -154,17 +163,18 @@ impl Driver {
     fn set_up(&mut self, mut words: Words) -> Option<String> {
         let setup = Setup {
             service: words.service()?,
-            pmtu: words.number()?,
-            ours: words.number()?,
-            theirs: words.number()?,
-            pkey: words.number()?,
-            start: words.number()?,
-            timer: words.number()?,
+            pmtu: words.number_up_to(usize::MAX)?,
+            ours: words.number_up_to(u32::MAX)?,
+            theirs: words.number_up_to(u32::MAX)?,
+            // Over 16 bits it is as bad a number as 0.
+            pkey: words.number_up_to(0)?,
+            start: words.number_up_to(u32::MAX)?,
+            timer: words.number_up_to(u8::MAX)?,
             send: words.flag()?,
             write: words.flag()?,
             read: words.flag()?,
             atomic: words.flag()?,
-            memory: words.number()?,
+            memory: words.number_up_to(usize::MAX)?,
         };
         let _qkey: u32 = words.number()?;
         words.end()?;
@@ -179,9 +189,9 @@ impl Driver {
     fn region(&mut self, mut words: Words) -> Option<String> {
         let region = Region {
             key: words.number()?,
-            address: words.number()?,
-            length: words.number()?,
-            offset: words.number()?,
+            address: words.number_up_to(u64::MAX)?,
+            length: words.number_up_to(u64::MAX)?,
+            offset: words.number_up_to(u64::MAX)?,
             write: words.flag()?,
             read: words.flag()?,
             atomic: words.flag()?,
@@ -294,11 +304,11 @@ fn extension(extension: Extension) -> String {
 
 fn cut_line(mut words: Words) -> Option<String> {
     let service = words.service()?;
-    let pmtu = words.number()?;
-    let dest = words.number()?;
-    let pkey = words.number()?;
-    let psn = words.number()?;
-    let index = words.number()?;
+    let pmtu = words.number_up_to(usize::MAX)?;
+    let dest = words.number_up_to(u32::MAX)?;
+    let pkey: u32 = words.number_up_to(u32::MAX)?;
+    let psn = words.number_up_to(u32::MAX)?;
+    let index = words.number_up_to(usize::MAX)?;
     let room = words.bounded()?;
     let (request, message) = match words.word()? {
         b"send" => (Request::Send(words.immediate()?), words.bytes()?),
@@ -315,7 +325,8 @@ fn cut_line(mut words: Words) -> Option<String> {
             )
         }
         b"read" => {
-            let (address, key, length) = (words.number()?, words.number()?, words.number()?);
+            let (address, key) = (words.number()?, words.number()?);
+            let length = words.number_up_to(u32::MAX)?;
             (
                 Request::Read {
                     address,
@@ -346,6 +357,10 @@ fn cut_line(mut words: Words) -> Option<String> {
     };
     words.end()?;
     let mut out = vec![0; room];
+    let Ok(pkey) = u16::try_from(pkey) else {
+        // A field over its width.
+        return Some("39 - -".to_string());
+    };
     let connection = Connection {
         service,
         pmtu,

@@ -171,31 +171,23 @@ fn lines_that_are_no_call() {
         "post 1  2 3",
         "post +1 2 3",
         "post -1 2 3",
-        "post 1 2 18446744073709551616",
         "post 0x1 2 3",
-        "in 16777217 24 -",
-        "in 0 16777217 -",
         "in 0 24",
         "in 0 24 ",
         "in 0 24 0",
         "in 0 24 AB",
         "in 0 24 0g",
-        "next 0 16777217",
-        "next 16777217 0",
+        "post 18446744073709551616 2 3",
         "region 4294967296 0 1 0 1 1 1",
         "region 1 0 1 0 1 1 2",
         "region 1 0 1 0 1 1 01",
         "unregion",
         "pair ud 256 1 1 1 1 1 1 1 1 1 8 0",
-        "pair rc 256 1 1 65536 1 1 1 1 1 1 8 0",
-        "pair rc 256 1 1 1 1 256 1 1 1 1 8 0",
         "pair rc 256 1 1 1 1 1 1 1 1 1 8",
         "pair rc 256 1 1 1 1 1 1 1 1 1 8 4294967296",
-        "cut rc 256 1 1 1 0 16777217 send - -",
         "cut rc 256 1 1 1 0 100 send -",
         "cut rc 256 1 1 1 0 100 send x -",
         "cut rc 256 1 1 1 0 100 sent - -",
-        "cut rc 256 1 1 1 0 100 read 1 1 4294967296",
         "cut rc 256 1 1 1 0 100",
         "header",
         "header - -",
@@ -216,4 +208,37 @@ fn lines_that_are_no_call() {
     // Bytes that are no text are no call either.
     let program = env!("CARGO_BIN_EXE_plain-calls");
     assert_eq!(run(program, b"\xFF\xFE\nready\n\0"), "?\n36\n?\n");
+}
+
+/// A number too large for its field is refused as the rules refuse it, and no length is too long to lend.
+#[test]
+fn numbers_over_their_fields() {
+    let calls_and_answers = [
+        ("pair rc 256 1 1 65536 1 1 1 1 1 1 8 0", "39"),
+        ("pair rc 256 1 1 1 1 256 1 1 1 1 8 0", "39"),
+        ("pair rc 256 4294967296 1 1 1 1 1 1 1 1 8 0", "39"),
+        ("pair rc 256 1 1 1 1 1 1 1 1 1 18446744073709551616 0", "34"),
+        ("pair rc 256 1 1 1 1 1 1 1 1 1 8 0", "0"),
+        ("post 1 2 18446744073709551616", "34"),
+        ("region 1 18446744073709551616 1 0 1 1 1", "34"),
+        ("unregion 4294967296", "37"),
+        (
+            "in 18446744073709551616 24 -",
+            "34 0 1 0 - - 7ad4f452d7125475",
+        ),
+        ("next 18446744073709551616 0", "36 -"),
+        ("cut rc 256 4294967296 1 1 0 100 send - -", "39 - -"),
+        ("cut rc 256 1 65536 1 0 100 send - -", "39 - -"),
+        (
+            "cut rc 256 1 1 1 18446744073709551616 100 send - -",
+            "34 - -",
+        ),
+        ("cut rc 256 1 1 1 0 100 read 1 1 4294967296", "34 - -"),
+        (
+            "cut rc 256 1 1 1 0 18446744073709551616 send - -",
+            "0 040000010000000180000001 2",
+        ),
+    ];
+    let (lines, expected): (Vec<&str>, Vec<&str>) = calls_and_answers.into_iter().unzip();
+    assert_eq!(calls(&lines.join("\n")), expected);
 }

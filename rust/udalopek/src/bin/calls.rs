@@ -8,7 +8,7 @@ use udalopek::{
     Region, Request, Service, Setup,
 };
 
-/// The longest memory or output that a line may ask to be lent.
+/// The longest memory or output that is lent.
 const LENT: usize = 16_777_216;
 
 /// The least output that `in` takes.
@@ -50,25 +50,26 @@ impl Host {
                 number::<u32>(qkey)?;
                 self.set_up(Setup {
                     service: service_named(service)?,
-                    pmtu: number(pmtu)?,
-                    ours: number(ours)?,
-                    theirs: number(theirs)?,
-                    pkey: number(pkey)?,
-                    start: number(start)?,
-                    timer: number(timer)?,
+                    pmtu: number_or(pmtu, usize::MAX)?,
+                    ours: number_or(ours, u32::MAX)?,
+                    theirs: number_or(theirs, u32::MAX)?,
+                    // No P_Key is 0, nor over 16 bits.
+                    pkey: number_or(pkey, 0)?,
+                    start: number_or(start, u32::MAX)?,
+                    timer: number_or(timer, u8::MAX)?,
                     send: flag(send)?,
                     write: flag(write)?,
                     read: flag(read)?,
                     atomic: flag(atomic)?,
-                    memory: number(memory)?,
+                    memory: number_or(memory, usize::MAX)?,
                 })
             }
             ["region", key, address, length, offset, write, read, atomic] => {
                 let region = Region {
                     key: number(key)?,
-                    address: number(address)?,
-                    length: number(length)?,
-                    offset: number(offset)?,
+                    address: number_or(address, u64::MAX)?,
+                    length: number_or(length, u64::MAX)?,
+                    offset: number_or(offset, u64::MAX)?,
                     write: flag(write)?,
                     read: flag(read)?,
                     atomic: flag(atomic)?,
@@ -76,14 +77,18 @@ impl Host {
                 self.on_pair(Refusal::WrongState, |pair| pair.add_region(region))
             }
             ["unregion", key] => {
-                let key = number(key)?;
-                self.on_pair(Refusal::NoSuchKey, |pair| pair.remove_region(key))
+                // No key has more than 32 bits, so none is taken back.
+                let known = number::<u32>(key);
+                number_or(key, 0)?;
+                self.on_pair(Refusal::NoSuchKey, |pair| {
+                    known.map_or(Err(Refusal::NoSuchKey), |key| pair.remove_region(key))
+                })
             }
             ["post", name, offset, length] => {
                 let entry = Entry {
                     number: number(name)?,
-                    offset: number(offset)?,
-                    length: number(length)?,
+                    offset: number_or(offset, u64::MAX)?,
+                    length: number_or(length, u64::MAX)?,
                 };
                 self.on_pair(Refusal::WrongState, |pair| pair.post_entry(entry))
             }
@@ -93,14 +98,21 @@ impl Host {
             ["next", memory, out] => self.next(lent(memory)?, lent(out)?),
             ["header", packet] => header(&bytes(packet)?),
             ["cut", service, pmtu, dest, pkey, psn, index, out, ref kind @ ..] => {
-                let connection = Connection {
-                    service: service_named(service)?,
-                    pmtu: number(pmtu)?,
-                    pkey: number(pkey)?,
-                    dest: number(dest)?,
-                };
-                let (first, index, out) = (number(psn)?, number(index)?, lent(out)?);
+                let (service, pmtu) = (service_named(service)?, number_or(pmtu, usize::MAX)?);
+                let (dest, pkey) = (number_or(dest, u32::MAX)?, number_or(pkey, u32::MAX)?);
+                let first = number_or(psn, u32::MAX)?;
+                let (index, out) = (number_or(index, usize::MAX)?, lent(out)?);
                 let (request, message) = asked(kind)?;
+                let Ok(pkey) = u16::try_from(pkey) else {
+                    // A field over its width is a bad number.
+                    return Some(format!("{} - -", Refusal::BadNumber.number()));
+                };
+                let connection = Connection {
+                    service,
+                    pmtu,
+                    pkey,
+                    dest,
+                };
                 cut_packet(connection, request, &message, first, index, out)
             }
             _ => return None,
@@ -228,7 +240,7 @@ fn asked(words: &[&str]) -> Option<(Request, Vec<u8>)> {
             let request = Request::Read {
                 address: number(address)?,
                 key: number(key)?,
-                length: number(length)?,
+                length: number_or(length, u32::MAX)?,
             };
             (request, Vec::new())
         }
@@ -255,10 +267,17 @@ fn asked(words: &[&str]) -> Option<(Request, Vec<u8>)> {
 
 // Words of a call.
 
-/// Decimal digits only: the standard parser takes a sign too. Too large for the field is no number.
+/// Decimal digits only: the standard parser takes a sign too. Too large for the field is no number: of keys, immediates, atomic
+/// operands and entries' names the rules have no refusal for it.
 fn number<T: FromStr>(word: &str) -> Option<T> {
     let digits = word.bytes().all(|byte| byte.is_ascii_digit());
     word.parse().ok().filter(|_| digits)
+}
+
+/// A number that the rules refuse where it is too large: then another that they refuse in the same way.
+fn number_or<T: FromStr>(word: &str, refused: T) -> Option<T> {
+    let digits = !word.is_empty() && word.bytes().all(|byte| byte.is_ascii_digit());
+    digits.then(|| word.parse().unwrap_or(refused))
 }
 
 fn optional(word: &str) -> Option<Option<u32>> {
@@ -276,8 +295,9 @@ fn flag(word: &str) -> Option<bool> {
     }
 }
 
+/// A length to lend. No memory that is set up is as long as the longest, and no packet; so a longer one gets the same answer.
 fn lent(word: &str) -> Option<usize> {
-    number(word).filter(|&length| length <= LENT)
+    number_or(word, LENT).map(|length| length.min(LENT))
 }
 
 fn service_named(word: &str) -> Option<Service> {
