@@ -1,14 +1,19 @@
 /* The transport side of an InfiniBand queue pair, as a static library.
  *
- * Every function answers a number of the rules; those from 32 on are refusals, and a refusal changes nothing that was
- * lent, but for told, which is then all 0. No function keeps anything between calls, allocates, or calls out. Two calls
- * may run at once unless they are lent the same bytes or words.
+ * Every function but udalopek_read_header answers a number of the rules; those from 32 on are refusals, and a refusal
+ * changes nothing that was lent, but for told, which is then all 0. No function keeps anything between calls, allocates, or
+ * calls out. Two calls may run at once unless they are lent the same bytes or words.
  *
- * The state of a pair is 30 words and three tables, all lent by the caller. Words that no call wrote are refused: with 34
- * before all else where there are not 30 of them or one does not fit its field, and where they are no sound pair with 34 at
- * its place in the call's order of checks. A row of a table that no call wrote is refused with 34 when it is used: an entry
- * when a packet takes it, and any row of the regions by a packet that may name one, which a SEND may not. The words of an
- * open message are not looked at where none is open, nor those of a READ where none is being answered.
+ * The state of a pair is 30 words and three tables, all lent by the caller. They are tested, so that no words can make a
+ * call read or write outside what it is lent:
+ * - not 30 words, or one that does not fit its field: 34, before all else, in every call that is lent the words;
+ * - words out of range, so that they are no sound pair: 34, at its place in the call's order of checks; in reset and remove
+ *   region at once;
+ * - a row of the regions whose key, range or right is out of range: 34, next after the first test, by add and remove region
+ *   and by a packet that may name a region, which is any whose opcode is not one of SEND's;
+ * - an entry's row whose range is not in memory: 34 by the packet that would take it.
+ * What is in range and yet no call would have left so is not told apart: a key that stands twice (the first row counts), a
+ * count of bytes placed that is not what came, a READ pending on UC, the words of an open message where none is open.
  *
  * What a caller owes, since C cannot say it: a pointer is never null, even with length 0; it points to as many elements
  * as the length beside it says, or as its array type has; what is written overlaps nothing else that is lent. */

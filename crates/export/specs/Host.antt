@@ -14,17 +14,17 @@ use Rattle.words.specs.Pair.{pairOf, pairWords, strange}
 use Rattle.words.specs.Rows.{strangeFrom}
 
 -- words of another length are refused; what they are does not matter to a set-up
-unfoldable pub tooMany : List ℕ → Bool
-tooMany w = not (eqb (length w) 30)
+unfoldable pub otherLength : List ℕ → Bool
+otherLength w = not (eqb (length w) 30)
 
 unfoldable pub setUpNumber : List ℕ → Setup → ℕ
-setUpNumber w s = cond (tooMany w) 34 (statusNumber (setUp s .status))
+setUpNumber w s = cond (otherLength w) 34 (statusNumber (setUp s .status))
 
 unfoldable pub setUpWords : List ℕ → Setup → List ℕ
-setUpWords w s = cond (tooMany w) w (cond (executed (setUp s .status)) (pairWords (setUp s .pair)) w)
+setUpWords w s = cond (otherLength w) w (cond (executed (setUp s .status)) (pairWords (setUp s .pair)) w)
 
 unfoldable pub setUpTable : List ℕ → List (List ℕ) → Setup → List (List ℕ)
-setUpTable w rows s = cond (tooMany w) rows (setUpRegions s rows)
+setUpTable w rows s = cond (otherLength w) rows (setUpRegions s rows)
 
 -- reset and remove region test the whole pair here, since as calls of a pair they need not
 unfoldable pub unmade : List ℕ → Bool

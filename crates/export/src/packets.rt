@@ -40,7 +40,7 @@ fn told_words(sent: usize, c: Completion) -> [u64; 6]
     [s, some, c.number, n, i, v]
 }
 
-// Takes a packet. Here, and in the calls beside it, the words are read, tested and written in the function itself: a call
+// Takes a packet. Here, in next response and in post entry the words are read, tested and written in the function itself: a call
 // with the pair would write it to memory for every packet.
 #[no_mangle]
 pub extern "C" fn udalopek_inbound(

@@ -1,4 +1,4 @@
--- Rows of the table of regions that no call wrote.
+-- Rows of the table of regions whose numbers are out of range.
 use Prim.Native.Nat.{ℕ, zero, suc, _^_}
 use mathlib.Core.Bool.{Bool, true, false, cond, _||_}
 use mathlib.Core.List.{List, []}

@@ -1,4 +1,4 @@
-// Rows of the table of regions that no call wrote.
+// Rows of the table of regions whose numbers are out of range.
 ghost use mathlib.Core.Path.{_≡_};
 ghost use Rattle.words.specs.Rows.{rowStrange, strangeFrom};
 

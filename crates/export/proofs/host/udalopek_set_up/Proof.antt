@@ -6,7 +6,7 @@ use Rattle.pair.specs.Answer.{statusNumber, executed}
 use Rattle.words.specs.Pair.{pairWords, strange}
 use Rattle.words.proofs.Laws.{put-many}
 use Rattle.export.proofs.Steps.{second, first, thirty-four}
-use Rattle.export.specs.Host.{setUpNumber, setUpWords, setUpTable, tooMany}
+use Rattle.export.specs.Host.{setUpNumber, setUpWords, setUpTable, otherLength}
 use lib.Dec.{eqb}
 use lib.Dec.{eqb}
 use lib.Dec.{eqb}
@@ -17,7 +17,7 @@ use Rattle.export.proofs.host.udalopek_set_up.Statement.{statement}
 use Rattle.export.proofs.host.udalopek_set_up.Tie as tie
 
 returns : tie.Need-returns
-unfolding setUpNumber setUpWords setUpTable tooMany executed
+unfolding setUpNumber setUpWords setUpTable otherLength executed
 returns c = let t = ap not (ne-eqb _ _ (c .if1 .taken)) in (first _ 34 _ t, (first _ _ _ t, (first _ _ _ t, λ z. absurd (thirty-four z))))
 
 set-up-requires : tie.Need-set-up-requires
@@ -27,7 +27,7 @@ number-requires : tie.Need-number-requires
 number-requires c κs = search needs
 
 returns-2 : tie.Need-returns-2
-unfolding setUpNumber setUpWords setUpTable tooMany executed
+unfolding setUpNumber setUpWords setUpTable otherLength executed
 returns-2 c =
     let t = ap not (eq-eqb _ _ (c .before .before .before .before .if1 .left)) in
     let n = c .before .number .ensures ∙ ap (λ o. statusNumber (o .status)) (c .before .before .set-up .ensures .0) in
@@ -41,7 +41,7 @@ same-length : tie.Need-same-length
 same-length c = search needs
 
 returns-3 : tie.Need-returns-3
-unfolding setUpNumber setUpWords setUpTable tooMany executed
+unfolding setUpNumber setUpWords setUpTable otherLength executed
 returns-3 c =
     let t = ap not (eq-eqb _ _ (c .before .before .before .before .before .before .before .before .before .if1 .left)) in
     let e = c .before .before .before .before .before .before .before .set-up .ensures .0 in
