@@ -34,6 +34,44 @@ pub struct Failure {
     pub script: Vec<String>,
 }
 
+/// How a fresh pair comes about: by its set-up, or by a reset after some use; entries may be posted before it is Ready.
+#[derive(Default)]
+struct Start {
+    /// The length of the memory lent.
+    lent: usize,
+    /// The pair took an entry and the first packets of the stream, and was reset.
+    used: bool,
+    early: Vec<Entry>,
+}
+
+/// So many packets are handed in before a reset.
+const USED: usize = 3;
+
+/// The calls that make a fresh pair, in their order.
+fn beginning(stream: &Stream, packets: &[Vec<u8>], start: &Start) -> Vec<Call> {
+    let regions = || stream.regions.iter().copied().map(Call::AddRegion);
+    let mut calls = Vec::new();
+    if start.used {
+        calls.extend(regions());
+        calls.push(Call::MakeReady);
+        calls.push(Call::Post(Entry {
+            number: 1,
+            offset: 0,
+            length: stream.longest_send as u64,
+        }));
+        calls.extend(packets.iter().take(USED).map(|packet| Call::Inbound {
+            memory: start.lent,
+            out: 24,
+            packet: packet.clone(),
+        }));
+        calls.push(Call::Reset);
+    }
+    calls.extend(regions());
+    calls.extend(start.early.iter().copied().map(Call::Post));
+    calls.push(Call::MakeReady);
+    calls
+}
+
 /// A pair beside the plain run of its stream.
 struct Check<'a, S> {
     pair: S,
@@ -45,29 +83,43 @@ struct Check<'a, S> {
 }
 
 impl<'a, S: Subject> Check<'a, S> {
-    /// A fresh pair: Ready, its regions in place, nothing delivered.
-    fn new(stream: &'a Stream, packets: &'a [Vec<u8>], lent: usize) -> Result<Self, String> {
+    /// A fresh pair: Ready, its regions in place, nothing delivered since set-up or reset.
+    fn new(stream: &'a Stream, packets: &'a [Vec<u8>], start: &Start) -> Result<Self, String> {
         let refused = |number| format!("a fresh pair is refused with {number}");
         let mut pair = S::set_up(stream.setup).map_err(refused)?;
-        for region in &stream.regions {
-            match pair.add_region(*region) {
-                0 => {}
-                number => return Err(refused(number)),
+        let mut memory = fresh_memory(start.lent);
+        let mut out = vec![0; 4_200];
+        for call in beginning(stream, packets, start) {
+            let number = match call {
+                Call::AddRegion(region) => pair.add_region(region),
+                Call::MakeReady => pair.make_ready(),
+                Call::Reset => pair.reset(),
+                // What entries and packets are answered is for the plain run to say.
+                Call::Post(entry) => {
+                    pair.post_entry(entry);
+                    0
+                }
+                Call::Inbound { packet, .. } => {
+                    pair.inbound(&mut memory, &packet, &mut out[..24]);
+                    0
+                }
+                _ => 0,
+            };
+            if number != 0 {
+                return Err(refused(number));
             }
         }
-        match pair.make_ready() {
-            0 => {}
-            number => return Err(refused(number)),
+        let mut run = PlainRun::new(stream, memory.clone());
+        for entry in &start.early {
+            run.step(Step::Post(*entry));
         }
-        let memory = fresh_memory(lent);
-        let run = PlainRun::new(stream, memory.clone());
         Ok(Check {
             pair,
             memory,
             completions: Vec::new(),
             run,
             packets,
-            out: vec![0; 4_200],
+            out,
         })
     }
 
@@ -166,7 +218,17 @@ fn one_stream<S: Subject>(seed: u64, tally: &mut Tally) -> Result<(), Failure> {
         .map_err(|number| without_script(format!("a cut is refused with {number}")))?;
     // With memory of another length everything is refused.
     let lent = stream.setup.memory + usize::from(random.chance(1));
-    let mut check = Check::<S>::new(&stream, &packets, lent).map_err(without_script)?;
+    let early = if random.chance(50) {
+        random.below(4)
+    } else {
+        0
+    };
+    let start = Start {
+        lent,
+        used: random.chance(30),
+        early: (0..early).map(|_| entry(&mut random, &stream)).collect(),
+    };
+    let mut check = Check::<S>::new(&stream, &packets, &start).map_err(without_script)?;
 
     // A list ends at once, or some calls after the stream is delivered whole.
     let early = random.chance(10) || lent != stream.setup.memory;
@@ -180,7 +242,7 @@ fn one_stream<S: Subject>(seed: u64, tally: &mut Tally) -> Result<(), Failure> {
         steps.push(step);
         match check.step(step) {
             Ok(number) => tally.answers.add(number),
-            Err(_) => return Err(shortest::<S>(&stream, &packets, lent, steps)),
+            Err(_) => return Err(shortest::<S>(&stream, &packets, &start, steps)),
         }
     }
     check.end().map_err(without_script)?;
@@ -264,11 +326,11 @@ fn entry(random: &mut Random, stream: &Stream) -> Entry {
 fn shortest<S: Subject>(
     stream: &Stream,
     packets: &[Vec<u8>],
-    lent: usize,
+    start: &Start,
     mut steps: Vec<Step>,
 ) -> Failure {
     let replay = |steps: &[Step]| -> Option<(usize, String)> {
-        let mut check = Check::<S>::new(stream, packets, lent).ok()?;
+        let mut check = Check::<S>::new(stream, packets, start).ok()?;
         let mut steps = steps.iter().enumerate();
         steps.find_map(|(place, step)| check.step(*step).err().map(|what| (place, what)))
     };
@@ -286,14 +348,14 @@ fn shortest<S: Subject>(
     let what = replay(&steps).map_or("does not fail again".to_string(), |(_, what)| what);
     Failure {
         what,
-        script: script(stream, packets, lent, &steps),
+        script: script(stream, packets, start, &steps),
     }
 }
 
-fn script(stream: &Stream, packets: &[Vec<u8>], lent: usize, steps: &[Step]) -> Vec<String> {
+fn script(stream: &Stream, packets: &[Vec<u8>], start: &Start, steps: &[Step]) -> Vec<String> {
+    let lent = start.lent;
     let mut calls = vec![Call::SetUp(stream.setup)];
-    calls.extend(stream.regions.iter().copied().map(Call::AddRegion));
-    calls.push(Call::MakeReady);
+    calls.extend(beginning(stream, packets, start));
     calls.extend(steps.iter().map(|step| match *step {
         Step::HandIn { packet, out } => Call::Inbound {
             memory: lent,
@@ -355,7 +417,11 @@ pub fn half_space<S: Subject>() -> Result<u64, String> {
     let packets = stream
         .cut::<S>(0xFFFF)
         .map_err(|number| format!("a cut: {number}"))?;
-    let mut check = Check::<S>::new(&stream, &packets, LIMIT)?;
+    let start = Start {
+        lent: LIMIT,
+        ..Start::default()
+    };
+    let mut check = Check::<S>::new(&stream, &packets, &start)?;
     let mut calls = 0;
     let mut step = |check: &mut Check<S>, step, wanted| {
         calls += 1;
