@@ -10,7 +10,11 @@ use borrow.Author.Tests.{leb-false, lt-leb, le-leb}
 use Rattle.laws.proofs.Tests.{or-left, neither}
 use Rattle.pair.specs.declared.Pair.{Pair}
 use Rattle.pair.specs.Answer.{statusNumber}
-use Rattle.pair.specs.Host.{posted, postEntries}
+use Rattle.pair.specs.Claims.{Sound}
+use Rattle.pair.specs.Sound.{pairUnsound}
+use Rattle.pair.specs.Host.{resetTo, resetRegions, madeReady, addStatus, addRegions, removeStatus, removeRegions, posted, postEntries}
+use Rattle.pair.proofs.Tests.{tested}
+use Rattle.table.specs.Claims.{RegionsSound}
 use Rattle.protocol.specs.declared.Completion.{Completion}
 use Rattle.protocol.specs.Inbound.{inbound, inboundMemory, inboundSaved, inboundOut}
 use Rattle.protocol.specs.Response.{nextResponse, nextOut}
@@ -18,11 +22,12 @@ use Rattle.protocol.specs.Effects.{Silent}
 use Rattle.protocol.proofs.Effects.{inbound-table}
 use Rattle.words.specs.Pair.{pairOf, pairWords, strange}
 use Rattle.words.specs.Rows.{strangeFrom}
+use Rattle.words.specs.Claims.{PairFields}
 use Rattle.words.proofs.Laws.{let-in, pair-back, others-strange}
 use Rattle.words.proofs.Regions.{regions-let-in, row-strange}
 use Rattle.export.specs.Packets.{names, oddFor, refused, inboundNumber, inboundWords, inboundRows, inboundBytes, inboundOutput, inboundTold, toldWords, nextNumber, nextWords, nextOutput, nextTold}
-use Rattle.export.specs.Host.{postNumber, postWords, postTable}
-use Rattle.export.specs.Claims.{InboundKeeps, NamesNone, WordsRefused, RowRefused, Readable, InboundIs, NextIs, PostIs}
+use Rattle.export.specs.Host.{unmade, oddRegions, resetNumber, resetWords, resetTable, readyNumber, readyWords, addNumber, addTable, removeNumber, removeTable, postNumber, postWords, postTable}
+use Rattle.export.specs.Claims.{InboundKeeps, NamesNone, WordsRefused, RowRefused, Keyed, Readable, InboundIs, NextIs, PostIs, ReadyIs, ResetIs, AddIs, RemoveIs}
 use Rattle.export.proofs.Steps.{second, first, refused-words}
 
 -- nothing is told of a completion that is none
@@ -136,3 +141,50 @@ row-refused w regions entries saved m p out i h k n =
     either : (a b : Bool) → b ≡ true → (a || b) ≡ true
     either true b e = refl
     either false b e = e
+
+pub ready-is : ReadyIs
+unfolding readyNumber readyWords
+ready-is q f =
+    let b = pair-back q f in (
+      sym (second _ 34 _ (b .1)) ∙ ap (λ x. statusNumber (madeReady x .status)) (b .0),
+      sym (second _ _ _ (b .1)) ∙ ap (λ x. pairWords (madeReady x .pair)) (b .0),
+    )
+
+-- a sound pair is made by calls
+made : (q : Pair) → PairFields q → Sound q → unmade (pairWords q) ≡ false
+unfolding unmade
+made q f s = ap pairUnsound (pair-back q f .0) ∙ tested q .1 s
+
+pub reset-is : ResetIs
+unfolding resetNumber resetWords resetTable
+reset-is q rows f s =
+    let b = pair-back q f in
+    let u = made q f s in (
+      sym (second _ 34 _ u ∙ second _ 34 _ (b .1)) ∙ ap (λ x. statusNumber (resetTo x .status)) (b .0),
+      sym (second _ _ _ u ∙ second _ _ _ (b .1)) ∙ ap (λ x. pairWords (resetTo x .pair)) (b .0),
+      sym (second _ _ _ u ∙ second _ _ _ (b .1)) ∙ ap (λ x. resetRegions x rows) (b .0),
+    )
+
+-- its table has no row out of range
+even : (q : Pair) (rows : List (List ℕ)) → PairFields q → RegionsSound (q .setup .memory) rows → Keyed rows → oddRegions (pairWords q) rows ≡ false
+unfolding oddRegions
+even q rows f s k = ap (λ x. strangeFrom rows (x .setup .memory) 0 16) (pair-back q f .0) ∙ regions-let-in (q .setup .memory) rows s k
+
+pub add-is : AddIs
+unfolding addNumber addTable
+add-is q rows r f s k =
+    let b = pair-back q f in
+    let o = even q rows f s k in (
+      sym (second _ 34 _ o ∙ second _ 34 _ (b .1)) ∙ ap (λ x. statusNumber (addStatus x rows r)) (b .0),
+      sym (second _ _ _ o ∙ second _ _ _ (b .1)) ∙ ap (λ x. addRegions x rows r) (b .0),
+    )
+
+pub remove-is : RemoveIs
+unfolding removeNumber removeTable
+remove-is q rows key f s g k =
+    let b = pair-back q f in
+    let u = made q f s in
+    let o = even q rows f g k in (
+      sym (second _ 34 _ o ∙ second _ 34 _ u ∙ second _ 34 _ (b .1)),
+      sym (second _ _ _ o ∙ second _ _ _ u ∙ second _ _ _ (b .1)),
+    )

@@ -6,16 +6,19 @@ use mathlib.Core.List.{List, [], _∷_}
 use mathlib.Core.Logic.{_⊎_}
 use lib.ListN.{getD, replicate}
 use Rattle.table.specs.Claims.{RegionsSound, Free}
+use Rattle.table.specs.declared.Region.{Region}
 use Rattle.table.specs.declared.Entry.{Entry}
+use Rattle.pair.specs.declared.Setup.{Setup}
 use Rattle.pair.specs.declared.Pair.{Pair}
 use Rattle.pair.specs.Answer.{statusNumber}
-use Rattle.pair.specs.Host.{posted, postEntries}
+use Rattle.pair.specs.Claims.{Sound}
+use Rattle.pair.specs.Host.{resetTo, resetRegions, madeReady, addStatus, addRegions, removeStatus, removeRegions, posted, postEntries}
 use Rattle.protocol.specs.Inbound.{inbound, inboundMemory, inboundSaved, inboundOut}
 use Rattle.protocol.specs.Response.{nextResponse, nextOut}
 use Rattle.words.specs.Pair.{pairOf, pairWords}
 use Rattle.words.specs.Claims.{PairFields, RegionNumbers}
 use Rattle.export.specs.Packets.{names, inboundNumber, inboundWords, inboundRows, inboundBytes, inboundOutput, inboundTold, toldWords, nextNumber, nextWords, nextOutput, nextTold}
-use Rattle.export.specs.Host.{postNumber, postWords, postTable}
+use Rattle.export.specs.Host.{setUpNumber, setUpWords, setUpTable, resetNumber, resetWords, resetTable, readyNumber, readyWords, addNumber, addTable, removeNumber, removeTable, postNumber, postWords, postTable}
 
 -- A packet dropped or a call refused leaves all words, rows and bytes as they were, and tells nothing.
 abbrev pub InboundKeeps : Type 0
@@ -28,6 +31,32 @@ InboundKeeps =
     × (inboundOutput w regions entries saved m p out ≡ out)
     × (inboundTold w regions entries saved m p out ≡ replicate 6 0)
 
+-- So does every other call that is refused. Numbers from 32 on are the refusals.
+abbrev pub NextKeeps : Type 0
+NextKeeps =
+    (w m out : List ℕ) → 32 ≤ nextNumber w m out
+    → (nextWords w m out ≡ w) × (nextOutput w m out ≡ out) × (nextTold w m out ≡ 0 ∷ [])
+
+abbrev pub SetUpKeeps : Type 0
+SetUpKeeps =
+    (w : List ℕ) (rows : List (List ℕ)) (s : Setup) → 32 ≤ setUpNumber w s → (setUpWords w s ≡ w) × (setUpTable w rows s ≡ rows)
+
+abbrev pub ResetKeeps : Type 0
+ResetKeeps = (w : List ℕ) (rows : List (List ℕ)) → 32 ≤ resetNumber w → (resetWords w ≡ w) × (resetTable w rows ≡ rows)
+
+abbrev pub ReadyKeeps : Type 0
+ReadyKeeps = (w : List ℕ) → 32 ≤ readyNumber w → readyWords w ≡ w
+
+abbrev pub AddKeeps : Type 0
+AddKeeps = (w : List ℕ) (rows : List (List ℕ)) (r : Region) → 32 ≤ addNumber w rows r → addTable w rows r ≡ rows
+
+abbrev pub RemoveKeeps : Type 0
+RemoveKeeps = (w : List ℕ) (rows : List (List ℕ)) (key : ℕ) → 32 ≤ removeNumber w rows key → removeTable w rows key ≡ rows
+
+abbrev pub PostKeeps : Type 0
+PostKeeps =
+    (w : List ℕ) (rows : List (List ℕ)) (e : Entry) → 32 ≤ postNumber w e → (postWords w e ≡ w) × (postTable w rows e ≡ rows)
+
 -- Which packets may name a region, in plain numbers: all but those of SEND, whose opcodes are 0 to 5.
 abbrev pub NamesNone : Type 0
 NamesNone = (p : List ℕ) → (names p ≡ false → getD p 0 0 % 32 ≤ 5) × (getD p 0 0 % 32 ≤ 5 → names p ≡ false)
@@ -39,6 +68,13 @@ WordsRefused =
     → ((q : Pair) → PairFields q → w ≡ pairWords q → ⊥)
     → inboundNumber w regions entries saved m p out ≡ 34
 
+abbrev pub OthersRefused : Type 0
+OthersRefused =
+    (w m out : List ℕ) (rows : List (List ℕ)) (r : Region) (key : ℕ) (e : Entry)
+    → ((q : Pair) → PairFields q → w ≡ pairWords q → ⊥)
+    → (nextNumber w m out ≡ 34) × (resetNumber w ≡ 34) × (readyNumber w ≡ 34) × (addNumber w rows r ≡ 34)
+    × (removeNumber w rows key ≡ 34) × (postNumber w e ≡ 34)
+
 abbrev pub RowRefused : Type 0
 RowRefused =
     (w : List ℕ) (regions entries saved : List (List ℕ)) (m p out : List ℕ) (i : ℕ) → i < 16 → 6 ≤ getD p 0 0 % 32
@@ -46,9 +82,12 @@ RowRefused =
     → inboundNumber w regions entries saved m p out ≡ 34
 
 -- A table of regions that calls made, with keys of 32 bits; a packet of a SEND looks at none.
+abbrev pub Keyed : List (List ℕ) → Type 0
+Keyed rows = (i : ℕ) → i < 16 → getD (getD rows i []) 0 0 < 2 ^ 32
+
 abbrev pub Readable : Pair → List (List ℕ) → List ℕ → Type 0
 Readable q regions p =
-    (names p ≡ false) ⊎ (RegionsSound (q .setup .memory) regions × ((i : ℕ) → i < 16 → getD (getD regions i []) 0 0 < 2 ^ 32))
+    (names p ≡ false) ⊎ (RegionsSound (q .setup .memory) regions × Keyed regions)
 
 -- On the words of a pair the calls are those of the pair: whatever is proved of these holds of the exported ones.
 abbrev pub InboundIs : Type 0
@@ -76,3 +115,28 @@ PostIs =
     → (postNumber (pairWords q) e ≡ statusNumber (posted q e .status))
     × (postWords (pairWords q) e ≡ pairWords (posted q e .pair))
     × (postTable (pairWords q) rows e ≡ postEntries q rows e)
+
+abbrev pub ReadyIs : Type 0
+ReadyIs =
+    (q : Pair) → PairFields q
+    → (readyNumber (pairWords q) ≡ statusNumber (madeReady q .status))
+    × (readyWords (pairWords q) ≡ pairWords (madeReady q .pair))
+
+abbrev pub ResetIs : Type 0
+ResetIs =
+    (q : Pair) (rows : List (List ℕ)) → PairFields q → Sound q
+    → (resetNumber (pairWords q) ≡ statusNumber (resetTo q .status))
+    × (resetWords (pairWords q) ≡ pairWords (resetTo q .pair))
+    × (resetTable (pairWords q) rows ≡ resetRegions q rows)
+
+abbrev pub AddIs : Type 0
+AddIs =
+    (q : Pair) (rows : List (List ℕ)) (r : Region) → PairFields q → RegionsSound (q .setup .memory) rows → Keyed rows
+    → (addNumber (pairWords q) rows r ≡ statusNumber (addStatus q rows r))
+    × (addTable (pairWords q) rows r ≡ addRegions q rows r)
+
+abbrev pub RemoveIs : Type 0
+RemoveIs =
+    (q : Pair) (rows : List (List ℕ)) (key : ℕ) → PairFields q → Sound q → RegionsSound (q .setup .memory) rows → Keyed rows
+    → (removeNumber (pairWords q) rows key ≡ statusNumber (removeStatus rows key))
+    × (removeTable (pairWords q) rows key ≡ removeRegions rows key)
