@@ -6,7 +6,7 @@ use mathlib.Core.List.{List, [], _∷_}
 use mathlib.Core.Logic.{_⊎_, inl, inr}
 use lib.ListN.{getD, replicate}
 use native.Mathlib.Omega.{arith}
-use borrow.Author.Tests.{leb-false, lt-leb, le-leb}
+use borrow.Author.Tests.{leb-false, lt-leb, le-leb, ne-eqb}
 use Rattle.laws.proofs.Tests.{or-left, neither}
 use Rattle.pair.specs.declared.Pair.{Pair}
 use Rattle.pair.specs.Answer.{statusNumber}
@@ -26,60 +26,36 @@ use Rattle.words.specs.Claims.{PairFields}
 use Rattle.words.proofs.Laws.{let-in, pair-back, others-strange}
 use Rattle.words.proofs.Regions.{regions-let-in, row-strange}
 use Rattle.export.specs.Packets.{names, oddFor, refused, inboundNumber, inboundWords, inboundRows, inboundBytes, inboundOutput, inboundTold, toldWords, nextNumber, nextWords, nextOutput, nextTold}
+use Rattle.export.specs.Cutting.{requestOf, cutTold}
 use Rattle.export.specs.Host.{unmade, oddRegions, resetNumber, resetWords, resetTable, readyNumber, readyWords, addNumber, addTable, removeNumber, removeTable, postNumber, postWords, postTable}
-use Rattle.export.specs.Claims.{InboundKeeps, NamesNone, WordsRefused, RowRefused, Keyed, Readable, InboundIs, NextIs, PostIs, ReadyIs, ResetIs, AddIs, RemoveIs}
+use Rattle.export.specs.Claims.{ToldSays, KindsAre, CutTells, InboundKeeps, NamesNone, WordsRefused, RowRefused, Keyed, Readable, InboundIs, NextIs, PostIs, ReadyIs, ResetIs, AddIs, RemoveIs}
 use Rattle.export.proofs.Steps.{second, first, refused-words}
 
 -- nothing is told of a completion that is none
 silent : (c : Completion) → Silent c → toldWords 0 c ≡ replicate 6 0
 unfolding toldWords
-silent c s = λ i. 0 ∷ cond (s .some i) 1 0 ∷ s .number i ∷ s .length i ∷ cond (s .immediate i) 1 0 ∷ s .value i ∷ []
+silent c s = simp (s .some, s .number, s .length, s .immediate, s .value)
 
--- a call that the words do not refuse
-module _ (w : List ℕ) (regions entries saved : List (List ℕ)) (m p out : List ℕ) where
-  abbrev q : Pair
-  q = pairOf w
+-- behind a test that refuses with 34: what a drop or a refusal keeps there is kept
+behind : {A : Type 0} (b : Bool) (n : ℕ) (x y : A) → (b ≡ false → (n ≡ 5) ⊎ (32 ≤ n) → y ≡ x) → (cond b 34 n ≡ 5) ⊎ (32 ≤ cond b 34 n) → cond b x y ≡ x
+behind true n x y f h = refl
+behind false n x y f h = f refl h
 
-  quiet : strange w ≡ false
-      → (statusNumber (inbound q regions entries saved m p out .status) ≡ 5) ⊎ (32 ≤ statusNumber (inbound q regions entries saved m p out .status))
-      → (pairWords (inbound q regions entries saved m p out .pair) ≡ w)
-      × (inboundSaved q regions entries saved m p out ≡ saved)
-      × (inboundMemory q regions entries saved m p out ≡ m)
-      × (inboundOut q regions entries saved m p out ≡ out)
-      × (toldWords (inbound q regions entries saved m p out .sent) (inbound q regions entries saved m p out .completion) ≡ replicate 6 0)
-  quiet e h =
-      let u = inbound-table q regions entries saved m p out .quiet h in (
-        ap pairWords (u .pair) ∙ sym (let-in w e),
-        u .still .saved,
-        u .still .memory,
-        u .out,
-        ap (λ n. toldWords n (inbound q regions entries saved m p out .completion)) (u .sent) ∙ silent _ (u .still .completion),
-      )
-
-  let-through : refused w regions p ≡ false → strange w ≡ false
-  unfolding refused
-  let-through e = or-left (strange w) (oddFor regions (q .setup .memory) p) e
+let-through : (w : List ℕ) (regions : List (List ℕ)) (p : List ℕ) → refused w regions p ≡ false → strange w ≡ false
+unfolding refused
+let-through w regions p e = or-left (strange w) (oddFor regions (pairOf w .setup .memory) p) e
 
 pub inbound-keeps : InboundKeeps
 unfolding inboundNumber inboundWords inboundRows inboundBytes inboundOutput inboundTold
-inbound-keeps w regions entries saved m p out = go (refused w regions p) (λ e. quiet w regions entries saved m p out (let-through w regions entries saved m p out e)) refl
-  where
-    go : (b : Bool)
-        → (b ≡ false → (statusNumber (inbound (pairOf w) regions entries saved m p out .status) ≡ 5) ⊎ (32 ≤ statusNumber (inbound (pairOf w) regions entries saved m p out .status))
-        → (pairWords (inbound (pairOf w) regions entries saved m p out .pair) ≡ w)
-        × (inboundSaved (pairOf w) regions entries saved m p out ≡ saved)
-        × (inboundMemory (pairOf w) regions entries saved m p out ≡ m)
-        × (inboundOut (pairOf w) regions entries saved m p out ≡ out)
-        × (toldWords (inbound (pairOf w) regions entries saved m p out .sent) (inbound (pairOf w) regions entries saved m p out .completion) ≡ replicate 6 0))
-        → refused w regions p ≡ b
-        → (cond b 34 (statusNumber (inbound (pairOf w) regions entries saved m p out .status)) ≡ 5) ⊎ (32 ≤ cond b 34 (statusNumber (inbound (pairOf w) regions entries saved m p out .status)))
-        → (cond b w (pairWords (inbound (pairOf w) regions entries saved m p out .pair)) ≡ w)
-        × (cond b saved (inboundSaved (pairOf w) regions entries saved m p out) ≡ saved)
-        × (cond b m (inboundMemory (pairOf w) regions entries saved m p out) ≡ m)
-        × (cond b out (inboundOut (pairOf w) regions entries saved m p out) ≡ out)
-        × (cond b (replicate 6 0) (toldWords (inbound (pairOf w) regions entries saved m p out .sent) (inbound (pairOf w) regions entries saved m p out .completion)) ≡ replicate 6 0)
-    go true f e h = (refl, refl, refl, refl, refl)
-    go false f e h = f refl h
+inbound-keeps w regions entries saved m p out h =
+    let b = refused w regions p in
+    let t = inbound-table (pairOf w) regions entries saved m p out in (
+      behind b _ w _ (λ e g. ap pairWords (t .quiet g .pair) ∙ sym (let-in w (let-through w regions p e))) h,
+      behind b _ saved _ (λ e g. t .quiet g .still .saved) h,
+      behind b _ m _ (λ e g. t .quiet g .still .memory) h,
+      behind b _ out _ (λ e g. t .quiet g .out) h,
+      behind b _ (replicate 6 0) _ (λ e g. ap (λ n. toldWords n (inbound (pairOf w) regions entries saved m p out .completion)) (t .quiet g .sent) ∙ silent _ (t .quiet g .still .completion)) h,
+    )
 
 -- the words of a pair are let in, and its table
 readable : (q : Pair) (regions : List (List ℕ)) (p : List ℕ) → Readable q regions p → oddFor regions (q .setup .memory) p ≡ false
@@ -188,3 +164,24 @@ remove-is q rows key f s g k =
       sym (second _ 34 _ o ∙ second _ 34 _ u ∙ second _ 34 _ (b .1)),
       sym (second _ _ _ o ∙ second _ _ _ u ∙ second _ _ _ (b .1)),
     )
+
+pub told-says : ToldSays
+unfolding toldWords
+told-says n c = record {
+  sent = refl;
+  completes = λ e. ap (λ b. cond b 1 0) e;
+  nothing = λ e. ap (λ b. cond b 1 0) e;
+  entry = refl;
+  bytes = refl;
+  immediate = λ e. ap (λ b. cond b 1 0) e;
+  none = λ e. ap (λ b. cond b 1 0) e;
+  value = refl;
+}
+
+pub kinds-are : KindsAre
+unfolding requestOf
+kinds-are address key length swap compare immediate = (refl, refl, refl, refl, refl, refl, refl)
+
+pub cut-tells : CutTells
+unfolding cutTold
+cut-tells n psn = (refl, λ k z. rw (ne-eqb k 0 z))

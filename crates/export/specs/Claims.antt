@@ -1,7 +1,7 @@
 -- What is proved of the exported calls; the proofs stand in proofs/.
 use Prim.Native.Nat.{ℕ, _%_, _≤_, _<_, _^_}
 use mathlib.Core.Path.{_≡_}
-use mathlib.Core.Bool.{false}
+use mathlib.Core.Bool.{true, false}
 use mathlib.Core.List.{List, [], _∷_}
 use mathlib.Core.Logic.{_⊎_}
 use lib.ListN.{getD, replicate}
@@ -15,9 +15,12 @@ use Rattle.pair.specs.Claims.{Sound}
 use Rattle.pair.specs.Host.{resetTo, resetRegions, madeReady, addStatus, addRegions, removeStatus, removeRegions, posted, postEntries}
 use Rattle.protocol.specs.Inbound.{inbound, inboundMemory, inboundSaved, inboundOut}
 use Rattle.protocol.specs.Response.{nextResponse, nextOut}
+use Rattle.protocol.specs.declared.Completion.{Completion}
+use Rattle.segment.specs.declared.Request.the-variants.{Send, SendImmediate, Write, WriteImmediate, Read, CmpSwap, FetchAdd}
 use Rattle.words.specs.Pair.{pairOf, pairWords}
 use Rattle.words.specs.Claims.{PairFields, RegionNumbers}
 use Rattle.export.specs.Packets.{names, inboundNumber, inboundWords, inboundRows, inboundBytes, inboundOutput, inboundTold, toldWords, nextNumber, nextWords, nextOutput, nextTold}
+use Rattle.export.specs.Cutting.{requestOf, cutTold}
 use Rattle.export.specs.Host.{setUpNumber, setUpWords, setUpTable, resetNumber, resetWords, resetTable, readyNumber, readyWords, addNumber, addTable, removeNumber, removeTable, postNumber, postWords, postTable}
 
 -- A packet dropped or a call refused leaves all words, rows and bytes as they were, and tells nothing.
@@ -140,3 +143,32 @@ RemoveIs =
     (q : Pair) (rows : List (List ℕ)) (key : ℕ) → PairFields q → Sound q → RegionsSound (q .setup .memory) rows → Keyed rows
     → (removeNumber (pairWords q) rows key ≡ statusNumber (removeStatus rows key))
     × (removeTable (pairWords q) rows key ≡ removeRegions rows key)
+
+-- What the host is told, word by word, listed here once more and not by the definition under test; so are the kinds of a cut and
+-- what a cut tells.
+pub record Tells (n : ℕ) (c : Completion) (t : List ℕ) : Type 0 where
+  pub sent : getD t 0 0 ≡ n
+  pub completes : c .some ≡ true → getD t 1 0 ≡ 1
+  pub nothing : c .some ≡ false → getD t 1 0 ≡ 0
+  pub entry : getD t 2 0 ≡ c .number
+  pub bytes : getD t 3 0 ≡ c .length
+  pub immediate : c .immediate ≡ true → getD t 4 0 ≡ 1
+  pub none : c .immediate ≡ false → getD t 4 0 ≡ 0
+  pub value : getD t 5 0 ≡ c .value
+
+abbrev pub ToldSays : Type 0
+ToldSays = (n : ℕ) (c : Completion) → Tells n c (toldWords n c)
+
+abbrev pub KindsAre : Type 0
+KindsAre =
+    (address key length swap compare immediate : ℕ)
+    → (requestOf 0 address key length swap compare immediate ≡ Send)
+    × (requestOf 1 address key length swap compare immediate ≡ SendImmediate immediate)
+    × (requestOf 2 address key length swap compare immediate ≡ Write (record { address = address; key = key }))
+    × (requestOf 3 address key length swap compare immediate ≡ WriteImmediate (record { address = address; key = key }) immediate)
+    × (requestOf 4 address key length swap compare immediate ≡ Read (record { address = address; key = key; length = length }))
+    × (requestOf 5 address key length swap compare immediate ≡ CmpSwap (record { address = address; key = key; swap = swap; compare = compare }))
+    × (requestOf 6 address key length swap compare immediate ≡ FetchAdd (record { address = address; key = key }) swap)
+
+abbrev pub CutTells : Type 0
+CutTells = (n psn : ℕ) → (cutTold 0 n psn ≡ n ∷ psn ∷ []) × ((k : ℕ) → (k ≡ 0 → ⊥) → cutTold k n psn ≡ 0 ∷ 0 ∷ [])
