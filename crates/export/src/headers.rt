@@ -4,9 +4,9 @@ use header::Header;
 use header::HeaderRead;
 ghost use mathlib.Core.Path.{_≡_};
 ghost use Rattle.header.specs.Write.{answerNumber};
-ghost use Rattle.responder.specs.Unchanged.{doneBytes};
+ghost use Rattle.header.specs.Write.{doneBytes};
 ghost use Rattle.words.specs.Fields.{bthWords, extensionWords};
-ghost use Rattle.export.specs.Headers.{readNumber, readBth, readExtension, ownWords, writeNumber, writeOutput, writeTold};
+ghost use Rattle.interface.specs.Headers.{readNumber, readBth, readExtension, ownWords, writeNumber, writeOutput, writeTold};
 
 // Reads a header.
 #[no_mangle]
@@ -33,8 +33,8 @@ fn tell_header(h: Header, bth: &mut [u64; 11], extension: &mut [u64; 10]) -> u8
 {
     let b = h.bth;
     let e = h.extension;
-    *bth = words::bth_words(b);
-    *extension = words::extension_words(e);
+    *bth = marshal::bth_words(b);
+    *extension = marshal::extension_words(e);
     0
 }
 
@@ -42,11 +42,11 @@ fn tell_header(h: Header, bth: &mut [u64; 11], extension: &mut [u64; 10]) -> u8
 fn own_words(bth: &[u64; 11], extension: &[u64; 10]) -> bool
     ensures { λ r. ⌜ r ≡ ownWords (now (bth .entry)) (now (extension .entry)) ⌝ }
 {
-    let b = words::bth_words(words::bth_from(bth));
-    let base = words::same(bth, &b);
+    let b = marshal::bth_words(marshal::bth_from(bth));
+    let base = marshal::same(bth, &b);
     if base {
-        let e = words::extension_words(words::extension_from(extension));
-        return words::same(extension, &e);
+        let e = marshal::extension_words(marshal::extension_from(extension));
+        return marshal::same(extension, &e);
     }
     false
 }
@@ -83,8 +83,8 @@ pub extern "C" fn udalopek_write_header(
 {
     let own = own_words(bth, extension);
     if own {
-        let b = words::bth_from(bth);
-        let e = words::extension_from(extension);
+        let b = marshal::bth_from(bth);
+        let e = marshal::extension_from(extension);
         let h = Header {
             bth: b,
             extension: e,

@@ -5,7 +5,7 @@ use crate::number::wide32;
 use protocol::Completion;
 ghost use mathlib.Core.Path.{_≡_};
 ghost use Rattle.words.specs.Pair.{strange};
-ghost use Rattle.export.specs.Packets.{names, oddFor, inboundNumber, inboundWords, inboundRows, inboundBytes, inboundOutput, inboundTold, toldWords, nextNumber, nextWords, nextOutput, nextTold};
+ghost use Rattle.interface.specs.Packets.{names, oddFor, inboundNumber, inboundWords, inboundRows, inboundBytes, inboundOutput, inboundTold, toldWords, nextNumber, nextWords, nextOutput, nextTold};
 
 // Whether a packet may name a region: all opcodes but those of SEND.
 fn names(packet: &[u8]) -> bool
@@ -23,7 +23,7 @@ fn odd_for(regions: &[[u64; 7]; 16], memory: u64, packet: &[u8]) -> bool
 {
     let keyed = names(packet);
     if keyed {
-        return words::regions_strange(regions, memory);
+        return marshal::regions_strange(regions, memory);
     }
     false
 }
@@ -61,9 +61,9 @@ pub extern "C" fn udalopek_inbound(
     ensures { λ r. ⌜ now (told .exit) ≡ inboundTold (now (pair .entry)) (now (regions .entry)) (now (entries .entry)) (now (saved .entry)) (now (mem .entry)) (now (packet .entry)) (now (out .entry)) ⌝ }
     ensures { λ r. ⌜ strange (now (pair .exit)) ≡ strange (now (pair .entry)) ⌝ }
 {
-    let q = words::pair_of(pair);
-    let own = words::pair_words(q);
-    let said = words::same(pair, &own);
+    let q = marshal::pair_of(pair);
+    let own = marshal::pair_words(q);
+    let said = marshal::same(pair, &own);
     if !said {
         *told = [0; 6];
         return 34;
@@ -78,8 +78,8 @@ pub extern "C" fn udalopek_inbound(
     *told = told_words(got.sent, completion);
     let left = got.pair;
     let status = got.status;
-    let next = words::pair_words(left);
-    words::put(pair, &next);
+    let next = marshal::pair_words(left);
+    marshal::put(pair, &next);
     status.number()
 }
 
@@ -97,9 +97,9 @@ pub extern "C" fn udalopek_next_response(
     ensures { λ r. ⌜ now (told .exit) ≡ nextTold (now (pair .entry)) (now (mem .entry)) (now (out .entry)) ⌝ }
     ensures { λ r. ⌜ strange (now (pair .exit)) ≡ strange (now (pair .entry)) ⌝ }
 {
-    let q = words::pair_of(pair);
-    let own = words::pair_words(q);
-    let said = words::same(pair, &own);
+    let q = marshal::pair_of(pair);
+    let own = marshal::pair_words(q);
+    let said = marshal::same(pair, &own);
     if !said {
         *told = [0; 1];
         return 34;
@@ -108,7 +108,7 @@ pub extern "C" fn udalopek_next_response(
     *told = [wide(got.sent)];
     let after = got.pair;
     let status = got.status;
-    let next = words::pair_words(after);
-    words::put(pair, &next);
+    let next = marshal::pair_words(after);
+    marshal::put(pair, &next);
     status.number()
 }

@@ -126,6 +126,11 @@ unfoldable pub answerNumber : Answer → ℕ
 answerNumber (Done size) = 0
 answerNumber (Refused answer) = answer
 
+-- how many bytes it counts, 0 where it is refused
+abbrev pub doneBytes : Answer → ℕ
+doneBytes (Done n) = n
+doneBytes (Refused n) = 0
+
 -- the output: the header's bytes and what stood behind them, or, refused, as it was
 unfoldable pub writtenOut : Header → List ℕ → List ℕ
 writtenOut h out = cond (eqb (writeAnswer h (length out)) 0) (headerBytes h ++ drop (headerLength h) out) out

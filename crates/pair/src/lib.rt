@@ -1,13 +1,11 @@
-// The queue pair: its numbers, its answers, and the calls of its host.
+// The queue pair: its numbers, its answers, and what its host's calls are to do. The calls themselves are the crate host.
 mod answer;
-pub mod host;
-pub mod sound;
 
 use sequence::Msn;
 use sequence::Psn;
 use table::Ring;
 ghost use mathlib.Core.Path.{_≡_};
-ghost use Rattle.pair.specs.Pair.{noMessage, freshPair, blankPair};
+ghost use Rattle.pair.specs.Pair.{noMessage};
 
 // States of a pair.
 pub const INIT: u8 = 0;
@@ -103,12 +101,6 @@ pub struct HostOutcome {
     pub pair: Pair,
 }
 
-pub(crate) fn wide(x: usize) -> u64
-    ensures { λ r. ⌜ r ≡ x ⌝ }
-{
-    x as u64
-}
-
 // No message is open.
 pub fn no_message() -> OpenMessage
     ensures { λ r. ⌜ r ≡ noMessage ⌝ }
@@ -120,58 +112,4 @@ pub fn no_message() -> OpenMessage
         key: 0,
         length: 0,
     }
-}
-
-// A pair as set-up and reset leave it.
-fn fresh(setup: Setup) -> Pair
-    ensures { λ r. ⌜ r ≡ freshPair setup ⌝ }
-{
-    let expected = setup.start;
-    let msn = Msn(0);
-    let message = no_message();
-    let entries = Ring { head: 0, count: 0 };
-    let first = Psn(0);
-    let read = ReadAnswer {
-        remaining: 0,
-        offset: 0,
-        length: 0,
-        psn: first,
-        msn,
-    };
-    let saved = Ring { head: 0, count: 0 };
-    Pair {
-        setup,
-        state: INIT,
-        expected,
-        msn,
-        mark: false,
-        message,
-        entries,
-        read,
-        saved,
-    }
-}
-
-// What a refused set-up gives in place of a pair: every call that takes a pair refuses it.
-pub fn blank() -> Pair
-    ensures { λ r. ⌜ r ≡ blankPair ⌝ }
-{
-    let start = Psn(0);
-    let setup = Setup {
-        service: 0,
-        pmtu: 0,
-        ours: 0,
-        theirs: 0,
-        pkey: 0,
-        start,
-        timer: 0,
-        send: false,
-        write: false,
-        read: false,
-        atomic: false,
-        memory: 0,
-    };
-    let mut pair = fresh(setup);
-    pair.state = ERROR;
-    pair
 }

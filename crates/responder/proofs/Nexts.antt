@@ -29,7 +29,8 @@ use Rattle.protocol.specs.Reply.{over}
 use Rattle.protocol.specs.Reads.{Answering}
 use Rattle.protocol.specs.Response.{indexOf, responsePayload, responseHeader, responseBytes, nextStatus, oneFewer, nextBytes, nextResponse, nextOut}
 use Rattle.protocol.proofs.Responses.{live, written}
-use Rattle.responder.specs.Unchanged.{unchanged, sending, doneBytes}
+use Rattle.header.specs.Write.{doneBytes}
+use Rattle.responder.specs.Unchanged.{unchanged, sending}
 
 abbrev pub Leaves : Pair → List ℕ → List ℕ → Outcome → List ℕ → Type 0
 Leaves q m out o out' = (o ≡ nextResponse q m out) × (out' ≡ nextOut q m out)

@@ -1,7 +1,5 @@
--- Outcomes, and the bytes that a packet writer's answer counts.
+-- Outcomes.
 use Prim.Native.Nat.{ℕ}
-use Rattle.header.specs.declared.Answer.{Answer}
-use Rattle.header.specs.declared.Answer.the-variants.{Done, Refused}
 use Rattle.pair.specs.declared.Pair.{Pair}
 use Rattle.pair.specs.declared.Status.{Status}
 use Rattle.pair.specs.declared.Status.the-variants as status
@@ -20,7 +18,3 @@ told q d = record { status = d .status; pair = q; completion = d .completion; se
 -- done, and n bytes sent
 abbrev pub sending : Pair → ℕ → Outcome
 sending q n = record { status = status.Executed; pair = q; completion = noCompletion; sent = n }
-
-abbrev pub doneBytes : Answer → ℕ
-doneBytes (Done n) = n
-doneBytes (Refused n) = 0

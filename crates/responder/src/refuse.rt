@@ -1,11 +1,11 @@
 // Refusals of the inbound call, before its packet is looked at.
 use pair::Pair;
 use pair::Status;
-use pair::sound::message_unsound;
-use pair::sound::numbers_unsound;
-use pair::sound::read_unsound;
-use pair::sound::ring_unsound;
-use pair::sound::setup_unsound;
+use host::sound::message_unsound;
+use host::sound::numbers_unsound;
+use host::sound::read_unsound;
+use host::sound::ring_unsound;
+use host::sound::setup_unsound;
 ghost use mathlib.Core.Path.{_≡_};
 ghost use Rattle.pair.specs.Sound.{pairUnsound};
 ghost use Rattle.protocol.specs.Decide.{readsFull, inboundRefusal};
@@ -17,7 +17,7 @@ fn reads_full(pair: Pair) -> bool
     pair.read.remaining != 0
 }
 
-// The tests of pair::sound::unsound, by numbers: a call with the pair would write it to memory for every packet.
+// The tests of host::sound::unsound, by numbers: a call with the pair would write it to memory for every packet.
 fn unsound(pair: Pair) -> bool
     ensures { λ r. ⌜ r ≡ pairUnsound pair ⌝ }
 {

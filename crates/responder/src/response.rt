@@ -15,7 +15,8 @@ ghost use lib.Dec.{ltb};
 ghost use lib.ListN.{length};
 ghost use Rattle.protocol.specs.Apply.{with};
 ghost use Rattle.protocol.specs.Response.{indexOf, responseOpcode, responseExtension, responseHeader, nextStatus, oneFewer, nextResponse, nextOut};
-ghost use Rattle.responder.specs.Unchanged.{doneBytes, sending};
+ghost use Rattle.header.specs.Write.{doneBytes};
+ghost use Rattle.responder.specs.Unchanged.{sending};
 
 // Whether an output has no room for the longest response; no sum is made, so that none wraps.
 fn no_room(room: usize, pmtu: usize) -> bool
@@ -41,7 +42,7 @@ fn next_status(pair: Pair, memory: usize, room: usize) -> Status
     if memory != pair.setup.memory {
         return Status::OutOfRange;
     }
-    let bad = pair::sound::unsound(pair);
+    let bad = host::sound::unsound(pair);
     if bad {
         return Status::OutOfRange;
     }

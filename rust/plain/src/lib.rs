@@ -1,5 +1,5 @@
 //! The transport side of one InfiniBand queue pair: headers, cutting messages,
-//! the RC and the UC responder, and the replay program.
+//! the RC and the UC responder, the replay program and the packet lister.
 //!
 //! A packet starts at its BTH and ends after the pad. Calls answer with the
 //! numbers of the paper: 0 to 19 for packets, 32 to 39 for refusals.
@@ -8,8 +8,10 @@
 
 mod cut;
 mod header;
+pub mod list;
 mod number;
 mod pair;
+mod record;
 pub mod replay;
 mod responder;
 mod ring;

@@ -2,7 +2,7 @@
 
 use std::io::{self, Write};
 
-use crate::{Entry, QueuePair, Region, Setup, RC};
+use crate::{record, Entry, QueuePair, Region, Setup, RC};
 
 const MEMORY: usize = 4096;
 const PMTU: usize = 256;
@@ -44,25 +44,12 @@ fn pair() -> QueuePair {
     pair
 }
 
-/// Splits the first record off: its packet and what follows it.
-fn record(input: &[u8]) -> Option<(&[u8], &[u8])> {
-    let (length, rest) = input.split_first_chunk::<2>()?;
-    rest.split_at_checked(usize::from(u16::from_be_bytes(*length)))
-}
-
 /// Replays the records of `input`, one line a packet.
-pub fn replay(mut input: &[u8], output: &mut impl Write) -> io::Result<()> {
+pub fn replay(input: &[u8], output: &mut impl Write) -> io::Result<()> {
     let mut pair = pair();
     let mut memory = [0; MEMORY];
     let mut out = [0; 16 + PMTU];
-    let mut whole = 0u64;
-    while !input.is_empty() {
-        let Some((packet, rest)) = record(input) else {
-            writeln!(output, "cut")?;
-            break;
-        };
-        input = rest;
-        whole += 1;
+    record::for_each(input, output, |output, _, packet| {
         let answer = pair.inbound(&mut memory, packet, &mut out);
         while pair.responses_pending() > 0 {
             pair.next_response(&memory, &mut out);
@@ -73,7 +60,6 @@ pub fn replay(mut input: &[u8], output: &mut impl Write) -> io::Result<()> {
             answer.number,
             pair.expected(),
             pair.msn()
-        )?;
-    }
-    writeln!(output, "end {whole}")
+        )
+    })
 }

@@ -1,4 +1,4 @@
-//! The two programs, run as they are.
+//! The programs, run as they are.
 
 use std::io::Write;
 use std::process::{Command, Stdio};
@@ -20,6 +20,10 @@ fn run(program: &str, input: &[u8]) -> String {
 
 fn replay(input: &[u8]) -> String {
     run(env!("CARGO_BIN_EXE_plain-replay"), input)
+}
+
+fn list(input: &[u8]) -> String {
+    run(env!("CARGO_BIN_EXE_plain-list"), input)
 }
 
 fn calls(input: &str) -> Vec<String> {
@@ -55,6 +59,38 @@ fn reads_are_drained() {
         replay(&[&record[..], &record, &W12].concat()),
         "2 11 1\n4 11 1\n4 11 1\nend 3\n"
     );
+}
+
+#[test]
+fn w12_listed() {
+    let wanted = "packet 1, 16 bytes
+  BTH
+    opcode      0x04  RC SEND Only
+    SE          0
+    MigReq      0
+    PadCnt      1
+    TVer        0
+    P_Key       0xffff
+    reserved 8  0x00
+    DestQP      0x000012
+    AckReq      1
+    reserved 7  0x00
+    PSN         7
+  payload       4 bytes, of which 1 pad
+  written back  same
+";
+    assert_eq!(list(&W12), format!("{wanted}end 1\n"));
+    assert_eq!(list(&[]), "end 0\n");
+    assert_eq!(list(&[0]), "cut\nend 0\n");
+    assert_eq!(
+        list(&[&W12[..], &W12[..17]].concat()),
+        format!("{wanted}cut\nend 1\n")
+    );
+    // Enough to fill a pipe in both directions at once.
+    let dropped = "  dropped       check 1: length, not 12 to 4,128 bytes or no multiple of 4\n";
+    let lines = (1..=50_000).map(|number| format!("packet {number}, 1 byte\n{dropped}"));
+    let wanted: String = lines.chain(["end 50000\n".to_string()]).collect();
+    assert_eq!(list(&[0, 1, 0xFF].repeat(50_000)), wanted);
 }
 
 const EMPTY: &str = "cbf29ce484222325";

@@ -5,6 +5,7 @@ mod duplicates;
 mod fuzz;
 mod header;
 mod host;
+mod list;
 mod rc;
 mod stream;
 mod uc;

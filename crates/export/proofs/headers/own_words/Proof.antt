@@ -1,4 +1,4 @@
-use Rattle.export.specs.Headers.{ownWords}
+use Rattle.interface.specs.Headers.{ownWords}
 use borrow.Author.Needs.{needs}
 use Rattle.export.proofs.headers.own_words.Statement.{statement}
 use Rattle.export.proofs.headers.own_words.Tie as tie

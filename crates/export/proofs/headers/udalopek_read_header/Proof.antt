@@ -1,5 +1,5 @@
 use mathlib.Core.Path.{sym, ap, _∙_}
-use Rattle.export.specs.Headers.{readNumber, readBth, readExtension, readCheck, toldBth, toldExtension}
+use Rattle.interface.specs.Headers.{readNumber, readBth, readExtension, readCheck, toldBth, toldExtension}
 use borrow.Author.Needs.{needs}
 use Rattle.export.proofs.headers.udalopek_read_header.Statement.{statement}
 use Rattle.export.proofs.headers.udalopek_read_header.Tie as tie

@@ -1,4 +1,4 @@
-use Rattle.export.specs.Headers.{writeNumber, writeOutput, writeTold}
+use Rattle.interface.specs.Headers.{writeNumber, writeOutput, writeTold}
 use borrow.Author.Needs.{needs}
 use Rattle.export.proofs.headers.udalopek_write_header.Statement.{statement}
 use Rattle.export.proofs.headers.udalopek_write_header.Tie as tie

@@ -1,6 +1,6 @@
 use mathlib.Core.Path.{refl}
-use Rattle.export.proofs.Steps.{empty-names}
-use Rattle.export.specs.Packets.{names}
+use Rattle.interface.proofs.Steps.{empty-names}
+use Rattle.interface.specs.Packets.{names}
 use borrow.Author.Needs.{needs}
 use Rattle.export.proofs.packets.names.Statement.{statement}
 use Rattle.export.proofs.packets.names.Tie as tie

@@ -1,4 +1,4 @@
-use Rattle.export.specs.Packets.{oddFor}
+use Rattle.interface.specs.Packets.{oddFor}
 use borrow.Author.Needs.{needs}
 use Rattle.export.proofs.packets.odd_for.Statement.{statement}
 use Rattle.export.proofs.packets.odd_for.Tie as tie

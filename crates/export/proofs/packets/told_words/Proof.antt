@@ -1,4 +1,4 @@
-use Rattle.export.specs.Packets.{toldWords}
+use Rattle.interface.specs.Packets.{toldWords}
 use borrow.Author.Needs.{needs}
 use Rattle.export.proofs.packets.told_words.Statement.{statement}
 use Rattle.export.proofs.packets.told_words.Tie as tie

@@ -3,8 +3,8 @@ use mathlib.Core.Bool.{true, false}
 use Rattle.pair.specs.Answer.{statusNumber}
 use Rattle.words.specs.Pair.{strange, pairWords}
 use Rattle.protocol.specs.Inbound.{inbound, inboundMemory, inboundSaved, inboundOut}
-use Rattle.export.proofs.Steps.{second, first, strange-by, left-words, refused-words, refused-rows}
-use Rattle.export.specs.Packets.{inboundNumber, inboundWords, inboundRows, inboundBytes, inboundOutput, inboundTold, oddFor, toldWords}
+use Rattle.interface.proofs.Steps.{second, first, strange-by, left-words, refused-words, refused-rows}
+use Rattle.interface.specs.Packets.{inboundNumber, inboundWords, inboundRows, inboundBytes, inboundOutput, inboundTold, oddFor, toldWords}
 use Rattle.protocol.specs.Inbound.{inbound, inboundMemory, inboundSaved, inboundOut}
 use borrow.Author.Needs.{needs}
 use Rattle.export.proofs.packets.udalopek_inbound.Statement.{statement}

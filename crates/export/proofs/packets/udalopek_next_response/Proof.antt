@@ -4,8 +4,8 @@ use Rattle.pair.specs.Answer.{statusNumber}
 use Rattle.words.specs.Pair.{strange, pairWords}
 use mathlib.Core.List.{[], _∷_}
 use Rattle.protocol.specs.Response.{nextResponse, nextOut}
-use Rattle.export.proofs.Steps.{second, first, strange-by, left-words}
-use Rattle.export.specs.Packets.{nextNumber, nextWords, nextOutput, nextTold}
+use Rattle.interface.proofs.Steps.{second, first, strange-by, left-words}
+use Rattle.interface.specs.Packets.{nextNumber, nextWords, nextOutput, nextTold}
 use Rattle.protocol.specs.Response.{nextResponse, nextOut}
 use borrow.Author.Needs.{needs}
 use Rattle.export.proofs.packets.udalopek_next_response.Statement.{statement}

@@ -1,0 +1,3 @@
+pub mod Steps
+pub mod Claims
+pub mod Keeps
