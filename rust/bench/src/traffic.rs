@@ -33,7 +33,7 @@ impl Kind {
             Kind::Write => "WRITE of 4,096 bytes",
             Kind::Read => "READ of 4,096 bytes, and its response",
             Kind::FetchAdd => "FetchAdd",
-            Kind::Repeated => "SEND come again",
+            Kind::Repeated => "SEND retransmitted",
         }
     }
 

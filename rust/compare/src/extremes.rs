@@ -154,7 +154,7 @@ pub fn all_numbers<A: Subject, B: Subject>() -> Result<u64, String> {
 }
 
 /// A WRITE and a SEND of as many bytes as memory can have, each read back
-/// twice: the second time by the READ come again.
+/// twice: the second time by the READ retransmitted.
 pub fn all_memory<A: Subject, B: Subject>() -> Result<u64, String> {
     let mut both = Both::<A, B>::ready(LIMIT)?;
     let entry = Entry {

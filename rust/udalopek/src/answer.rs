@@ -13,7 +13,7 @@ pub enum Answer {
     ReadAccepted = 2,
     /// An atomic is executed in memory, its old value saved, and an Atomic Acknowledge is to be sent.
     AtomicExecuted = 3,
-    /// A packet come again is answered, and not executed: an ACK or the saved Atomic Acknowledge is to be sent, or the
+    /// A retransmission is answered, and not executed: an ACK or the saved Atomic Acknowledge is to be sent, or the
     /// responses of a READ are to be taken. Nothing else changed.
     DuplicateAnswered = 4,
     /// Dropped: nothing to send, nothing changed.

@@ -1,147 +1,16 @@
 //! Words and tables that no call wrote are refused, and nothing that was lent changes.
 mod common;
 
-use common::{add, packet, pattern, read, write, ADDRESS, KEY, MEMORY, OURS, PKEY, START, THEIRS};
-use udalopek::raw::{self, Entries, Regions, Saved, WORDS};
-use udalopek::{Request, Service};
-
-/// All that a call is lent but the packet.
-#[derive(Clone, Debug, PartialEq)]
-struct Lent {
-    words: Vec<u64>,
-    regions: Regions,
-    entries: Entries,
-    saved: Saved,
-    memory: Vec<u8>,
-    out: Vec<u8>,
-}
+use common::lent::{word, Lent};
+use common::{pattern, write, KEY};
+use udalopek::raw::WORDS;
+use udalopek::Request;
 
 const SEND: Request = Request::Send(None);
-const STATE: usize = 28;
-const PENDING: usize = 19;
 
-impl Lent {
-    /// Nothing set up yet, tables full of anything.
-    fn blank(words: usize) -> Lent {
-        Lent {
-            words: vec![0x55; words],
-            regions: [[u64::MAX; 7]; 16],
-            entries: [[u64::MAX; 3]; 16],
-            saved: [[u64::MAX; 2]; 16],
-            memory: pattern(MEMORY),
-            out: vec![0xee; 16 + 4096],
-        }
-    }
-
-    /// Ready; an atomic is saved, one entry waits, a WRITE is open with 256 of its 300 bytes placed, and of a READ come
-    /// again 2 of 3 responses are pending. So each of the 30 words says something, and has a bound.
-    fn busy() -> Lent {
-        let mut lent = Lent::blank(WORDS);
-        assert_eq!(lent.set_up(), 0);
-        assert_eq!(lent.add_region(KEY), 0);
-        assert_eq!(lent.post_entry(), 0);
-        assert_eq!(lent.make_ready(), 0);
-        let message = pattern(300);
-        assert_eq!(lent.hand(add(1), b"", 7, 0), 3);
-        let asked = packet(Service::Rc, read(600), b"", 8, 0);
-        assert_eq!(lent.inbound(&asked), 2);
-        lent.drain();
-        assert_eq!(lent.hand(write(None), &message, 11, 0), 0);
-        assert_eq!(lent.inbound(&asked), 4);
-        assert_eq!(lent.next_response(), 0);
-        lent.out.fill(0xee);
-        lent
-    }
-
-    fn set_up(&mut self) -> u8 {
-        raw::set_up(
-            &mut self.words,
-            &mut self.regions,
-            0,
-            256,
-            OURS,
-            THEIRS,
-            PKEY,
-            START,
-            0,
-            true,
-            true,
-            true,
-            true,
-            MEMORY,
-        )
-    }
-
-    fn reset(&mut self) -> u8 {
-        raw::reset(&mut self.words, &mut self.regions)
-    }
-
-    fn make_ready(&mut self) -> u8 {
-        raw::make_ready(&mut self.words)
-    }
-
-    fn add_region(&mut self, key: u32) -> u8 {
-        let regions = &mut self.regions;
-        raw::add_region(
-            &self.words,
-            regions,
-            key,
-            ADDRESS,
-            1024,
-            0,
-            true,
-            true,
-            true,
-        )
-    }
-
-    fn remove_region(&mut self) -> u8 {
-        raw::remove_region(&self.words, &mut self.regions, KEY)
-    }
-
-    fn post_entry(&mut self) -> u8 {
-        raw::post_entry(&mut self.words, &mut self.entries, 5, 2048, 128)
-    }
-
-    /// What is told of a refused packet is all 0.
-    fn inbound(&mut self, packet: &[u8]) -> u8 {
-        let mut told = [u64::MAX; 6];
-        let number = raw::inbound(
-            &mut self.words,
-            &self.regions,
-            &self.entries,
-            &mut self.saved,
-            &mut self.memory,
-            packet,
-            &mut self.out,
-            &mut told,
-        );
-        assert!(number < 32 || told == [0; 6]);
-        number
-    }
-
-    fn next_response(&mut self) -> u8 {
-        let mut told = [u64::MAX];
-        let number = raw::next_response(&mut self.words, &self.memory, &mut self.out, &mut told);
-        assert!(number < 32 || told == [0]);
-        number
-    }
-
-    fn hand(&mut self, request: Request, message: &[u8], first: u32, index: usize) -> u8 {
-        self.inbound(&packet(Service::Rc, request, message, first, index))
-    }
-
-    fn drain(&mut self) {
-        while self.words[PENDING] != 0 {
-            assert_eq!(self.next_response(), 0);
-        }
-        self.out.fill(0xee);
-    }
-
-    /// The end of the WRITE that is open.
-    fn end_write(&mut self) -> u8 {
-        self.hand(write(None), &pattern(300), 11, 1)
-    }
+/// The end of the WRITE that is open in a busy pair.
+fn end_write(lent: &mut Lent) -> u8 {
+    lent.hand(write(None), &pattern(300), 11, 1)
 }
 
 /// For each word values that no call could have written to it: one just over its bound, or the nearest that has no meaning;
@@ -149,51 +18,51 @@ impl Lent {
 fn damage() -> Vec<(usize, u64)> {
     let number = 1 << 24;
     let bounds = [
-        (0, 300),             // PMTU: none of the five
-        (1, 1_048_577),       // memory: over the limit
-        (2, number),          // ours
-        (3, number),          // theirs
-        (4, number),          // start
-        (5, 0x8000),          // P_Key: low 15 bits 0
-        (6, 2),               // service: neither RC nor UC
-        (7, 32),              // timer code
-        (8, 2),               // SEND
-        (9, 2),               // WRITE
-        (10, 2),              // READ
-        (11, 2),              // atomics
-        (12, 1),              // kind of the open message: none, SEND and WRITE are 255, 0 and 6
-        (13, 300),            // bytes placed: all 300, and yet open
-        (14, u64::MAX - 255), // address: that of the next byte would be 2^64
-        (15, 1 << 32),        // key
-        (16, 256),            // length: no more than is placed
-        (16, 1_048_577),      // length: over the limit
-        (17, 16),             // entries' head
-        (18, 17),             // entries' count
-        (PENDING, 4),         // responses remaining: more than the READ has
-        (20, 4096 - 599),     // offset: 600 bytes from there on are not in memory
-        (21, 4097),           // length: the same
-        (22, number),         // PSN of the READ
-        (23, number),         // MSN of the READ
-        (24, 16),             // saved head
-        (25, 17),             // saved count
-        (26, number),         // expected PSN
-        (27, number),         // MSN
-        (STATE, 3),           // state
-        (29, 2),              // NAK mark
+        (word::PMTU, 300),
+        (word::MEMORY, 1_048_577),
+        (word::OURS, number),
+        (word::THEIRS, number),
+        (word::START, number),
+        (word::PKEY, 0x8000),
+        (word::SERVICE, 2),
+        (word::TIMER, 32),
+        (word::SEND, 2),
+        (word::WRITE, 2),
+        (word::READ, 2),
+        (word::ATOMIC, 2),
+        (word::KIND, 1),
+        (word::PLACED, 300),             // all of its bytes, and yet open
+        (word::ADDRESS, u64::MAX - 255), // that of the next byte would be 2^64
+        (word::KEY, 1 << 32),
+        (word::LENGTH, 256), // no more than is placed
+        (word::LENGTH, 1_048_577),
+        (word::HEAD, 16),
+        (word::COUNT, 17),
+        (word::PENDING, 4),              // more than the READ has
+        (word::READ_OFFSET, 4096 - 599), // 600 bytes from there on are not in memory
+        (word::READ_LENGTH, 4097),
+        (word::READ_PSN, number),
+        (word::READ_MSN, number),
+        (word::SAVED_HEAD, 16),
+        (word::SAVED_COUNT, 17),
+        (word::EXPECTED, number),
+        (word::MSN, number),
+        (word::STATE, 3),
+        (word::MARK, 2),
     ];
     let wide = [
-        (2, 32),
-        (3, 32),
-        (4, 32),
-        (5, 16),
-        (6, 8),
-        (7, 8),
-        (12, 8),
-        (22, 32),
-        (23, 32),
-        (26, 32),
-        (27, 32),
-        (STATE, 8),
+        (word::OURS, 32),
+        (word::THEIRS, 32),
+        (word::START, 32),
+        (word::PKEY, 16),
+        (word::SERVICE, 8),
+        (word::TIMER, 8),
+        (word::KIND, 8),
+        (word::READ_PSN, 32),
+        (word::READ_MSN, 32),
+        (word::EXPECTED, 32),
+        (word::MSN, 32),
+        (word::STATE, 8),
     ];
     let past = wide.map(|(word, bits)| (word, 1 << bits));
     let most = (0..WORDS).map(|word| (word, u64::MAX));
@@ -212,15 +81,12 @@ fn refused(
         let Some(number) = refusal(word, value) else {
             continue;
         };
-        let mut lent = sound.clone();
-        lent.words[word] = value;
+        let mut lent = sound.with(&[(word, value)]);
         // Memory of the length that the words say, so that this is not what is refused.
-        if word == 1 && value < 1 << 24 {
+        if word == word::MEMORY && value < 1 << 24 {
             lent.memory.resize(value as usize, 0);
         }
-        let before = lent.clone();
-        assert_eq!(call(&mut lent), number, "word {word} is {value}");
-        assert!(lent == before, "word {word} is {value}: something changed");
+        lent.keeps(number, &call, (word, value));
     }
 }
 
@@ -229,7 +95,7 @@ const OUT_OF_RANGE: fn(usize, u64) -> Option<u8> = |_, _| Some(34);
 #[test]
 fn a_packet_to_damaged_words() {
     // Sound words get 32, which comes after 34.
-    refused(&Lent::busy(), 32, Lent::end_write, OUT_OF_RANGE);
+    refused(&Lent::busy(), 32, end_write, OUT_OF_RANGE);
 }
 
 #[test]
@@ -237,9 +103,9 @@ fn a_packet_to_damaged_words_that_would_be_executed() {
     // With no response pending the words of the READ say nothing, so that only their widths are bounds.
     let mut sound = Lent::busy();
     sound.drain();
-    refused(&sound, 1, Lent::end_write, |word, value| match word {
-        20 | 21 => None,
-        22 | 23 if value < 1 << 32 => None,
+    refused(&sound, 1, end_write, |word, value| match word {
+        word::READ_OFFSET | word::READ_LENGTH => None,
+        word::READ_PSN | word::READ_MSN if value < 1 << 32 => None,
         _ => Some(34),
     });
 }
@@ -252,7 +118,7 @@ fn a_response_of_damaged_words() {
         0,
         Lent::next_response,
         |word, value| match word {
-            0 if value == u64::MAX => Some(35),
+            word::PMTU if value == u64::MAX => Some(35),
             _ => Some(34),
         },
     );
@@ -262,9 +128,9 @@ fn a_response_of_damaged_words() {
 fn damaged_words_are_not_made_ready() {
     // In Init no message is open; but what make_ready looks at does not depend on the state, once it is Init.
     let mut sound = Lent::busy();
-    sound.words[STATE] = 0;
+    sound.words[word::STATE] = 0;
     refused(&sound, 0, Lent::make_ready, |word, value| match word {
-        STATE if value == 3 => Some(36),
+        word::STATE if value == 3 => Some(36),
         _ => Some(34),
     });
 }
@@ -311,69 +177,62 @@ fn words_of_another_length() {
         for words in [0, 29, 31] {
             let mut lent = Lent::busy();
             lent.words.resize(words, 0);
-            let before = lent.clone();
-            assert_eq!(call(&mut lent), 34, "{name} on {words} words");
-            assert!(lent == before, "{name} on {words} words: something changed");
+            lent.keeps(34, call, (name, words));
         }
     }
 }
 
 #[test]
 fn rows_of_regions_that_no_call_wrote() {
+    // The row is one that nothing names. Of each number the last that is in range, and the next.
     let mut sound = Lent::busy();
     sound.drain();
-    // Key over 32 bits, address past the top, length and offset outside memory, rights that are no flags. The row is one
-    // that nothing names.
-    let good = [9, 0, 8, 0, 1, 1, 1];
-    let damage = [
-        (0, 1 << 32),
-        (1, u64::MAX - 7),
-        (2, 4097),
-        (2, u64::MAX),
-        (3, 4089),
-        (3, u64::MAX),
-        (4, 2),
-        (5, 2),
-        (6, u64::MAX),
+    sound.regions[15] = [9, 0, 8, 0, 1, 1, 1];
+    let columns = [
+        (0, u64::from(u32::MAX), 1 << 32),
+        (1, u64::MAX - 8, u64::MAX - 7),
+        (2, 4096, 4097),
+        (2, 4096, u64::MAX),
+        (3, 4088, 4089),
+        (3, 4088, u64::MAX),
+        (4, 1, 2),
+        (5, 1, 2),
+        (6, 1, 2),
+        (6, 0, u64::MAX),
     ];
-    sound.regions[15] = good;
-    assert_eq!(sound.clone().end_write(), 1);
-    assert_eq!(sound.clone().add_region(KEY + 1), 0);
-    assert_eq!(sound.clone().remove_region(), 0);
-    for (column, value) in damage {
+    for (column, last, next) in columns {
+        sound.regions[15][column] = last;
+        assert_eq!(end_write(&mut sound.clone()), 1, "{column}: {last}");
+        assert_eq!(sound.clone().add_region(KEY + 1), 0, "{column}: {last}");
+        assert_eq!(sound.clone().remove_region(), 0, "{column}: {last}");
         let mut lent = sound.clone();
-        lent.regions[15][column] = value;
-        let before = lent.clone();
-        assert_eq!(lent.end_write(), 34, "column {column} is {value}");
-        assert_eq!(lent.add_region(KEY + 1), 34, "column {column} is {value}");
-        assert_eq!(lent.remove_region(), 34, "column {column} is {value}");
-        assert!(
-            lent == before,
-            "column {column} is {value}: something changed"
-        );
+        lent.regions[15][column] = next;
+        lent.keeps(34, end_write, (column, next));
+        lent.keeps(34, |lent| lent.add_region(KEY + 1), (column, next));
+        lent.keeps(34, Lent::remove_region, (column, next));
+        sound.regions[15] = [9, 0, 8, 0, 1, 1, 1];
     }
 }
 
 #[test]
 fn rows_of_entries_that_no_call_wrote() {
-    // The entry that a SEND would take.
+    // The entry that a SEND would take: 128 bytes from byte 2,048 on. Of each number the last that is in range, and the next.
     let mut sound = Lent::busy();
     sound.drain();
-    assert_eq!(sound.end_write(), 1);
-    assert_eq!(sound.clone().hand(SEND, b"abc", 13, 0), 1);
-    for (column, value) in [(1, 4094), (1, u64::MAX), (2, 2049), (2, u64::MAX)] {
+    assert_eq!(end_write(&mut sound), 1);
+    let send = |lent: &mut Lent| lent.hand(SEND, b"abc", 13, 0);
+    let columns = [
+        (1, 4096 - 128, 4096 - 127),
+        (1, 4096 - 128, u64::MAX),
+        (2, 2048, 2049),
+        (2, 2048, u64::MAX),
+    ];
+    for (column, last, next) in columns {
         let mut lent = sound.clone();
-        lent.entries[0][column] = value;
-        let before = lent.clone();
-        assert_eq!(
-            lent.hand(SEND, b"abc", 13, 0),
-            34,
-            "column {column} is {value}"
-        );
-        assert!(
-            lent == before,
-            "column {column} is {value}: something changed"
-        );
+        lent.entries[0][column] = last;
+        assert_eq!(send(&mut lent.clone()), 1, "{column}: {last}");
+        lent.entries[0][column] = next;
+        lent.keeps(34, send, (column, next));
     }
 }
 

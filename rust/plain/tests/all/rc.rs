@@ -41,7 +41,7 @@ fn at(start: u32) -> Bench {
 }
 
 #[test]
-fn w1_to_w4() {
+fn w1_to_w4_handed_in() {
     let psn = |psn| raw(4, 0, true, psn, &[]);
     assert_eq!(at(0).give(&psn(16_777_215)).number, 4);
     assert_eq!(at(0).give(&psn(8_388_608)).number, 16);

@@ -1,6 +1,9 @@
 //! What the tests share: the pair of the rules' sample, and packets for it.
 #![allow(dead_code)]
 
+pub mod lent;
+pub mod wire;
+
 use udalopek::{
     cut, Answer, Connection, Entry, QueuePair, Received, Region, Request, Service, Setup,
 };
