@@ -1,11 +1,11 @@
 // Refusals of the inbound call, before its packet is looked at.
-use pair::Pair;
-use pair::Status;
 use host::sound::message_unsound;
 use host::sound::numbers_unsound;
 use host::sound::read_unsound;
 use host::sound::ring_unsound;
 use host::sound::setup_unsound;
+use pair::Pair;
+use pair::Status;
 ghost use mathlib.Core.Path.{_≡_};
 ghost use Rattle.pair.specs.Sound.{pairUnsound};
 ghost use Rattle.protocol.specs.Decide.{readsFull, inboundRefusal};
