@@ -3,6 +3,8 @@
 use std::io::Write;
 use std::process::{Command, Stdio};
 
+use crate::common::W12_LISTED;
+
 fn run(program: &str, input: &[u8]) -> String {
     let mut child = Command::new(program)
         .stdin(Stdio::piped())
@@ -63,22 +65,7 @@ fn reads_are_drained() {
 
 #[test]
 fn w12_listed() {
-    let wanted = "packet 1, 16 bytes
-  BTH
-    opcode      0x04  RC SEND Only
-    SE          0
-    MigReq      0
-    PadCnt      1
-    TVer        0
-    P_Key       0xffff
-    reserved 8  0x00
-    DestQP      0x000012
-    AckReq      1
-    reserved 7  0x00
-    PSN         7
-  payload       4 bytes, of which 1 pad
-  written back  same
-";
+    let wanted = format!("packet 1, 16 bytes\n{W12_LISTED}");
     assert_eq!(list(&W12), format!("{wanted}end 1\n"));
     assert_eq!(list(&[]), "end 0\n");
     assert_eq!(list(&[0]), "cut\nend 0\n");

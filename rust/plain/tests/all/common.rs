@@ -18,6 +18,23 @@ pub struct Got {
 pub const ADDRESS: u64 = 0x1_0000;
 pub const KEY: u32 = 0x1000;
 
+/// What the lister prints of W12 below the line that counts it.
+pub const W12_LISTED: &str = "  BTH
+    opcode      0x04  RC SEND Only
+    SE          0
+    MigReq      0
+    PadCnt      1
+    TVer        0
+    P_Key       0xffff
+    reserved 8  0x00
+    DestQP      0x000012
+    AckReq      1
+    reserved 7  0x00
+    PSN         7
+  payload       4 bytes, of which 1 pad
+  written back  same
+";
+
 pub fn setup(service: u8) -> Setup {
     Setup {
         service,

@@ -95,22 +95,6 @@ const W12: [u8; 16] = [
     4, 0x10, 0xFF, 0xFF, 0, 0, 0, 0x12, 0x80, 0, 0, 7, 0x61, 0x62, 0x63, 0,
 ];
 
-const W12_LISTED: &str = "  BTH
-    opcode      0x04  RC SEND Only
-    SE          0
-    MigReq      0
-    PadCnt      1
-    TVer        0
-    P_Key       0xffff
-    reserved 8  0x00
-    DestQP      0x000012
-    AckReq      1
-    reserved 7  0x00
-    PSN         7
-  payload       4 bytes, of which 1 pad
-  written back  same
-";
-
 #[test]
 fn w12_to_the_letter() {
     let one = format!("packet 1, 16 bytes\n{W12_LISTED}");
