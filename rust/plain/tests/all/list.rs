@@ -32,7 +32,7 @@ fn dropped(check: &str) -> String {
     format!("  dropped       check {check}\n")
 }
 
-/// The headers after the BTH, by the table of the paper, with their bytes.
+/// The headers after the BTH, by the table of the rules, with their bytes.
 fn headers_of(opcode: u8) -> Vec<(&'static str, usize)> {
     let (service, low) = (opcode >> 5, opcode & 31);
     let mut headers = Vec::new();
