@@ -7,10 +7,10 @@ use native.Mathlib.Omega.{arith}
 use lib.Dec.{leb}
 use lib.ListN.{length, take, drop, length-append, length-drop}
 use lib.Seq.{take-all}
-use Rattle.laws.proofs.Auto.{tests}
+use Rattle.lemmas.proofs.Auto.{tests}
 use Rattle.memory.specs.Memory.{placed}
 use Rattle.memory.proofs.Put.{placed-put, placed-placed, put-start}
-use Rattle.protocol.specs.Reply.{over}
+use Rattle.responder_spec.specs.Reply.{over}
 
 -- a count of numbers may be cut to its remainder
 pub after-rest : (x n : ℕ) → (x + n % 16777216) % 16777216 ≡ (x + n) % 16777216

@@ -2,7 +2,7 @@
 use header::Aeth;
 use header::Bth;
 use pair::Setup;
-use protocol::Decision;
+use responder_spec::Decision;
 use sequence::Msn;
 use sequence::Psn;
 ghost use mathlib.Core.Path.{_≡_};
@@ -11,7 +11,7 @@ ghost use Prim.Native.Nat.{_+_, _≤_};
 ghost use lib.Dec.{ltb};
 ghost use lib.ListN.{length};
 ghost use Rattle.header.specs.Write.{headerBytes};
-ghost use Rattle.protocol.specs.Reply.{replyBth, ackHeader, atomicHeader, answerBytes, over};
+ghost use Rattle.responder_spec.specs.Reply.{replyBth, ackHeader, atomicHeader, answerBytes, over};
 
 // The BTH of a reply.
 pub fn reply_bth(s: Setup, opcode: u8, pad: u8, psn: Psn) -> Bth

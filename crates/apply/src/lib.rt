@@ -5,7 +5,7 @@ mod state;
 
 pub use answer::reply;
 pub use answer::reply_bth;
-use protocol::Decision;
+use responder_spec::Decision;
 use sequence::Psn;
 pub use state::pair_after;
 pub use state::psn_after;
@@ -16,8 +16,8 @@ ghost use Prim.Native.Nat.{_-_, min};
 ghost use lib.ListN.{take, drop};
 ghost use Rattle.memory.specs.Memory.{placed};
 ghost use Rattle.table.specs.View.{savedRows};
-ghost use Rattle.protocol.specs.Apply.{memoryBy, actsAtomic};
-ghost use Rattle.protocol.specs.Reply.{valueBy};
+ghost use Rattle.responder_spec.specs.Apply.{memoryBy, actsAtomic};
+ghost use Rattle.responder_spec.specs.Reply.{valueBy};
 
 // The smaller of two.
 fn least(a: usize, b: usize) -> usize

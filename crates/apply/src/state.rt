@@ -2,14 +2,14 @@
 use crate::acts_atomic;
 use pair::Pair;
 use pair::ReadAnswer;
-use protocol::Decision;
+use responder_spec::Decision;
 use sequence::Msn;
 use sequence::Psn;
 use table::Ring;
 ghost use mathlib.Core.Path.{_≡_};
 ghost use Prim.Native.Nat.{_-_};
 ghost use Rattle.sequence.specs.Sequence.{psnAfter};
-ghost use Rattle.protocol.specs.Apply.{ringTaken, entriesBy, savedRingBy, msnBy, readBy, executedPair, closing, after, pairBy};
+ghost use Rattle.responder_spec.specs.Apply.{ringTaken, entriesBy, savedRingBy, msnBy, readBy, executedPair, closing, after, pairBy};
 
 fn one_less(n: usize) -> usize
     ensures { λ r. ⌜ r ≡ n - 1 ⌝ }

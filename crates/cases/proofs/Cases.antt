@@ -10,7 +10,7 @@ use Rattle.header.specs.Check.{fullMember, pkeysMatch, wrongService, isResponse
 use Rattle.memory.specs.Memory.{put, placed}
 use Rattle.memory.specs.Word.{lowBytes, lowNumber, wordAt, wordPut, fetchAdded}
 use Rattle.packet.specs.Packet.{padOf, packetBytes}
-use Rattle.pieces.specs.Pieces.{pmtuFits, pieces, placeAt, ends, starts, pieceAt, partAt}
+use Rattle.pmtu.specs.Pieces.{pmtuFits, pieces, placeAt, ends, starts, pieceAt, partAt}
 use Rattle.table.specs.Table.{outside, pastTop, regionOutside, regionRow, entryRow, sought, firstFrom, slotAt}
 use Rattle.table.specs.View.{regionOf}
 use Rattle.pair.specs.Answer.{statusNumber, executed}
@@ -18,16 +18,16 @@ use Rattle.pair.specs.Pair.{freshPair}
 use Rattle.pair.specs.Sound.{setupUnfit, setupUnsound, numbersUnsound, ringUnsound, messageUnsound, readUnsound, pairUnsound}
 use Rattle.pair.specs.Host.{setUpStatus, setUp, setUpRegions, readyStatus, madeReady, addStatus, addRegions, postStatus, posted, postEntries}
 use Rattle.pair.specs.Calls.{begun, called, calledAll}
-use Rattle.segment.specs.Message.{carries, carried, carriedLength, messageLength, packetsOf, lengthRefusal, packetsAnswer, responsesAnswer}
-use Rattle.segment.specs.Next.{psnsOf, nextPsn, nextRefusal, followingBy, nextAnswer}
-use Rattle.segment.specs.Cut.{lowFor, extensionFor, bthAt, sizeAt, headerAt, payloadAt, cutBytes}
-use Rattle.request.specs.Packet.{operandsOf, packetOf}
-use Rattle.request.specs.Verdict.{carrying, outOfSequence, notEnabled, padEarly, overLimit, needsEntry, entriesWaiting, noneWaiting, usesEntry, entryOutside, keyLacking, keyFails, sizeOff, totalOff, netOf, lengthsOff, current, requestCode, expectedCode}
-use Rattle.protocol.specs.Decide.{acknowledging, completes, completionOf, grown, placeOf, placing, executing, settled, expectedDecision, psnBefore, duplicateDecision, rcDecision, packetDecision, readsFull, inboundRefusal, decided}
-use Rattle.protocol.specs.Apply.{memoryBy, actsAtomic, savedRingBy, ringTaken, entriesBy, msnBy, readBy, executedPair, after, pairBy}
-use Rattle.protocol.specs.Reply.{replyHeader, ackHeader, answerBytes, over, outBy}
-use Rattle.protocol.specs.Inbound.{outcomeBy, decision, inbound, inboundMemory, inboundOut}
-use Rattle.protocol.specs.Calls.{received}
+use Rattle.cut_spec.specs.Message.{carries, carried, carriedLength, messageLength, packetsOf, lengthRefusal, packetsAnswer, responsesAnswer}
+use Rattle.cut_spec.specs.Next.{psnsOf, nextPsn, nextRefusal, followingBy, nextAnswer}
+use Rattle.cut_spec.specs.Cut.{lowFor, extensionFor, bthAt, sizeAt, headerAt, payloadAt, cutBytes}
+use Rattle.request_spec.specs.Packet.{operandsOf, packetOf}
+use Rattle.request_spec.specs.Verdict.{carrying, outOfSequence, notEnabled, padEarly, overLimit, needsEntry, entriesWaiting, noneWaiting, usesEntry, entryOutside, keyLacking, keyFails, sizeOff, totalOff, netOf, lengthsOff, current, requestCode, expectedCode}
+use Rattle.responder_spec.specs.Decide.{acknowledging, completes, completionOf, grown, placeOf, placing, executing, settled, expectedDecision, psnBefore, duplicateDecision, rcDecision, packetDecision, readsFull, inboundRefusal, decided}
+use Rattle.responder_spec.specs.Apply.{memoryBy, actsAtomic, savedRingBy, ringTaken, entriesBy, msnBy, readBy, executedPair, after, pairBy}
+use Rattle.responder_spec.specs.Reply.{replyHeader, ackHeader, answerBytes, over, outBy}
+use Rattle.responder_spec.specs.Inbound.{outcomeBy, decision, inbound, inboundMemory, inboundOut}
+use Rattle.responder_spec.specs.Calls.{received}
 use Rattle.cases.specs.Cases.Case.{W1, W2, W3, W4, W5, W6, W7, W8, W9, W10, W11, W12}
 use Rattle.cases.specs.Cases.{classNumber, count, next, posts, ready, standing, zeros, completionNumbers, outcomeNumbers, left, given, found, said, Cases}
 

@@ -22,17 +22,17 @@ use Rattle.pair.specs.Answer.{statusNumber}
 use Rattle.pair.specs.declared.Setup.{Setup}
 use Rattle.pair.specs.Calls.HostCall.{MakeReady, AddRegion, PostEntry}
 use Rattle.pair.specs.Calls.{Whole, HostCall, begun, calledAll}
-use Rattle.segment.specs.Message.{packetsAnswer, responsesAnswer}
-use Rattle.segment.specs.Next.{nextAnswer}
-use Rattle.segment.specs.Cut.{headerAt, payloadAt, cutBytes}
-use Rattle.segment.specs.declared.Connection.{Connection}
-use Rattle.segment.specs.declared.Request.the-variants.{Send, Read}
-use Rattle.segment.specs.declared.Following.{Following}
-use Rattle.segment.specs.declared.Following.the-variants as following
-use Rattle.protocol.specs.Inbound.{inbound, inboundMemory, inboundOut}
-use Rattle.protocol.specs.Calls.{received}
-use Rattle.protocol.specs.declared.Completion.{Completion}
-use Rattle.protocol.specs.declared.Outcome.{Outcome}
+use Rattle.cut_spec.specs.Message.{packetsAnswer, responsesAnswer}
+use Rattle.cut_spec.specs.Next.{nextAnswer}
+use Rattle.cut_spec.specs.Cut.{headerAt, payloadAt, cutBytes}
+use Rattle.cut_spec.specs.declared.Connection.{Connection}
+use Rattle.cut_spec.specs.declared.Request.the-variants.{Send, Read}
+use Rattle.cut_spec.specs.declared.Following.{Following}
+use Rattle.cut_spec.specs.declared.Following.the-variants as following
+use Rattle.responder_spec.specs.Inbound.{inbound, inboundMemory, inboundOut}
+use Rattle.responder_spec.specs.Calls.{received}
+use Rattle.responder_spec.specs.declared.Completion.{Completion}
+use Rattle.responder_spec.specs.declared.Outcome.{Outcome}
 
 pub data Case : Type 0 where
   W1 W2 W3 W4 W5 W6 W7 W8 W9 W10 W11 W12 : Case

@@ -15,12 +15,12 @@ use Rattle.pair.specs.declared.Setup.{Setup}
 use Rattle.pair.specs.declared.OpenMessage.{OpenMessage}
 use Rattle.pair.specs.declared.Pair.{Pair}
 use Rattle.pair.specs.declared.Status.the-variants as status
-use Rattle.request.specs.Verdict.{carrying, current, requestCode, expectedCode}
-use Rattle.request.specs.declared.Packet.{Packet}
-use Rattle.protocol.specs.Decide.{quietly, failed, aheadDecision, placing, swapping, accepting, executing, settled, expectedDecision, duplicateDecision, regionFor, headEntry, classed, rcDecision, orphaned, strays, closedBy, abandoning, unanswered, delivering, ucSettled, ucDecision, packetDecision}
-use Rattle.protocol.specs.declared.Decision.{Decision}
-use Rattle.protocol.proofs.Codes.{Passed, passes}
-use Rattle.protocol.proofs.Views.{current-closed, same-code}
+use Rattle.request_spec.specs.Verdict.{carrying, current, requestCode, expectedCode}
+use Rattle.request_spec.specs.declared.Packet.{Packet}
+use Rattle.responder_spec.specs.Decide.{quietly, failed, aheadDecision, placing, swapping, accepting, executing, settled, expectedDecision, duplicateDecision, regionFor, headEntry, classed, rcDecision, orphaned, strays, closedBy, abandoning, unanswered, delivering, ucSettled, ucDecision, packetDecision}
+use Rattle.responder_spec.specs.declared.Decision.{Decision}
+use Rattle.responder_spec.proofs.Codes.{Passed, passes}
+use Rattle.responder_spec.proofs.Views.{current-closed, same-code}
 use Rattle.decide.specs.Either.{classBy, earlyCode, metBy, refusedBy, answered, asksBy, numbersBy, finished, eitherDecision}
 
 -- what an early code says

@@ -8,23 +8,23 @@ use native.Mathlib.Omega.{arith}
 use lib.Dec.{eqb, ltb, leb}
 use lib.ListN.{getD}
 use borrow.Author.Tests.{eqb-false, eqb-true, eq-eqb, ne-eqb, ltb-false, leb-false}
-use Rattle.laws.proofs.Tests.{or-left, or-right, cond-le}
+use Rattle.lemmas.proofs.Tests.{or-left, or-right, cond-le}
 use Rattle.sequence.specs.declared.Psn.{Psn}
 use Rattle.opcode.specs.Opcode.{lengthOf, lowClass, reservedClass, classOf}
 use Rattle.opcode.specs.Opcode as Opcode
 use Rattle.header.specs.Write.{headerLength}
 use Rattle.header.specs.declared.Header.{Header}
-use Rattle.pieces.specs.Pieces.{starts}
+use Rattle.pmtu.specs.Pieces.{starts}
 use Rattle.table.specs.Table.{outside, pastTop, addresses}
 use Rattle.pair.specs.declared.OpenMessage.{OpenMessage}
 use Rattle.pair.specs.declared.Setup.{Setup}
-use Rattle.request.specs.Verdict.{carrying, notEnabled, overLimit, keySpan, spot, keyFails, keyLacking, lacks, netOf, current, lengthsOff, expectedCode}
-use Rattle.request.specs.Packet.{packetOf}
-use Rattle.request.specs.declared.Packet.{Packet}
-use Rattle.protocol.specs.Decide.{placeOf, againFails}
-use Rattle.protocol.proofs.Codes.{Passed, passes, class-is}
-use Rattle.protocol.proofs.Codes.Bare.{reads, swaps, adds}
-use Rattle.protocol.proofs.Inside.{key-inside, own-inside, total, write-total, place-inside}
+use Rattle.request_spec.specs.Verdict.{carrying, notEnabled, overLimit, keySpan, spot, keyFails, keyLacking, lacks, netOf, current, lengthsOff, expectedCode}
+use Rattle.request_spec.specs.Packet.{packetOf}
+use Rattle.request_spec.specs.declared.Packet.{Packet}
+use Rattle.responder_spec.specs.Decide.{placeOf, againFails}
+use Rattle.responder_spec.proofs.Codes.{Passed, passes, class-is}
+use Rattle.responder_spec.proofs.Codes.Bare.{reads, swaps, adds}
+use Rattle.responder_spec.proofs.Inside.{key-inside, own-inside, total, write-total, place-inside}
 use Rattle.decide.specs.Guard.{SpotFits, PlaceFits, Shaped, Executable}
 
 module _ (kind : ℕ) (m : OpenMessage) (entry region : List ℕ) (k : kind ≡ 0 → ⊥) (span : ℕ) (s : span ≡ m .length - m .placed) where

@@ -10,9 +10,9 @@ use Rattle.sequence.specs.declared.Class.the-variants.{Expected}
 use Rattle.pair.specs.declared.Setup.{Setup}
 use Rattle.pair.specs.declared.OpenMessage.{OpenMessage}
 use Rattle.pair.specs.declared.Status.the-variants as status
-use Rattle.request.specs.declared.Packet.{Packet}
-use Rattle.protocol.specs.Decide.{failed, executing, expectedDecision, orphaned, strays, closedBy, abandoning, delivering, ucDecision}
-use Rattle.protocol.specs.declared.Decision.{Decision}
+use Rattle.request_spec.specs.declared.Packet.{Packet}
+use Rattle.responder_spec.specs.Decide.{failed, executing, expectedDecision, orphaned, strays, closedBy, abandoning, delivering, ucDecision}
+use Rattle.responder_spec.specs.declared.Decision.{Decision}
 
 -- on UC every number is taken as the expected one
 unfoldable pub classBy : Bool → Psn → Psn → Class

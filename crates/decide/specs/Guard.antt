@@ -6,14 +6,14 @@ use mathlib.Core.List.{List}
 use mathlib.Core.Logic.{_⊎_}
 use lib.Dec.{ltb}
 use lib.ListN.{getD}
-use Rattle.pieces.specs.Pieces.{starts}
+use Rattle.pmtu.specs.Pieces.{starts}
 use Rattle.pair.specs.declared.OpenMessage.{OpenMessage}
 use Rattle.pair.specs.declared.Pair.{Pair}
 use Rattle.pair.specs.declared.Status.the-variants as status
-use Rattle.request.specs.Verdict.{carrying, keySpan, netOf}
-use Rattle.request.specs.declared.Packet.{Packet}
-use Rattle.protocol.specs.Decide.{quietly}
-use Rattle.protocol.specs.declared.Decision.{Decision}
+use Rattle.request_spec.specs.Verdict.{carrying, keySpan, netOf}
+use Rattle.request_spec.specs.declared.Packet.{Packet}
+use Rattle.responder_spec.specs.Decide.{quietly}
+use Rattle.responder_spec.specs.declared.Decision.{Decision}
 
 -- where bytes of a region lie in memory
 abbrev pub SpotFits : List ℕ → ℕ → ℕ → Type 0

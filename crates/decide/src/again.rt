@@ -13,14 +13,14 @@ use pair::OpenMessage;
 use pair::Pair;
 use pair::Setup;
 use pair::Status;
-use protocol::Decision;
-use request::Packet;
+use responder_spec::Decision;
+use request_spec::Packet;
 use sequence::Psn;
 ghost use mathlib.Core.Path.{_≡_};
-ghost use Rattle.request.specs.Verdict.{current};
+ghost use Rattle.request_spec.specs.Verdict.{current};
 ghost use Rattle.table.specs.View.{newestSaved};
 ghost use Rattle.decide.specs.Guard.{Shaped};
-ghost use Rattle.protocol.specs.Decide.{readAgain, duplicateDecision, regionFor};
+ghost use Rattle.responder_spec.specs.Decide.{readAgain, duplicateDecision, regionFor};
 
 fn read_again(p: Packet, s: Setup, m: OpenMessage, expected: Psn, region: [u64; 7]) -> Decision
     requires { ⌜ m .placed ≡ 0 ⌝ }
@@ -32,7 +32,7 @@ fn read_again(p: Packet, s: Setup, m: OpenMessage, expected: Psn, region: [u64; 
         return quietly(status);
     }
     let at = spot(region, m.address, m.length);
-    let count = pieces::count(m.length, s.pmtu);
+    let count = pmtu::count(m.length, s.pmtu);
     let message = pair::no_message();
     let status = Status::DuplicateAnswered;
     reading(status, message, at, m.length, 0, false, count, p.psn)
@@ -44,7 +44,7 @@ fn reread(p: Packet, pair: Pair, regions: &[[u64; 7]; 16]) -> Decision
     ensures { λ r. ⌜ r ≡ readAgain p (pair .setup) (current (pair .message) p) (pair .expected) (regionFor (p .kind) (current (pair .message) p .key) (now (regions .entry))) ⌝ }
 {
     let under = pair.message;
-    let m = judge::current(under, p);
+    let m = request_checks::current(under, p);
     let region = region_for(regions, p.kind, m.key);
     let setup = pair.setup;
     read_again(p, setup, m, pair.expected, region)
@@ -60,7 +60,7 @@ pub(crate) fn duplicate(
     requires { ⌜ Shaped p ⌝ }
     ensures { λ r. ⌜ r ≡ duplicateDecision p (pair .setup) (pair .expected) (current (pair .message) p) (regionFor (p .kind) (current (pair .message) p .key) (now (regions .entry))) (newestSaved (p .psn .0) (now (saved .entry)) (pair .saved)) ⌝ }
 {
-    let carries = judge::carrying(p.kind);
+    let carries = request_checks::carrying(p.kind);
     if carries {
         let status = Status::DuplicateAnswered;
         let psn = psn_before(pair.expected);

@@ -3,25 +3,25 @@ use idle::ACK;
 use idle::no_completion;
 use pair::OpenMessage;
 use pair::Status;
-use protocol::Completion;
-use protocol::Decision;
-use request::Packet;
+use responder_spec::Completion;
+use responder_spec::Decision;
+use request_spec::Packet;
 use sequence::Psn;
 ghost use mathlib.Core.Path.{_≡_};
 ghost use mathlib.Core.Bool.{cond};
 ghost use Prim.Native.Nat.{_+_, _-_, _<_, _^_};
 ghost use lib.Dec.{eqb};
-ghost use Rattle.request.specs.Verdict.{spot, netOf};
-ghost use Rattle.protocol.specs.Decide.{completes, completionOf, grown, placeOf, placing, swapping, reading, accepting};
+ghost use Rattle.request_spec.specs.Verdict.{spot, netOf};
+ghost use Rattle.responder_spec.specs.Decide.{completes, completionOf, grown, placeOf, placing, swapping, reading, accepting};
 ghost use Rattle.decide.specs.Either.{answered, asksBy, numbersBy, finished};
 ghost use Rattle.decide.specs.Guard.{SpotFits, PlaceFits, Executable};
 
 fn completes(kind: u8, place: u8, immediate: bool) -> bool
     ensures { λ r. ⌜ r ≡ completes kind place immediate ⌝ }
 {
-    let last = pieces::ends(place);
+    let last = pmtu::ends(place);
     if last {
-        return judge::uses_entry(kind, immediate);
+        return request_checks::uses_entry(kind, immediate);
     }
     false
 }
@@ -43,7 +43,7 @@ fn completion_of(p: Packet, m: OpenMessage, number: u64) -> Completion
 {
     let done = completes(p.kind, p.place, p.operands.immediate);
     if done {
-        let carried = judge::less(p.raw, p.pad);
+        let carried = request_checks::less(p.raw, p.pad);
         let length = counted(p.kind, m.placed, carried, m.length);
         return Completion {
             some: true,
@@ -61,7 +61,7 @@ fn grown(place: u8, m: OpenMessage, net: usize) -> OpenMessage
     requires { ⌜ m .placed + net < 2 ^ 64 ⌝ }
     ensures { λ r. ⌜ r ≡ grown place m net ⌝ }
 {
-    let last = pieces::ends(place);
+    let last = pmtu::ends(place);
     if last {
         return pair::no_message();
     }
@@ -107,7 +107,7 @@ fn place_of(kind: u8, m: OpenMessage, entry: [u64; 3], region: [u64; 7]) -> usiz
     if kind == opcode::SEND {
         return (entry[1] + placed) as usize;
     }
-    let span = judge::less(m.length, m.placed);
+    let span = request_checks::less(m.length, m.placed);
     if span == 0 {
         return 0;
     }
@@ -147,11 +147,11 @@ fn placing(
     requires { ⌜ PlaceFits (p .kind) m entry region ⌝ }
     ensures { λ r. ⌜ r ≡ answered asked numbers (placing p m entry region) ⌝ }
 {
-    let net = judge::less(p.raw, p.pad);
+    let net = request_checks::less(p.raw, p.pad);
     let at = place_of(p.kind, m, entry, region);
     let message = grown(p.place, m, net);
     let completion = completion_of(p, m, entry[0]);
-    let ends = pieces::ends(p.place);
+    let ends = pmtu::ends(p.place);
     let status = answer(asked);
     let sent = ack_length(asked);
     let psn = p.psn;
@@ -262,7 +262,7 @@ fn accepting(
     ensures { λ r. ⌜ r ≡ accepting p m under region pmtu ⌝ }
 {
     let at = spot(region, m.address, m.length);
-    let count = pieces::count(m.length, pmtu);
+    let count = pmtu::count(m.length, pmtu);
     let status = Status::ReadAccepted;
     reading(status, under, at, m.length, count, true, count, p.psn)
 }
@@ -308,7 +308,7 @@ pub(crate) fn finished(
     requires { ⌜ Executable p m entry region ⌝ }
     ensures { λ r. ⌜ r ≡ finished uc p expected m under entry region pmtu ⌝ }
 {
-    let carries = judge::carrying(p.kind);
+    let carries = request_checks::carrying(p.kind);
     if carries {
         let asked = asks(uc, p.ackreq);
         let taken = numbers(uc, p.psn, expected);

@@ -8,16 +8,16 @@ use header::Header;
 use idle::region_for;
 use pair::Pair;
 use pair::Status;
-use protocol::Decision;
-use request::Packet;
+use responder_spec::Decision;
+use request_spec::Packet;
 use sequence::Class;
 use sequence::Psn;
 ghost use mathlib.Core.Path.{_≡_};
 ghost use Prim.Native.Nat.{_≤_};
 ghost use lib.Dec.{eqb};
-ghost use Rattle.request.specs.Packet.{packetOf};
-ghost use Rattle.request.specs.Verdict.{current};
-ghost use Rattle.protocol.specs.Decide.{failed, regionFor, packetDecision, headEntry};
+ghost use Rattle.request_spec.specs.Packet.{packetOf};
+ghost use Rattle.request_spec.specs.Verdict.{current};
+ghost use Rattle.responder_spec.specs.Decide.{failed, regionFor, packetDecision, headEntry};
 ghost use Rattle.decide.specs.Guard.{Shaped, guarded};
 ghost use Rattle.decide.specs.Either.{classBy, refusedBy, eitherDecision};
 
@@ -72,11 +72,11 @@ fn settled(p: Packet, pair: Pair, entry: [u64; 3], region: [u64; 7], uc: bool) -
         return idle::quietly(status);
     }
     let met = unreliable::met(uc, p.place, under);
-    let code = judge::expected_code(setup, met, p, pair.entries.count, entry, region);
+    let code = request_checks::expected_code(setup, met, p, pair.entries.count, entry, region);
     if code != 0 {
         return refused(uc, code, under.kind, p.psn, setup.timer);
     }
-    let m = judge::current(under, p);
+    let m = request_checks::current(under, p);
     execute::finished(uc, p, pair.expected, m, under, entry, region, setup.pmtu)
 }
 
@@ -95,7 +95,7 @@ fn take(
     let at = table::slot(pair.entries.head, 0);
     let entry = entries[at];
     let under = pair.message;
-    let m = judge::current(under, p);
+    let m = request_checks::current(under, p);
     let region = region_for(regions, p.kind, m.key);
     settled(p, pair, entry, region, uc)
 }
@@ -131,7 +131,7 @@ pub fn decision(
         let status = Status::OutOfRange;
         return idle::quietly(status);
     }
-    let p = judge::packet_of(h, n);
+    let p = request_checks::packet_of(h, n);
     let uc = unreliable_service(pair.setup.service);
     let class = class_of(uc, p.psn, pair.expected);
     match class {

@@ -2,18 +2,18 @@
 use idle::quietly;
 use pair::OpenMessage;
 use pair::Status;
-use protocol::Decision;
-use request::Packet;
+use responder_spec::Decision;
+use request_spec::Packet;
 use sequence::Psn;
 ghost use mathlib.Core.Path.{_≡_};
-ghost use Rattle.protocol.specs.Decide.{orphaned, strays, closedBy, abandoning};
+ghost use Rattle.responder_spec.specs.Decide.{orphaned, strays, closedBy, abandoning};
 ghost use Rattle.decide.specs.Either.{earlyCode, metBy};
 
 // Whether a Middle or Last comes while no message is open.
 fn orphaned(place: u8, under: u8) -> bool
     ensures { λ r. ⌜ r ≡ orphaned place under ⌝ }
 {
-    let begins = pieces::starts(place);
+    let begins = pmtu::starts(place);
     if begins {
         return false;
     }
@@ -24,7 +24,7 @@ fn orphaned(place: u8, under: u8) -> bool
 fn strays(p: Packet, expected: Psn, under: u8) -> bool
     ensures { λ r. ⌜ r ≡ strays p expected under ⌝ }
 {
-    let begins = pieces::starts(p.place);
+    let begins = pmtu::starts(p.place);
     if begins {
         return false;
     }
@@ -40,7 +40,7 @@ fn strays(p: Packet, expected: Psn, under: u8) -> bool
 fn closed_by(place: u8, under: OpenMessage) -> OpenMessage
     ensures { λ r. ⌜ r ≡ closedBy place under ⌝ }
 {
-    let begins = pieces::starts(place);
+    let begins = pmtu::starts(place);
     if begins {
         return pair::no_message();
     }

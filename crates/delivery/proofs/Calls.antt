@@ -20,15 +20,15 @@ use Rattle.pair.specs.Calls.{called}
 use Rattle.pair.specs.declared.Status.{Status}
 use Rattle.pair.specs.declared.Status.the-variants as status
 use Rattle.pair.proofs.Known.{sound}
-use Rattle.request.specs.Packet.{packetOf}
-use Rattle.protocol.specs.Kept.{Steady}
-use Rattle.protocol.specs.Decide.{quietly, readsFull, inboundRefusal, orDrop, packetDecision, decided}
-use Rattle.protocol.specs.Apply.{memoryBy, actsAtomic, savedBy, pairBy, with}
-use Rattle.protocol.specs.Apply as apply
-use Rattle.protocol.specs.Inbound.{decision, outcomeBy, inbound, inboundMemory, inboundSaved}
-use Rattle.protocol.specs.Response.{nextStatus, oneFewer, nextResponse}
-use Rattle.protocol.specs.Calls.{received, drained}
-use Rattle.protocol.specs.declared.Decision.{Decision}
+use Rattle.request_spec.specs.Packet.{packetOf}
+use Rattle.responder_spec.specs.Kept.{Steady}
+use Rattle.responder_spec.specs.Decide.{quietly, readsFull, inboundRefusal, orDrop, packetDecision, decided}
+use Rattle.responder_spec.specs.Apply.{memoryBy, actsAtomic, savedBy, pairBy, with}
+use Rattle.responder_spec.specs.Apply as apply
+use Rattle.responder_spec.specs.Inbound.{decision, outcomeBy, inbound, inboundMemory, inboundSaved}
+use Rattle.responder_spec.specs.Response.{nextStatus, oneFewer, nextResponse}
+use Rattle.responder_spec.specs.Calls.{received, drained}
+use Rattle.responder_spec.specs.declared.Decision.{Decision}
 use Rattle.delivery.specs.Stream.{Message, Slot, slot, packetAt}
 use Rattle.delivery.specs.Plain.{Plain, sending, adding, delivered, account}
 use Rattle.delivery.specs.Plain.Call.{Hand, Next, Post}

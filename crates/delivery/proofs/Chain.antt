@@ -8,16 +8,16 @@ use native.Mathlib.Omega.{arith}
 use lib.ListN.{length}
 use Rattle.sequence.specs.Sequence.{space, after, psnAfter}
 use Rattle.sequence.specs.declared.Psn.{Psn}
-use Rattle.pieces.specs.Pieces.{pieces}
-use Rattle.pieces.proofs.Counting.{counts, bounds}
+use Rattle.pmtu.specs.Pieces.{pieces}
+use Rattle.pmtu.proofs.Counting.{counts, bounds}
 use Rattle.pair.specs.declared.Setup.{Setup}
 use Rattle.pair.specs.Claims.{SetupFit}
-use Rattle.segment.specs.Message.{carries, carriedLength, messageLength, packetsOf}
-use Rattle.segment.specs.Claims.{Carrier}
-use Rattle.segment.specs.Next.{psnsOf, nextPsn}
-use Rattle.segment.specs.declared.Connection.{Connection}
-use Rattle.segment.specs.declared.Request.{Request}
-use Rattle.segment.specs.declared.Request.the-variants.{Send, SendImmediate, Write, WriteImmediate, Read, CmpSwap, FetchAdd}
+use Rattle.cut_spec.specs.Message.{carries, carriedLength, messageLength, packetsOf}
+use Rattle.cut_spec.specs.Claims.{Carrier}
+use Rattle.cut_spec.specs.Next.{psnsOf, nextPsn}
+use Rattle.cut_spec.specs.declared.Connection.{Connection}
+use Rattle.cut_spec.specs.declared.Request.{Request}
+use Rattle.cut_spec.specs.declared.Request.the-variants.{Send, SendImmediate, Write, WriteImmediate, Read, CmpSwap, FetchAdd}
 use Rattle.table.specs.declared.Entry.{Entry}
 use Rattle.delivery.specs.Stream.{Message, packetCount, Slot, slotsFrom, stream, slot, spanOf, span, along}
 use Rattle.delivery.specs.Demand.{Allowed, Addressed, Permitted, AllPermitted, AtLeast, LongEnough}

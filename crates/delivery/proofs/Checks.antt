@@ -9,24 +9,24 @@ use lib.Dec.{eqb}
 use lib.ListN.{length, getD}
 use borrow.Author.Tests.{eqb-true, eq-eqb, ne-eqb}
 use Rattle.packet.specs.Packet.{padOf}
-use Rattle.pieces.specs.Pieces.{starts, ends}
-use Rattle.pieces.proofs.Counting.{bounds}
+use Rattle.pmtu.specs.Pieces.{starts, ends}
+use Rattle.pmtu.proofs.Counting.{bounds}
 use Rattle.table.specs.Table.{outside}
 use Rattle.table.specs.Claims.{RegionsSound}
 use Rattle.table.specs.declared.Entry.{Entry}
 use Rattle.pair.specs.declared.Setup.{Setup}
 use Rattle.pair.specs.declared.OpenMessage.{OpenMessage}
 use Rattle.pair.specs.Claims.{SetupFit}
-use Rattle.segment.specs.Message.{messageLength}
-use Rattle.segment.specs.Claims.{Carrier, kindNumber}
-use Rattle.segment.specs.declared.Connection.{Connection}
-use Rattle.segment.specs.declared.Request.{Request}
-use Rattle.segment.specs.declared.Request.the-variants.{Send, SendImmediate, Write, WriteImmediate, Read, CmpSwap, FetchAdd}
-use Rattle.segment.proofs.Fits.{decide, none-carried}
-use Rattle.segment.proofs.Shapes.{cut-one}
+use Rattle.cut_spec.specs.Message.{messageLength}
+use Rattle.cut_spec.specs.Claims.{Carrier, kindNumber}
+use Rattle.cut_spec.specs.declared.Connection.{Connection}
+use Rattle.cut_spec.specs.declared.Request.{Request}
+use Rattle.cut_spec.specs.declared.Request.the-variants.{Send, SendImmediate, Write, WriteImmediate, Read, CmpSwap, FetchAdd}
+use Rattle.cut_spec.proofs.Fits.{decide, none-carried}
+use Rattle.cut_spec.proofs.Shapes.{cut-one}
 use Rattle.sequence.specs.declared.Psn.{Psn}
-use Rattle.request.specs.Verdict.{outOfSequence, padEarly, entriesWaiting, noneWaiting, usesEntry, entryOutside, current}
-use Rattle.protocol.specs.Decide.{regionFor}
+use Rattle.request_spec.specs.Verdict.{outOfSequence, padEarly, entriesWaiting, noneWaiting, usesEntry, entryOutside, current}
+use Rattle.responder_spec.specs.Decide.{regionFor}
 use Rattle.delivery.specs.Stream.{packetCount, Slot}
 use Rattle.delivery.specs.Plain.{none, needing}
 use Rattle.delivery.proofs.Chain.{Stands}

@@ -16,18 +16,18 @@ use Rattle.header.specs.declared.HeaderRead.the-variants.{Accepted}
 use Rattle.header.proofs.Reasons.{accepted}
 use Rattle.packet.specs.Packet.{padOf, packetLength, payloadOf}
 use Rattle.packet.proofs.Bytes.{length-packet}
-use Rattle.pieces.specs.Pieces.{placeAt}
-use Rattle.pieces.specs.Claims.{IsPmtu}
+use Rattle.pmtu.specs.Pieces.{placeAt}
+use Rattle.pmtu.specs.Claims.{IsPmtu}
 use Rattle.pair.specs.declared.Setup.{Setup}
 use Rattle.pair.specs.Claims.{SetupFit}
-use Rattle.segment.specs.Message.{messageLength}
-use Rattle.segment.specs.Cut.{extensionFor, headerAt, payloadAt, cutBytes}
-use Rattle.segment.specs.Claims.{Carrier, Fit, Cuttable, kindNumber}
-use Rattle.segment.proofs.Numbers.{cut-marked, psn-at}
-use Rattle.segment.proofs.Fits.{header-fits}
-use Rattle.segment.proofs.Whole.{cut-reads, cut-pad, cut-full, cut-last, cut-admitted}
-use Rattle.request.specs.Packet.{operandsOf, packetOf}
-use Rattle.request.specs.declared.Packet.{Packet}
+use Rattle.cut_spec.specs.Message.{messageLength}
+use Rattle.cut_spec.specs.Cut.{extensionFor, headerAt, payloadAt, cutBytes}
+use Rattle.cut_spec.specs.Claims.{Carrier, Fit, Cuttable, kindNumber}
+use Rattle.cut_spec.proofs.Numbers.{cut-marked, psn-at}
+use Rattle.cut_spec.proofs.Fits.{header-fits}
+use Rattle.cut_spec.proofs.Whole.{cut-reads, cut-pad, cut-full, cut-last, cut-admitted}
+use Rattle.request_spec.specs.Packet.{operandsOf, packetOf}
+use Rattle.request_spec.specs.declared.Packet.{Packet}
 use Rattle.delivery.specs.Stream.{packetCount, Slot, packetAt}
 use Rattle.delivery.proofs.Chain.{Served, Sent}
 use Rattle.delivery.proofs.Places.{Sizes}

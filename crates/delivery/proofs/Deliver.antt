@@ -7,7 +7,7 @@ use native.Mathlib.Omega.{arith}
 use lib.Dec.{ltb, eqb}
 use lib.ListN.{length}
 use borrow.Author.Tests.{eqb-true, eqb-false, eq-eqb, ne-eqb, lt-ltb, le-ltb, ltb-true}
-use Rattle.laws.proofs.Auto.{tests}
+use Rattle.lemmas.proofs.Auto.{tests}
 use Rattle.sequence.specs.Sequence.{distance, after, psnClass}
 use Rattle.sequence.specs.Claims.{order}
 use Rattle.sequence.specs.declared.Psn.{Psn}
@@ -15,7 +15,7 @@ use Rattle.sequence.specs.declared.Class.{Class}
 use Rattle.sequence.proofs.Circle.{class-is-order, distance-after, along-stream}
 use Rattle.header.specs.declared.Reth.{Reth}
 use Rattle.packet.specs.Packet.{padOf}
-use Rattle.pieces.specs.Pieces.{pieces}
+use Rattle.pmtu.specs.Pieces.{pieces}
 use Rattle.table.specs.View.{newestSaved}
 use Rattle.table.specs.declared.Saved.{Saved}
 use Rattle.table.specs.declared.Saved.the-variants.{Value, Nothing}
@@ -24,17 +24,17 @@ use Rattle.pair.specs.Pair.{noMessage}
 use Rattle.pair.specs.Claims.{SetupFit}
 use Rattle.pair.specs.declared.OpenMessage.{OpenMessage}
 use Rattle.pair.specs.declared.Status.the-variants as status
-use Rattle.segment.specs.Claims.{kindNumber}
-use Rattle.segment.specs.declared.Request.{Request}
-use Rattle.segment.specs.declared.Request.the-variants.{Send, SendImmediate, Write, WriteImmediate, Read, CmpSwap, FetchAdd}
-use Rattle.segment.proofs.Fits.{none-carried}
-use Rattle.segment.proofs.Shapes.{cut-one}
-use Rattle.request.specs.Verdict.{carrying, notEnabled, overLimit, keyFails, current}
-use Rattle.protocol.specs.Kept.{Steady}
-use Rattle.protocol.specs.Decide.{ackSyndrome, quietly, acknowledging, reading, psnBefore, aheadDecision, againFails, readAgain, atomicAgain, isAtomic, duplicateDecision, headEntry, regionFor, expectedDecision, classed, rcDecision, packetDecision}
-use Rattle.protocol.specs.Apply.{memoryBy, actsAtomic, savedBy, pairBy, readBy}
-use Rattle.protocol.specs.Apply as apply
-use Rattle.protocol.specs.declared.Decision.{Decision}
+use Rattle.cut_spec.specs.Claims.{kindNumber}
+use Rattle.cut_spec.specs.declared.Request.{Request}
+use Rattle.cut_spec.specs.declared.Request.the-variants.{Send, SendImmediate, Write, WriteImmediate, Read, CmpSwap, FetchAdd}
+use Rattle.cut_spec.proofs.Fits.{none-carried}
+use Rattle.cut_spec.proofs.Shapes.{cut-one}
+use Rattle.request_spec.specs.Verdict.{carrying, notEnabled, overLimit, keyFails, current}
+use Rattle.responder_spec.specs.Kept.{Steady}
+use Rattle.responder_spec.specs.Decide.{ackSyndrome, quietly, acknowledging, reading, psnBefore, aheadDecision, againFails, readAgain, atomicAgain, isAtomic, duplicateDecision, headEntry, regionFor, expectedDecision, classed, rcDecision, packetDecision}
+use Rattle.responder_spec.specs.Apply.{memoryBy, actsAtomic, savedBy, pairBy, readBy}
+use Rattle.responder_spec.specs.Apply as apply
+use Rattle.responder_spec.specs.declared.Decision.{Decision}
 use Rattle.delivery.specs.Stream.{Message, Slot, slot, span, along, packetAt}
 use Rattle.delivery.specs.Plain.{Plain, isRead, sending, reached, delivered}
 use Rattle.delivery.specs.Demand.{Run, Near}

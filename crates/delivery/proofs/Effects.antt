@@ -7,17 +7,17 @@ use native.Mathlib.Omega.{arith}
 use lib.Dec.{eqb}
 use lib.ListN.{length, drop}
 use borrow.Author.Tests.{eqb-true, eq-eqb, ne-eqb, le-leb}
-use Rattle.laws.proofs.Auto.{tests}
+use Rattle.lemmas.proofs.Auto.{tests}
 use Rattle.sequence.specs.Sequence.{after, psnAfter, msnNext}
 use Rattle.table.specs.View.{inRing}
 use Rattle.table.specs.declared.Entry.{Entry}
 use Rattle.pair.specs.Answer.{statusNumber}
 use Rattle.pair.specs.declared.OpenMessage.{OpenMessage}
 use Rattle.pair.specs.declared.Pair.{Pair}
-use Rattle.protocol.specs.Apply.{pairBy, executedPair, memoryBy, msnBy, readBy, entriesBy}
-use Rattle.protocol.specs.Apply as apply
-use Rattle.protocol.specs.Calls.{reports}
-use Rattle.protocol.specs.declared.Decision.{Decision}
+use Rattle.responder_spec.specs.Apply.{pairBy, executedPair, memoryBy, msnBy, readBy, entriesBy}
+use Rattle.responder_spec.specs.Apply as apply
+use Rattle.responder_spec.specs.Calls.{reports}
+use Rattle.responder_spec.specs.declared.Decision.{Decision}
 use Rattle.delivery.specs.Stream.{Message, packetCount, Slot, slot, span, along}
 use Rattle.delivery.specs.Plain.{Plain, takes, completionFor, landed, isRead, heldNow, waitingNow, isLast, needing, perform}
 use Rattle.delivery.specs.Demand.{Run, AllLongEnough, entryOf}

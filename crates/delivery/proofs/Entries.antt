@@ -12,7 +12,7 @@ use Rattle.table.specs.declared.Entry.{Entry}
 use Rattle.table.specs.declared.Ring.{Ring}
 use Rattle.table.proofs.Regions.{entry-tested, entry-rows}
 use Rattle.table.proofs.Rings.{takes}
-use Rattle.protocol.specs.Apply.{ringTaken, entriesBy}
+use Rattle.responder_spec.specs.Apply.{ringTaken, entriesBy}
 use Rattle.delivery.specs.Plain.{firstOf}
 use Rattle.delivery.specs.Demand.{entryOf}
 

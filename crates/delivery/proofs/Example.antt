@@ -14,10 +14,10 @@ use Rattle.pair.specs.Pair.{freshPair}
 use Rattle.pair.specs.Calls.{begun, called, calledAll}
 use Rattle.pair.specs.Host.{setUpStatus, setUp, setUpRegions, addStatus, addRegions, postStatus, posted, postEntries, readyStatus, madeReady}
 use Rattle.pair.specs.Sound.{setupUnfit, setupUnsound, numbersUnsound, ringUnsound, messageUnsound, readUnsound, pairUnsound}
-use Rattle.pieces.specs.Pieces.{pmtuFits, pieces}
+use Rattle.pmtu.specs.Pieces.{pmtuFits, pieces}
 use Rattle.header.specs.Read.{otherService}
-use Rattle.segment.specs.Message.{carries, carriedLength, messageLength, packetsOf}
-use Rattle.segment.specs.Next.{psnsOf, nextPsn}
+use Rattle.cut_spec.specs.Message.{carries, carriedLength, messageLength, packetsOf}
+use Rattle.cut_spec.specs.Next.{psnsOf, nextPsn}
 use Rattle.delivery.specs.Stream.{slotsFrom, stream}
 use Rattle.delivery.specs.Demand.{Fresh}
 use Rattle.delivery.specs.Example.{setup, region, calls, made, message, messages, Met, memory, packets, Executed}

@@ -7,21 +7,21 @@ use native.Mathlib.Omega.{arith}
 use lib.Dec.{eqb, ltb}
 use lib.ListN.{length}
 use borrow.Author.Tests.{eqb-true, eq-eqb, le-ltb, lt-ltb}
-use Rattle.laws.proofs.Auto.{tests}
-use Rattle.laws.proofs.Tests.{and-true}
-use Rattle.pieces.specs.Pieces.{starts, ends}
+use Rattle.lemmas.proofs.Auto.{tests}
+use Rattle.lemmas.proofs.Tests.{and-true}
+use Rattle.pmtu.specs.Pieces.{starts, ends}
 use Rattle.table.specs.Table.{regionRow}
 use Rattle.table.specs.Claims.{RegionsSound}
 use Rattle.table.specs.declared.Region.{Region}
 use Rattle.pair.specs.declared.Setup.{Setup}
 use Rattle.pair.specs.declared.OpenMessage.{OpenMessage}
-use Rattle.segment.specs.Message.{messageLength}
-use Rattle.segment.specs.Claims.{Carrier, InLimit, kindNumber}
-use Rattle.segment.specs.declared.Request.{Request}
-use Rattle.segment.specs.declared.Request.the-variants.{Send, SendImmediate, Write, WriteImmediate, Read, CmpSwap, FetchAdd}
-use Rattle.request.specs.declared.Packet.{Packet}
-use Rattle.request.specs.Verdict.{carrying, notEnabled, needsEntry, keyFails, keyLacking, rightOf, sizeOff, totalOff, bareOff, netOf, lengthsOff}
-use Rattle.protocol.specs.Decide.{regionFor}
+use Rattle.cut_spec.specs.Message.{messageLength}
+use Rattle.cut_spec.specs.Claims.{Carrier, InLimit, kindNumber}
+use Rattle.cut_spec.specs.declared.Request.{Request}
+use Rattle.cut_spec.specs.declared.Request.the-variants.{Send, SendImmediate, Write, WriteImmediate, Read, CmpSwap, FetchAdd}
+use Rattle.request_spec.specs.declared.Packet.{Packet}
+use Rattle.request_spec.specs.Verdict.{carrying, notEnabled, needsEntry, keyFails, keyLacking, rightOf, sizeOff, totalOff, bareOff, netOf, lengthsOff}
+use Rattle.responder_spec.specs.Decide.{regionFor}
 use Rattle.delivery.specs.Plain.{needs}
 use Rattle.delivery.specs.Demand.{Allowed}
 use Rattle.delivery.proofs.Places.{Sizes}

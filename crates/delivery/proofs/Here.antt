@@ -10,15 +10,15 @@ use Rattle.table.specs.Table.{outside}
 use Rattle.pair.specs.Answer.{statusNumber}
 use Rattle.pair.specs.Claims.{SetupFit}
 use Rattle.pair.specs.declared.OpenMessage.{OpenMessage}
-use Rattle.segment.specs.Claims.{kindNumber}
-use Rattle.segment.specs.declared.Request.{Request}
-use Rattle.segment.specs.declared.Request.the-variants.{Send, SendImmediate, Write, WriteImmediate, Read, CmpSwap, FetchAdd}
-use Rattle.request.specs.Verdict.{carrying, noneWaiting, usesEntry, current, expectedCode}
-use Rattle.protocol.specs.Kept.{Steady}
-use Rattle.protocol.specs.Decide.{acknowledging, failed, headEntry, regionFor, placing, accepting, swapping, executing, settled, expectedDecision}
-use Rattle.protocol.specs.Apply.{memoryBy, actsAtomic, savedBy, pairBy}
-use Rattle.protocol.specs.Apply as apply
-use Rattle.protocol.specs.declared.Decision.{Decision}
+use Rattle.cut_spec.specs.Claims.{kindNumber}
+use Rattle.cut_spec.specs.declared.Request.{Request}
+use Rattle.cut_spec.specs.declared.Request.the-variants.{Send, SendImmediate, Write, WriteImmediate, Read, CmpSwap, FetchAdd}
+use Rattle.request_spec.specs.Verdict.{carrying, noneWaiting, usesEntry, current, expectedCode}
+use Rattle.responder_spec.specs.Kept.{Steady}
+use Rattle.responder_spec.specs.Decide.{acknowledging, failed, headEntry, regionFor, placing, accepting, swapping, executing, settled, expectedDecision}
+use Rattle.responder_spec.specs.Apply.{memoryBy, actsAtomic, savedBy, pairBy}
+use Rattle.responder_spec.specs.Apply as apply
+use Rattle.responder_spec.specs.declared.Decision.{Decision}
 use Rattle.delivery.specs.Stream.{Message, Slot, slot, packetAt}
 use Rattle.delivery.specs.Plain.{Plain, none, firstOf, needing, isLast, heldNow, perform, reached}
 use Rattle.delivery.specs.Demand.{Run}

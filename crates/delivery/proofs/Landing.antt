@@ -7,20 +7,20 @@ use native.Mathlib.Omega.{arith}
 use lib.Dec.{eqb}
 use lib.ListN.{length, getD}
 use borrow.Author.Tests.{eqb-true, eqb-false}
-use Rattle.laws.proofs.Auto.{tests}
+use Rattle.lemmas.proofs.Auto.{tests}
 use Rattle.memory.specs.Memory.{put, placed}
 use Rattle.memory.proofs.Put.{placed-put, put-none, placed-none}
-use Rattle.pieces.specs.Pieces.{ends, pieceAt}
+use Rattle.pmtu.specs.Pieces.{ends, pieceAt}
 use Rattle.table.specs.View.{regionOf}
 use Rattle.table.specs.Claims.{RegionsSound}
 use Rattle.table.specs.declared.Entry.{Entry}
 use Rattle.pair.specs.Claims.{SetupFit}
 use Rattle.pair.specs.declared.Setup.{Setup}
 use Rattle.pair.specs.declared.OpenMessage.{OpenMessage}
-use Rattle.segment.specs.Claims.{kindNumber}
-use Rattle.request.specs.Verdict.{netOf, current}
-use Rattle.protocol.specs.Decide.{regionFor, completes, placeOf, placing}
-use Rattle.protocol.specs.Apply.{memoryBy}
+use Rattle.cut_spec.specs.Claims.{kindNumber}
+use Rattle.request_spec.specs.Verdict.{netOf, current}
+use Rattle.responder_spec.specs.Decide.{regionFor, completes, placeOf, placing}
+use Rattle.responder_spec.specs.Apply.{memoryBy}
 use Rattle.delivery.specs.Stream.{packetCount, Slot, packetAt}
 use Rattle.delivery.specs.Plain.{lies, takes, isLast}
 use Rattle.delivery.specs.Demand.{Lies}

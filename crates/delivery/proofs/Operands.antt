@@ -3,15 +3,15 @@ use Prim.Native.Nat.{ℕ, _≤_}
 use mathlib.Core.Path.{_≡_, refl, sym}
 use mathlib.Core.Bool.{Bool, true, false, _&&_, true≢false}
 use borrow.Author.Tests.{le-ltb}
-use Rattle.pieces.specs.Pieces.{placeAt, starts, ends}
+use Rattle.pmtu.specs.Pieces.{placeAt, starts, ends}
 use Rattle.pair.specs.Sound.{memoryLimit}
-use Rattle.segment.specs.Cut.{sendExtension, rethFor, writeExtension, writeEnd, writeImmediateExtension, fetchAddEth, extensionFor}
-use Rattle.segment.specs.declared.Request.{Request}
-use Rattle.segment.specs.declared.Request.the-variants.{Send, SendImmediate, Write, WriteImmediate, Read, CmpSwap, FetchAdd}
-use Rattle.segment.proofs.Shapes.{by-place}
-use Rattle.request.specs.Packet.{operandsOf}
-use Rattle.request.specs.Verdict.{overLimit}
-use Rattle.request.specs.declared.Operands.{Operands}
+use Rattle.cut_spec.specs.Cut.{sendExtension, rethFor, writeExtension, writeEnd, writeImmediateExtension, fetchAddEth, extensionFor}
+use Rattle.cut_spec.specs.declared.Request.{Request}
+use Rattle.cut_spec.specs.declared.Request.the-variants.{Send, SendImmediate, Write, WriteImmediate, Read, CmpSwap, FetchAdd}
+use Rattle.cut_spec.proofs.Shapes.{by-place}
+use Rattle.request_spec.specs.Packet.{operandsOf}
+use Rattle.request_spec.specs.Verdict.{overLimit}
+use Rattle.request_spec.specs.declared.Operands.{Operands}
 
 abbrev pub addressOf : Request → ℕ
 addressOf Send = 0

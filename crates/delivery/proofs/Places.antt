@@ -5,10 +5,10 @@ use mathlib.Core.Bool.{Bool, true, false, cond, not, _&&_, _||_}
 use native.Mathlib.Omega.{arith}
 use lib.Dec.{eqb, leb, ltb}
 use borrow.Author.Tests.{eq-eqb, ne-eqb, le-ltb}
-use Rattle.laws.proofs.Auto.{tests}
-use Rattle.pieces.specs.Pieces.{placeAt, starts, ends}
+use Rattle.lemmas.proofs.Auto.{tests}
+use Rattle.pmtu.specs.Pieces.{placeAt, starts, ends}
 use Rattle.packet.specs.Packet.{padOf}
-use Rattle.request.specs.Verdict.{sizeOff, padEarly}
+use Rattle.request_spec.specs.Verdict.{sizeOff, padEarly}
 
 -- the bytes of packet i: a full PMTU and some to come, or the rest
 pub record Sizes (i count net pmtu n : ℕ) : Type 0 where

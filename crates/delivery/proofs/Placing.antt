@@ -6,11 +6,11 @@ use mathlib.Core.List.{List, [], _∷_}
 use native.Mathlib.Omega.{arith}
 use lib.Dec.{eqb}
 use lib.ListN.{length, getD, take, drop}
-use Rattle.laws.proofs.Auto.{tests}
-use Rattle.laws.proofs.Tests.{and-left}
+use Rattle.lemmas.proofs.Auto.{tests}
+use Rattle.lemmas.proofs.Tests.{and-left}
 use Rattle.header.specs.Write.{headerLength}
 use Rattle.memory.specs.Memory.{placed}
-use Rattle.pieces.specs.Pieces.{ends, pieceAt}
+use Rattle.pmtu.specs.Pieces.{ends, pieceAt}
 use Rattle.sequence.specs.declared.Msn.{Msn}
 use Rattle.pair.specs.Answer.{statusNumber}
 use Rattle.pair.specs.declared.Status.the-variants as status
@@ -19,12 +19,12 @@ use Rattle.pair.specs.declared.Setup.{Setup}
 use Rattle.pair.specs.declared.OpenMessage.{OpenMessage}
 use Rattle.pair.specs.declared.ReadAnswer.{ReadAnswer}
 use Rattle.table.specs.declared.Entry.{Entry}
-use Rattle.segment.specs.Claims.{kindNumber}
-use Rattle.request.specs.Verdict.{netOf, current}
-use Rattle.protocol.specs.Decide.{noCompletion, completes, completionOf, grown, placing, placeOf}
-use Rattle.protocol.specs.Apply.{memoryBy, readBy}
-use Rattle.protocol.specs.Calls.{reports}
-use Rattle.protocol.specs.declared.Completion.{Completion}
+use Rattle.cut_spec.specs.Claims.{kindNumber}
+use Rattle.request_spec.specs.Verdict.{netOf, current}
+use Rattle.responder_spec.specs.Decide.{noCompletion, completes, completionOf, grown, placing, placeOf}
+use Rattle.responder_spec.specs.Apply.{memoryBy, readBy}
+use Rattle.responder_spec.specs.Calls.{reports}
+use Rattle.responder_spec.specs.declared.Completion.{Completion}
 use Rattle.delivery.specs.Stream.{Slot, span, packetAt}
 use Rattle.delivery.specs.Plain.{takes, completionFor, isLast, isRead}
 use Rattle.delivery.proofs.Chain.{Stands, further}

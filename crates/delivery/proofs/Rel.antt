@@ -10,13 +10,13 @@ use Rattle.table.specs.View.{inRing}
 use Rattle.table.specs.declared.Entry.{Entry}
 use Rattle.pair.specs.declared.OpenMessage.{OpenMessage}
 use Rattle.pair.specs.declared.ReadAnswer.{ReadAnswer}
-use Rattle.segment.specs.Claims.{kindNumber}
-use Rattle.segment.specs.declared.Request.{Request}
-use Rattle.segment.specs.declared.Request.the-variants.{Send, SendImmediate, Write, WriteImmediate, Read, CmpSwap, FetchAdd}
-use Rattle.protocol.specs.Apply.{pairBy, memoryBy, savedBy, with}
-use Rattle.protocol.specs.Calls.{reports}
-use Rattle.protocol.specs.declared.Completion.{Completion}
-use Rattle.protocol.specs.declared.Decision.{Decision}
+use Rattle.cut_spec.specs.Claims.{kindNumber}
+use Rattle.cut_spec.specs.declared.Request.{Request}
+use Rattle.cut_spec.specs.declared.Request.the-variants.{Send, SendImmediate, Write, WriteImmediate, Read, CmpSwap, FetchAdd}
+use Rattle.responder_spec.specs.Apply.{pairBy, memoryBy, savedBy, with}
+use Rattle.responder_spec.specs.Calls.{reports}
+use Rattle.responder_spec.specs.declared.Completion.{Completion}
+use Rattle.responder_spec.specs.declared.Decision.{Decision}
 use Rattle.delivery.specs.Stream.{Message, Slot, slot, along}
 use Rattle.delivery.specs.Plain.{Plain, sending}
 use Rattle.delivery.specs.Demand.{Run, AllLongEnough, entryOf}

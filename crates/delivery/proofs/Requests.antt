@@ -7,24 +7,24 @@ use lib.Dec.{ltb, eqb}
 use lib.ListN.{length}
 use Rattle.memory.specs.Memory.{put}
 use Rattle.memory.specs.Word.{fetchAdded, swapped}
-use Rattle.pieces.specs.Pieces.{pieces, pieceAt}
+use Rattle.pmtu.specs.Pieces.{pieces, pieceAt}
 use Rattle.table.specs.declared.Entry.{Entry}
 use Rattle.header.specs.declared.Reth.{Reth}
 use Rattle.header.specs.declared.AtomicEth.{AtomicEth}
-use Rattle.segment.specs.Message.{carries, carried}
-use Rattle.segment.specs.Cut.{fetchAddEth, extensionFor, payloadAt}
-use Rattle.segment.specs.Claims.{Carrier, kindNumber}
-use Rattle.segment.specs.declared.Connection.{Connection}
-use Rattle.segment.specs.declared.Target.{Target}
-use Rattle.segment.specs.declared.Request.{Request}
-use Rattle.segment.specs.declared.Request.the-variants.{Send, SendImmediate, Write, WriteImmediate, Read, CmpSwap, FetchAdd}
+use Rattle.cut_spec.specs.Message.{carries, carried}
+use Rattle.cut_spec.specs.Cut.{fetchAddEth, extensionFor, payloadAt}
+use Rattle.cut_spec.specs.Claims.{Carrier, kindNumber}
+use Rattle.cut_spec.specs.declared.Connection.{Connection}
+use Rattle.cut_spec.specs.declared.Target.{Target}
+use Rattle.cut_spec.specs.declared.Request.{Request}
+use Rattle.cut_spec.specs.declared.Request.the-variants.{Send, SendImmediate, Write, WriteImmediate, Read, CmpSwap, FetchAdd}
 use Rattle.pair.specs.declared.Setup.{Setup}
 use Rattle.table.specs.Table.{regionRow}
 use Rattle.table.specs.declared.Region.{Region}
-use Rattle.request.specs.Packet.{operandsOf}
-use Rattle.request.specs.Verdict.{rightOf}
-use Rattle.protocol.specs.Apply.{memoryBy}
-use Rattle.protocol.specs.declared.Decision.{Decision}
+use Rattle.request_spec.specs.Packet.{operandsOf}
+use Rattle.request_spec.specs.Verdict.{rightOf}
+use Rattle.responder_spec.specs.Apply.{memoryBy}
+use Rattle.responder_spec.specs.declared.Decision.{Decision}
 use Rattle.delivery.specs.Stream.{spanOf}
 use Rattle.delivery.specs.Plain.{needs, takes, told, completionFor, lies, landed, isRead}
 use Rattle.delivery.specs.Demand.{Lies, Allowed, AtLeast}

@@ -13,13 +13,13 @@ use Rattle.pair.specs.Calls.{Whole, called}
 use Rattle.pair.specs.Claims.{WholeSound}
 use Rattle.pair.specs.declared.Setup.{Setup}
 use Rattle.pair.specs.declared.Pair.{Pair}
-use Rattle.protocol.specs.Apply.{pairBy, executedPair}
-use Rattle.protocol.specs.Apply as apply
-use Rattle.protocol.specs.Inbound.{outcomeBy, inbound}
-use Rattle.protocol.specs.Response.{nextStatus, nextResponse}
-use Rattle.protocol.specs.Calls.{received, drained}
-use Rattle.protocol.specs.Kept.{Steady, InboundSteady, NextSteady, PostSteady}
-use Rattle.protocol.specs.declared.Decision.{Decision}
+use Rattle.responder_spec.specs.Apply.{pairBy, executedPair}
+use Rattle.responder_spec.specs.Apply as apply
+use Rattle.responder_spec.specs.Inbound.{outcomeBy, inbound}
+use Rattle.responder_spec.specs.Response.{nextStatus, nextResponse}
+use Rattle.responder_spec.specs.Calls.{received, drained}
+use Rattle.responder_spec.specs.Kept.{Steady, InboundSteady, NextSteady, PostSteady}
+use Rattle.responder_spec.specs.declared.Decision.{Decision}
 use Rattle.delivery.specs.Stream.{Message, Slot, slot, stream, packetAt}
 use Rattle.delivery.specs.Plain.{Plain, Call, account, plain, start}
 use Rattle.delivery.specs.Plain.Call.{Hand, Next, Post}

@@ -7,20 +7,20 @@ use native.Mathlib.Omega.{arith}
 use lib.Dec.{eqb}
 use lib.ListN.{length, drop}
 use borrow.Author.Tests.{eq-eqb, ne-eqb}
-use Rattle.pieces.specs.Pieces.{pieces}
-use Rattle.pieces.proofs.Counting.{counts, bounds}
+use Rattle.pmtu.specs.Pieces.{pieces}
+use Rattle.pmtu.proofs.Counting.{counts, bounds}
 use Rattle.table.specs.Table.{noRegion}
 use Rattle.table.specs.View.{inRing, regionOf}
 use Rattle.pair.specs.Answer.{statusNumber}
 use Rattle.pair.specs.declared.OpenMessage.{OpenMessage}
-use Rattle.segment.specs.Message.{messageLength}
-use Rattle.segment.specs.Claims.{kindNumber}
-use Rattle.segment.proofs.Shapes.{cut-one}
-use Rattle.request.specs.Verdict.{keySpan, spot, current}
-use Rattle.protocol.specs.Kept.{Steady}
-use Rattle.protocol.specs.Decide.{noCompletion, regionFor, accepting, swapping}
-use Rattle.protocol.specs.Apply.{memoryBy, readBy, entriesBy}
-use Rattle.protocol.specs.Calls.{reports}
+use Rattle.cut_spec.specs.Message.{messageLength}
+use Rattle.cut_spec.specs.Claims.{kindNumber}
+use Rattle.cut_spec.proofs.Shapes.{cut-one}
+use Rattle.request_spec.specs.Verdict.{keySpan, spot, current}
+use Rattle.responder_spec.specs.Kept.{Steady}
+use Rattle.responder_spec.specs.Decide.{noCompletion, regionFor, accepting, swapping}
+use Rattle.responder_spec.specs.Apply.{memoryBy, readBy, entriesBy}
+use Rattle.responder_spec.specs.Calls.{reports}
 use Rattle.delivery.specs.Stream.{Message, packetCount, Slot, slot, span, packetAt}
 use Rattle.delivery.specs.Plain.{Plain, lies, takes, completionFor, firstOf, needing, isLast, heldNow, waitingNow}
 use Rattle.delivery.specs.Demand.{Run, entryOf}

@@ -8,17 +8,17 @@ use native.Mathlib.Omega.{arith}
 use lib.Dec.{eqb, ltb}
 use lib.ListN.{length, getD}
 use borrow.Author.Tests.{lt-leb, eqb-false, ne-eqb, le-ltb}
-use Rattle.laws.proofs.Auto.{tests}
+use Rattle.lemmas.proofs.Auto.{tests}
 use Rattle.table.specs.Table.{addresses, pastTop, outside, regionRow, noRegion, keyRow}
 use Rattle.table.specs.View.{regionOf}
 use Rattle.table.specs.Claims.{RegionsSound, RegionFits}
 use Rattle.table.specs.declared.Region.{Region}
 use Rattle.pair.specs.declared.Setup.{Setup}
 use Rattle.pair.specs.declared.OpenMessage.{OpenMessage}
-use Rattle.request.specs.declared.Packet.{Packet}
+use Rattle.request_spec.specs.declared.Packet.{Packet}
 use Rattle.delivery.specs.Plain.{lies}
 use Rattle.delivery.specs.Demand.{Lies}
-use Rattle.request.specs.Verdict.{spot, outOfSequence, notEnabled, padEarly, overLimit, noneWaiting, entryOutside, keyFails, keyLacking, keySpan, rightOf, lacks, lengthsOff, current, requestCode, expectedCode}
+use Rattle.request_spec.specs.Verdict.{spot, outOfSequence, notEnabled, padEarly, overLimit, noneWaiting, entryOutside, keyFails, keyLacking, keySpan, rightOf, lacks, lengthsOff, current, requestCode, expectedCode}
 
 -- the checks before that of the entry, and those after
 pub record Before (s : Setup) (under : OpenMessage) (p : Packet) : Type 0 where

@@ -7,18 +7,18 @@ use native.Mathlib.Omega.{arith}
 use lib.Dec.{leb, eqb}
 use lib.ListN.{length, take}
 use borrow.Author.Tests.{eq-eqb, le-ltb}
-use Rattle.laws.proofs.Auto.{tests}
-use Rattle.pieces.proofs.Counting.{bounds}
+use Rattle.lemmas.proofs.Auto.{tests}
+use Rattle.pmtu.proofs.Counting.{bounds}
 use Rattle.memory.proofs.Put.{length-placed}
 use Rattle.memory.proofs.Words.{fetch-within, swap-within}
 use Rattle.table.specs.declared.Entry.{Entry}
 use Rattle.pair.specs.Claims.{SetupFit}
 use Rattle.pair.specs.declared.Setup.{Setup}
-use Rattle.protocol.specs.Apply.{memoryBy}
-use Rattle.protocol.specs.Inbound.{inboundMemory}
-use Rattle.protocol.specs.Kept.{Steady}
-use Rattle.protocol.specs.declared.Decision.{Decision}
-use Rattle.protocol.proofs.Kept.{inbound-steady, next-steady, post-steady}
+use Rattle.responder_spec.specs.Apply.{memoryBy}
+use Rattle.responder_spec.specs.Inbound.{inboundMemory}
+use Rattle.responder_spec.specs.Kept.{Steady}
+use Rattle.responder_spec.specs.declared.Decision.{Decision}
+use Rattle.responder_spec.proofs.Kept.{inbound-steady, next-steady, post-steady}
 use Rattle.delivery.specs.Stream.{Message, Slot, slot, stream, span, along}
 use Rattle.delivery.specs.Plain.{Plain, Call, none, firstOf, isRead, needing, isLast, heldNow, sending, adding, perform, account, plain, start}
 use Rattle.delivery.specs.Plain.Call.{Hand, Next, Post}

@@ -15,13 +15,13 @@ use Rattle.pair.specs.Calls.HostCall.{PostEntry}
 use Rattle.pair.specs.Calls.{Whole, called}
 use Rattle.pair.specs.Claims.{WholeSound}
 use Rattle.pair.specs.declared.Setup.{Setup}
-use Rattle.segment.specs.Claims.{InLimit, RequestWidths}
-use Rattle.segment.specs.declared.Request.{Request}
-use Rattle.segment.specs.declared.Request.the-variants.{Send, SendImmediate, Write, WriteImmediate, Read, CmpSwap, FetchAdd}
-use Rattle.protocol.specs.Inbound.{inbound, inboundMemory}
-use Rattle.protocol.specs.Response.{nextResponse}
-use Rattle.protocol.specs.Calls.{received, drained, reports}
-use Rattle.protocol.specs.declared.Completion.{Completion}
+use Rattle.cut_spec.specs.Claims.{InLimit, RequestWidths}
+use Rattle.cut_spec.specs.declared.Request.{Request}
+use Rattle.cut_spec.specs.declared.Request.the-variants.{Send, SendImmediate, Write, WriteImmediate, Read, CmpSwap, FetchAdd}
+use Rattle.responder_spec.specs.Inbound.{inbound, inboundMemory}
+use Rattle.responder_spec.specs.Response.{nextResponse}
+use Rattle.responder_spec.specs.Calls.{received, drained, reports}
+use Rattle.responder_spec.specs.declared.Completion.{Completion}
 use Rattle.delivery.specs.Stream.{Message, Slot, slot, stream, packetAt, along}
 use Rattle.delivery.specs.Plain.{Plain, Call, account, plain, start}
 use Rattle.delivery.specs.Plain.Call.{Hand, Next, Post}

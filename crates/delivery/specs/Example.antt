@@ -9,8 +9,8 @@ use Rattle.table.specs.declared.Region.{Region}
 use Rattle.pair.specs.Calls.HostCall.{AddRegion, PostEntry, MakeReady}
 use Rattle.pair.specs.Calls.{Whole, HostCall, begun, calledAll}
 use Rattle.pair.specs.declared.Setup.{Setup}
-use Rattle.segment.specs.declared.Request.{Request}
-use Rattle.segment.specs.declared.Request.the-variants.{Send, SendImmediate, Write, WriteImmediate, Read, CmpSwap, FetchAdd}
+use Rattle.cut_spec.specs.declared.Request.{Request}
+use Rattle.cut_spec.specs.declared.Request.the-variants.{Send, SendImmediate, Write, WriteImmediate, Read, CmpSwap, FetchAdd}
 use Rattle.delivery.specs.Stream.{Message, Slot, stream}
 use Rattle.delivery.specs.Plain.{Call, plain, start}
 use Rattle.delivery.specs.Demand.{Fresh, AllPermitted, LongEnough, AllLongEnough, waitingAt, run, Agree}

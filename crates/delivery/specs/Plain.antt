@@ -10,13 +10,13 @@ use Rattle.sequence.specs.declared.Psn.{Psn}
 use Rattle.sequence.specs.declared.Msn.{Msn}
 use Rattle.memory.specs.Memory.{put}
 use Rattle.memory.specs.Word.{fetchAdded, swapped}
-use Rattle.pieces.specs.Pieces.{pieceAt}
+use Rattle.pmtu.specs.Pieces.{pieceAt}
 use Rattle.table.specs.View.{regionOf}
 use Rattle.table.specs.declared.Entry.{Entry}
 use Rattle.pair.specs.declared.Setup.{Setup}
-use Rattle.segment.specs.declared.Request.{Request}
-use Rattle.segment.specs.declared.Request.the-variants.{Send, SendImmediate, Write, WriteImmediate, Read, CmpSwap, FetchAdd}
-use Rattle.protocol.specs.declared.Completion.{Completion}
+use Rattle.cut_spec.specs.declared.Request.{Request}
+use Rattle.cut_spec.specs.declared.Request.the-variants.{Send, SendImmediate, Write, WriteImmediate, Read, CmpSwap, FetchAdd}
+use Rattle.responder_spec.specs.declared.Completion.{Completion}
 use Rattle.delivery.specs.Stream.{packetCount, Slot, slot, span}
 
 -- k packets were executed; held is the entry of a SEND under way; r responses are still to send

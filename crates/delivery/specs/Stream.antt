@@ -3,13 +3,13 @@ use Prim.Native.Nat.{ℕ, zero, suc, _+_}
 use mathlib.Core.List.{List, [], _∷_, _++_}
 use lib.ListN.{length, getD}
 use Rattle.sequence.specs.declared.Psn.{Psn}
-use Rattle.pieces.specs.Pieces.{pieces}
-use Rattle.segment.specs.Message.{packetsOf}
-use Rattle.segment.specs.Next.{nextPsn}
-use Rattle.segment.specs.Cut.{cutBytes}
-use Rattle.segment.specs.declared.Connection.{Connection}
-use Rattle.segment.specs.declared.Request.{Request}
-use Rattle.segment.specs.declared.Request.the-variants.{Send, SendImmediate, Write, WriteImmediate, Read, CmpSwap, FetchAdd}
+use Rattle.pmtu.specs.Pieces.{pieces}
+use Rattle.cut_spec.specs.Message.{packetsOf}
+use Rattle.cut_spec.specs.Next.{nextPsn}
+use Rattle.cut_spec.specs.Cut.{cutBytes}
+use Rattle.cut_spec.specs.declared.Connection.{Connection}
+use Rattle.cut_spec.specs.declared.Request.{Request}
+use Rattle.cut_spec.specs.declared.Request.the-variants.{Send, SendImmediate, Write, WriteImmediate, Read, CmpSwap, FetchAdd}
 
 -- what is sent, to whom, and the bytes, if it has any
 pub record Message : Type 0 where

@@ -6,8 +6,8 @@ use mathlib.Core.Logic.{_⊎_, inl, inr}
 use native.Mathlib.Omega.{arith}
 use lib.Dec.{leb, ltb, eqb}
 use borrow.Author.Tests.{eqb-true, eqb-false, eq-eqb, ltb-true, ltb-false, lt-ltb, le-ltb, lt-leb}
-use Rattle.laws.proofs.Auto.{tests}
-use Rattle.laws.proofs.Tests.{or-left, or-right, neither}
+use Rattle.lemmas.proofs.Auto.{tests}
+use Rattle.lemmas.proofs.Tests.{or-left, or-right, neither}
 use Rattle.opcode.specs.Opcode.{ucHas}
 use Rattle.header.specs.Read.{badLength, otherService}
 use Rattle.header.specs.Check.{pkeysMatch, wrongService, isResponse, beyondService}

@@ -6,7 +6,7 @@ use mathlib.Core.Logic.{_⊎_, inl, inr}
 use native.Mathlib.Omega.{arith}
 use lib.Dec.{ltb, eqb}
 use borrow.Author.Tests.{eq-eqb, ne-eqb, lt-ltb}
-use Rattle.laws.proofs.Auto.{tests}
+use Rattle.lemmas.proofs.Auto.{tests}
 use Rattle.header.specs.Read.{readBy}
 use Rattle.header.specs.Check.{headerReason, admitted}
 use Rattle.header.specs.Drops.{FirstOf, FirstFails, DroppedBy}

@@ -6,7 +6,7 @@ use mathlib.Core.Logic.{_⊎_, inl, inr, ⊎-elim}
 use native.Mathlib.Omega.{arith}
 use lib.Dec.{eqb}
 use borrow.Author.Tests.{eqb-true, eqb-false, eq-eqb, ne-eqb, le-leb, leb-true}
-use Rattle.laws.proofs.Tests.{and-left, and-right, unnot}
+use Rattle.lemmas.proofs.Tests.{and-left, and-right, unnot}
 use Rattle.header.specs.Check.{fullMember, pkeysMatch}
 use Rattle.header.specs.Claims.{Matches, MatchesOnly}
 

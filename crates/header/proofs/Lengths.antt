@@ -6,7 +6,7 @@ use native.Mathlib.Omega.{arith}
 use lib.Dec.{eqb}
 use lib.ListN.{length, length-append}
 use borrow.Author.Tests.{eqb-true}
-use Rattle.laws.proofs.Tests.{and-left, and-right}
+use Rattle.lemmas.proofs.Tests.{and-left, and-right}
 use Rattle.opcode.specs.Opcode.{classOf, lengthOf}
 use Rattle.opcode.proofs.Classes.{class-length}
 use Rattle.header.specs.Write.{bthBytes, rethBytes, atomicBytes, aethBytes, extensionBytes, headerBytes, bthFits, widthsFit, followsBy, extensionFits, headerFits, headerLength}

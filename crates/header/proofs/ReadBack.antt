@@ -8,7 +8,7 @@ use lib.Dec.{leb}
 use lib.ListN.{length, take, drop, length-append}
 use lib.Seq.{take-at}
 use borrow.Author.Tests.{le-leb, lt-leb}
-use Rattle.laws.proofs.Numbers.{two-value, three-value, four-value, eight-value}
+use Rattle.lemmas.proofs.Numbers.{two-value, three-value, four-value, eight-value}
 use Rattle.opcode.specs.Opcode.{classOf, serviceOf}
 use Rattle.header.specs.Bytes.{bit, four, eight}
 use Rattle.header.specs.Read.{bthOf, rethOf, atomicOf, aethOf, extensionOf, headerOf, badLength, otherService, readReason, readHeader}

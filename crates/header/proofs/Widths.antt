@@ -5,7 +5,7 @@ use mathlib.Core.Bool.{Bool, true, false, not, _&&_}
 use native.Mathlib.Omega.{arith}
 use lib.Dec.{ltb, eqb}
 use borrow.Author.Tests.{lt-ltb, le-ltb, ltb-true, ltb-false, eq-eqb, eqb-true}
-use Rattle.laws.proofs.Tests.{and-left, and-right, unnot}
+use Rattle.lemmas.proofs.Tests.{and-left, and-right, unnot}
 use Rattle.opcode.specs.Opcode.{serviceOf}
 use Rattle.header.specs.Read.{otherService}
 use Rattle.header.specs.Write.{bthFits, rethFits, atomicFits, aethFits, immediateFits, rethImmediateFits, aethValueFits, widthsFit, followsBy, extensionFits}

@@ -7,8 +7,8 @@ use native.Mathlib.Omega.{arith}
 use lib.Dec.{leb}
 use lib.ListN.{length, getD, take, drop}
 use borrow.Author.Tests.{leb-true, leb-false}
-use Rattle.laws.proofs.Numbers.{two-bytes, three-bytes, four-bytes, four-below, high-half, low-half}
-use Rattle.laws.proofs.Lists.{elements, take-elements, elements-join}
+use Rattle.lemmas.proofs.Numbers.{two-bytes, three-bytes, four-bytes, four-below, high-half, low-half}
+use Rattle.lemmas.proofs.Lists.{elements, take-elements, elements-join}
 use Rattle.opcode.specs.Opcode.{classOf, lengthOf}
 use Rattle.opcode.proofs.Classes.{class-length, class-follows}
 use Rattle.header.specs.Bytes.{bit, Bytes, be2, be3, be4, be8, four, eight}

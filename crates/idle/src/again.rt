@@ -5,12 +5,12 @@ use crate::still::still;
 use pair::OpenMessage;
 use pair::Setup;
 use pair::Status;
-use protocol::Decision;
-use request::Packet;
+use responder_spec::Decision;
+use request_spec::Packet;
 use sequence::Psn;
 use table::Saved;
 ghost use mathlib.Core.Path.{_≡_};
-ghost use Rattle.protocol.specs.Decide.{psnBefore, againFails, atomicAgain, isAtomic};
+ghost use Rattle.responder_spec.specs.Decide.{psnBefore, againFails, atomicAgain, isAtomic};
 
 pub fn psn_before(psn: Psn) -> Psn
     ensures { λ r. ⌜ r ≡ psnBefore psn ⌝ }
@@ -28,11 +28,11 @@ fn wide(x: u32) -> usize
 pub fn again_fails(p: Packet, s: Setup, m: OpenMessage, expected: Psn, region: [u64; 7]) -> bool
     ensures { λ r. ⌜ r ≡ againFails p s m expected region ⌝ }
 {
-    let off = judge::not_enabled(s, opcode::READ);
+    let off = request_checks::not_enabled(s, opcode::READ);
     if off {
         return true;
     }
-    let long = judge::over_limit(m.length);
+    let long = request_checks::over_limit(m.length);
     if long {
         return true;
     }
@@ -42,12 +42,12 @@ pub fn again_fails(p: Packet, s: Setup, m: OpenMessage, expected: Psn, region: [
     if p.pad != 0 {
         return true;
     }
-    let lacking = judge::key_fails(s.memory, opcode::READ, m, region);
+    let lacking = request_checks::key_fails(s.memory, opcode::READ, m, region);
     if lacking {
         return true;
     }
     let behind = expected.distance(p.psn);
-    let count = pieces::count(m.length, s.pmtu);
+    let count = pmtu::count(m.length, s.pmtu);
     wide(behind) < count
 }
 

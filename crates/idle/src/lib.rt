@@ -12,7 +12,7 @@ pub use still::ahead;
 pub use still::no_completion;
 pub use still::quietly;
 ghost use mathlib.Core.Path.{_≡_};
-ghost use Rattle.protocol.specs.Decide.{regionFor};
+ghost use Rattle.responder_spec.specs.Decide.{regionFor};
 
 // The syndrome of every ACK.
 pub const ACK: u8 = 0x1f;

@@ -1,10 +1,10 @@
 // Decisions that execute nothing.
 use pair::Status;
-use protocol::Completion;
-use protocol::Decision;
+use responder_spec::Completion;
+use responder_spec::Decision;
 use sequence::Psn;
 ghost use mathlib.Core.Path.{_≡_};
-ghost use Rattle.protocol.specs.Decide.{noCompletion, still, quietly, acknowledging, aheadDecision};
+ghost use Rattle.responder_spec.specs.Decide.{noCompletion, still, quietly, acknowledging, aheadDecision};
 
 // Nothing completes.
 pub fn no_completion() -> Completion

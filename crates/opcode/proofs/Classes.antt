@@ -4,7 +4,7 @@ use mathlib.Core.Path.{_≡_, refl}
 use mathlib.Core.Bool.{Bool, true, false, cond}
 use native.Mathlib.Omega.{arith}
 use lib.Dec.{eqb, ltb}
-use Rattle.laws.proofs.Tests.{cond-le}
+use Rattle.lemmas.proofs.Tests.{cond-le}
 use Rattle.opcode.specs.Opcode.{serviceOf, lowOf, sendWriteFollows, followsOf, lengthOf, lowClass, reservedClass, ucHas, classOf}
 
 -- the header length is that of the headers that follow

@@ -6,7 +6,7 @@ use mathlib.Core.List.{List, _++_, append-assoc}
 use native.Mathlib.Omega.{arith}
 use lib.ListN.{length, drop, replicate, length-append, length-replicate}
 use borrow.Author.Tests.{ne-eqb}
-use Rattle.laws.proofs.Tests.{not-false}
+use Rattle.lemmas.proofs.Tests.{not-false}
 use Rattle.memory.specs.Memory.{placed}
 use Rattle.memory.proofs.Put.{placed-put, placed-placed, put-start}
 use Rattle.opcode.specs.Opcode.{classOf}

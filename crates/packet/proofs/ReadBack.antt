@@ -6,7 +6,7 @@ use mathlib.Core.List.{List, _++_, append-assoc}
 use native.Mathlib.Omega.{arith}
 use lib.ListN.{length, take, drop, replicate, length-append, length-replicate}
 use lib.Seq.{take-at, drop-at}
-use Rattle.laws.proofs.Tests.{not-false}
+use Rattle.lemmas.proofs.Tests.{not-false}
 use Rattle.header.specs.Read.{headerOf, readHeader}
 use Rattle.header.specs.Write.{headerBytes, headerFits, headerLength}
 use Rattle.header.specs.declared.Header.{Header}

@@ -9,7 +9,7 @@ use lib.Dec.{eqb, leb}
 use lib.ListN.{length, set, take, drop, length-append, take-append-drop}
 use lib.Seq.{take-append-le, drop-append-le}
 use borrow.Author.Tests.{le-leb, lt-leb, eq-eqb, ne-eqb, leb-true, leb-false, eqb-true, eqb-false}
-use Rattle.pieces.specs.Claims.{IsPmtu}
+use Rattle.pmtu.specs.Claims.{IsPmtu}
 use Rattle.table.specs.Table.{outside, entryRow, slotAt}
 use Rattle.table.specs.View.{ringFrom, oneMore}
 use Rattle.table.specs.Claims.{EntryFits}

@@ -6,12 +6,12 @@ use mathlib.Core.Logic.{_⊎_, inl, inr}
 use native.Mathlib.Omega.{arith}
 use lib.Dec.{eqb, ltb, leb}
 use borrow.Author.Tests.{le-ltb, lt-leb, eq-eqb, ne-eqb, ltb-false, leb-false, eqb-true, eqb-false}
-use Rattle.laws.proofs.Auto.{tests}
-use Rattle.laws.proofs.Tests.{or-left, or-right, neither}
+use Rattle.lemmas.proofs.Auto.{tests}
+use Rattle.lemmas.proofs.Tests.{or-left, or-right, neither}
 use Rattle.sequence.specs.Sequence.{space}
 use Rattle.header.specs.Read.{otherService}
-use Rattle.pieces.specs.Pieces.{pmtuFits, pieces}
-use Rattle.pieces.proofs.Counting.{pmtus}
+use Rattle.pmtu.specs.Pieces.{pmtuFits, pieces}
+use Rattle.pmtu.proofs.Counting.{pmtus}
 use Rattle.table.specs.Table.{addresses, outside, pastTop}
 use Rattle.pair.specs.declared.Setup.{Setup}
 use Rattle.pair.specs.declared.Pair.{Pair}

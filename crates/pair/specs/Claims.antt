@@ -6,8 +6,8 @@ use lib.Dec.{eqb}
 use mathlib.Core.List.{List, [], _∷_, _++_}
 use mathlib.Core.Logic.{_⊎_}
 use lib.ListN.{length, getD, set}
-use Rattle.pieces.specs.Pieces.{pieces}
-use Rattle.pieces.specs.Claims.{IsPmtu}
+use Rattle.pmtu.specs.Pieces.{pieces}
+use Rattle.pmtu.specs.Claims.{IsPmtu}
 use Rattle.table.specs.Table.{regionRow, entryRow, noRegion, slotAt}
 use Rattle.table.specs.View.{regionOf, newestSaved}
 use Rattle.table.specs.Claims.{RegionFits, EntryFits, Free, HasKey, First, RegionsSound, EntriesSound, SavedSound}

@@ -4,7 +4,7 @@ use mathlib.Core.Bool.{Bool, true, false, cond, not, _||_}
 use lib.Dec.{eqb, ltb, leb}
 use Rattle.sequence.specs.Sequence.{space}
 use Rattle.header.specs.Read.{otherService}
-use Rattle.pieces.specs.Pieces.{pmtuFits, pieces}
+use Rattle.pmtu.specs.Pieces.{pmtuFits, pieces}
 use Rattle.table.specs.Table.{outside, pastTop}
 use Rattle.pair.specs.declared.Setup.{Setup}
 use Rattle.pair.specs.declared.Pair.{Pair}

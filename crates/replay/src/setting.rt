@@ -45,7 +45,7 @@ fn post_entries(start: Pair, entries: &mut [[u64; 3]; 16]) -> Pair {
             offset: 2048 + 128 * i,
             length: 128,
         };
-        let o = host::post_entry(pair, entries, entry);
+        let o = host_calls::post_entry(pair, entries, entry);
         pair = o.pair;
         i += 1;
     }
@@ -55,12 +55,12 @@ fn post_entries(start: Pair, entries: &mut [[u64; 3]; 16]) -> Pair {
 // Makes the pair, with its tables. No call refuses these numbers; were the region refused, every packet would be too,
 // with 34, and no line would look like an answer to it.
 pub(crate) fn pair(regions: &mut [[u64; 7]; 16], entries: &mut [[u64; 3]; 16]) -> Pair {
-    let fresh = host::set_up(setup(), regions);
-    let added = host::add_region(fresh.pair, regions, region());
+    let fresh = host_calls::set_up(setup(), regions);
+    let added = host_calls::add_region(fresh.pair, regions, region());
     if added.number() != 0 {
-        return host::blank();
+        return host_calls::blank();
     }
     let posted = post_entries(fresh.pair, entries);
-    let ready = host::make_ready(posted);
+    let ready = host_calls::make_ready(posted);
     ready.pair
 }

@@ -11,9 +11,9 @@ use Rattle.header.specs.declared.Header.{Header}
 use Rattle.header.specs.declared.Answer.{Answer}
 use Rattle.header.specs.declared.Answer.the-variants.{Done}
 use Rattle.packet.specs.Packet.{packetWritten, packetOut}
-use Rattle.pieces.specs.Pieces.{partAt, pieceAt}
-use Rattle.pieces.specs.declared.Span.{Span}
-use Rattle.pieces.proofs.Cuts.{parts-within, part-of}
+use Rattle.pmtu.specs.Pieces.{partAt, pieceAt}
+use Rattle.pmtu.specs.declared.Span.{Span}
+use Rattle.pmtu.proofs.Cuts.{parts-within, part-of}
 use Rattle.pair.specs.Answer.{statusNumber, executed}
 use Rattle.pair.specs.Sound.{pairUnsound}
 use Rattle.pair.specs.Claims.{Sound}
@@ -22,13 +22,13 @@ use Rattle.pair.specs.declared.Status.{Status}
 use Rattle.pair.specs.declared.Status.the-variants as status
 use Rattle.pair.proofs.Tests.{tested}
 use Rattle.pair.proofs.Known.{one-number}
-use Rattle.protocol.specs.declared.Outcome.{Outcome}
-use Rattle.protocol.specs.Decide.{noCompletion}
-use Rattle.protocol.specs.Apply.{with}
-use Rattle.protocol.specs.Reply.{over}
-use Rattle.protocol.specs.Reads.{Answering}
-use Rattle.protocol.specs.Response.{indexOf, responsePayload, responseHeader, responseBytes, nextStatus, oneFewer, nextBytes, nextResponse, nextOut}
-use Rattle.protocol.proofs.Responses.{live, written}
+use Rattle.responder_spec.specs.declared.Outcome.{Outcome}
+use Rattle.responder_spec.specs.Decide.{noCompletion}
+use Rattle.responder_spec.specs.Apply.{with}
+use Rattle.responder_spec.specs.Reply.{over}
+use Rattle.responder_spec.specs.Reads.{Answering}
+use Rattle.responder_spec.specs.Response.{indexOf, responsePayload, responseHeader, responseBytes, nextStatus, oneFewer, nextBytes, nextResponse, nextOut}
+use Rattle.responder_spec.proofs.Responses.{live, written}
 use Rattle.header.specs.Write.{doneBytes}
 use Rattle.responder.specs.Unchanged.{unchanged, sending}
 

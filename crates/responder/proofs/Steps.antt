@@ -19,15 +19,15 @@ use Rattle.pair.specs.Answer.{statusNumber, executed}
 use Rattle.pair.specs.declared.Pair.{Pair}
 use Rattle.pair.specs.declared.Status.{Status}
 use Rattle.pair.specs.declared.Status.the-variants as status
-use Rattle.request.specs.Packet.{packetOf}
-use Rattle.protocol.specs.declared.Decision.{Decision}
-use Rattle.protocol.specs.declared.Outcome.{Outcome}
-use Rattle.protocol.specs.Decide.{quietly, packetDecision, orDrop, inboundRefusal, decided}
-use Rattle.protocol.specs.Apply.{memoryBy, actsAtomic, savedBy, after, pairBy}
-use Rattle.protocol.specs.Reply.{answerBytes, valueBy, over, outBy}
-use Rattle.protocol.specs.Inbound.{outcomeBy, decision, inbound, inboundMemory, inboundSaved, inboundOut}
-use Rattle.protocol.proofs.Rows.Quiet.{dropped, short, range, unfinished}
-use Rattle.protocol.proofs.Rows.{Quiet, passed, refusal-quiet}
+use Rattle.request_spec.specs.Packet.{packetOf}
+use Rattle.responder_spec.specs.declared.Decision.{Decision}
+use Rattle.responder_spec.specs.declared.Outcome.{Outcome}
+use Rattle.responder_spec.specs.Decide.{quietly, packetDecision, orDrop, inboundRefusal, decided}
+use Rattle.responder_spec.specs.Apply.{memoryBy, actsAtomic, savedBy, after, pairBy}
+use Rattle.responder_spec.specs.Reply.{answerBytes, valueBy, over, outBy}
+use Rattle.responder_spec.specs.Inbound.{outcomeBy, decision, inbound, inboundMemory, inboundSaved, inboundOut}
+use Rattle.responder_spec.proofs.Rows.Quiet.{dropped, short, range, unfinished}
+use Rattle.responder_spec.proofs.Rows.{Quiet, passed, refusal-quiet}
 use Rattle.decide.specs.Guard.{guarded}
 use Rattle.responder.specs.Unchanged.{unchanged, told}
 

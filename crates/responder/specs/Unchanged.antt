@@ -3,9 +3,9 @@ use Prim.Native.Nat.{ℕ}
 use Rattle.pair.specs.declared.Pair.{Pair}
 use Rattle.pair.specs.declared.Status.{Status}
 use Rattle.pair.specs.declared.Status.the-variants as status
-use Rattle.protocol.specs.Decide.{noCompletion}
-use Rattle.protocol.specs.declared.Decision.{Decision}
-use Rattle.protocol.specs.declared.Outcome.{Outcome}
+use Rattle.responder_spec.specs.Decide.{noCompletion}
+use Rattle.responder_spec.specs.declared.Decision.{Decision}
+use Rattle.responder_spec.specs.declared.Outcome.{Outcome}
 
 -- the pair as it is, and nothing sent
 abbrev pub unchanged : Status → Pair → Outcome

@@ -6,12 +6,12 @@ mod response;
 use header::HeaderRead;
 use pair::Pair;
 use pair::Status;
-use protocol::Decision;
-use protocol::Outcome;
+use responder_spec::Decision;
+use responder_spec::Outcome;
 pub use response::next_response;
 ghost use mathlib.Core.Path.{_≡_};
 ghost use lib.ListN.{length};
-ghost use Rattle.protocol.specs.Inbound.{inbound, inboundMemory, inboundSaved, inboundOut};
+ghost use Rattle.responder_spec.specs.Inbound.{inbound, inboundMemory, inboundSaved, inboundOut};
 ghost use Rattle.responder.specs.Unchanged.{unchanged, told};
 
 // An answer with which nothing changes, completes or is sent.

@@ -1,14 +1,14 @@
 // Refusals of the inbound call, before its packet is looked at.
-use host::sound::message_unsound;
-use host::sound::numbers_unsound;
-use host::sound::read_unsound;
-use host::sound::ring_unsound;
-use host::sound::setup_unsound;
+use host_calls::sound::message_unsound;
+use host_calls::sound::numbers_unsound;
+use host_calls::sound::read_unsound;
+use host_calls::sound::ring_unsound;
+use host_calls::sound::setup_unsound;
 use pair::Pair;
 use pair::Status;
 ghost use mathlib.Core.Path.{_≡_};
 ghost use Rattle.pair.specs.Sound.{pairUnsound};
-ghost use Rattle.protocol.specs.Decide.{readsFull, inboundRefusal};
+ghost use Rattle.responder_spec.specs.Decide.{readsFull, inboundRefusal};
 
 // Whether a READ is still being answered.
 fn reads_full(pair: Pair) -> bool
@@ -17,7 +17,7 @@ fn reads_full(pair: Pair) -> bool
     pair.read.remaining != 0
 }
 
-// The tests of host::sound::unsound, by numbers: a call with the pair would write it to memory for every packet.
+// The tests of host_calls::sound::unsound, by numbers: a call with the pair would write it to memory for every packet.
 fn unsound(pair: Pair) -> bool
     ensures { λ r. ⌜ r ≡ pairUnsound pair ⌝ }
 {

@@ -8,13 +8,13 @@ use pair::Pair;
 use pair::ReadAnswer;
 use pair::Setup;
 use pair::Status;
-use protocol::Outcome;
+use responder_spec::Outcome;
 ghost use mathlib.Core.Path.{_≡_};
 ghost use Prim.Native.Nat.{_+_, _≤_};
 ghost use lib.Dec.{ltb};
 ghost use lib.ListN.{length};
-ghost use Rattle.protocol.specs.Apply.{with};
-ghost use Rattle.protocol.specs.Response.{indexOf, responseOpcode, responseExtension, responseHeader, nextStatus, oneFewer, nextResponse, nextOut};
+ghost use Rattle.responder_spec.specs.Apply.{with};
+ghost use Rattle.responder_spec.specs.Response.{indexOf, responseOpcode, responseExtension, responseHeader, nextStatus, oneFewer, nextResponse, nextOut};
 ghost use Rattle.header.specs.Write.{doneBytes};
 ghost use Rattle.responder.specs.Unchanged.{sending};
 
@@ -42,7 +42,7 @@ fn next_status(pair: Pair, memory: usize, room: usize) -> Status
     if memory != pair.setup.memory {
         return Status::OutOfRange;
     }
-    let bad = host::sound::unsound(pair);
+    let bad = host_calls::sound::unsound(pair);
     if bad {
         return Status::OutOfRange;
     }
@@ -53,8 +53,8 @@ fn next_status(pair: Pair, memory: usize, room: usize) -> Status
 fn index_of(a: ReadAnswer, pmtu: usize) -> usize
     ensures { λ r. ⌜ r ≡ indexOf a pmtu ⌝ }
 {
-    let count = pieces::count(a.length, pmtu);
-    judge::less(count, a.remaining)
+    let count = pmtu::count(a.length, pmtu);
+    request_checks::less(count, a.remaining)
 }
 
 fn response_opcode(place: u8) -> u8
@@ -86,8 +86,8 @@ fn response_extension(place: u8, a: ReadAnswer) -> Extension
 fn response_header(s: Setup, a: ReadAnswer, i: usize, n: usize) -> Header
     ensures { λ r. ⌜ r ≡ responseHeader s a i n ⌝ }
 {
-    let count = pieces::count(a.length, s.pmtu);
-    let place = pieces::place(count, i);
+    let count = pmtu::count(a.length, s.pmtu);
+    let place = pmtu::place(count, i);
     let low = response_opcode(place);
     let psn = apply::psn_after(a.psn, i);
     let bth = apply::reply_bth(s, low, packet::pad(n), psn);
@@ -117,7 +117,7 @@ pub fn next_response(pair: Pair, mem: &[u8], out: &mut [u8]) -> Outcome
     let setup = pair.setup;
     let read = pair.read;
     let i = index_of(read, setup.pmtu);
-    let span = pieces::part(read.length, setup.pmtu, i);
+    let span = pmtu::part(read.length, setup.pmtu, i);
     let from = read.offset + span.start;
     let to = read.offset + span.end;
     let h = response_header(setup, read, i, span.end - span.start);
@@ -132,7 +132,7 @@ fn one_fewer(pair: Pair) -> Pair
     ensures { λ r. ⌜ r ≡ with pair (pair .state) (pair .mark) (oneFewer (pair .read)) ⌝ }
 {
     let mut read = pair.read;
-    read.remaining = judge::less(pair.read.remaining, 1);
+    read.remaining = request_checks::less(pair.read.remaining, 1);
     let mut next = pair;
     next.read = read;
     next

@@ -9,7 +9,7 @@ use lib.Dec.{eqb, ltb, leb}
 use lib.ListN.{length, getD, set, length-set}
 use lib.Seq.{getD-set-same, getD-set-other, set-out}
 use borrow.Author.Tests.{lt-ltb, le-ltb, lt-leb, ne-eqb, ltb-true, ltb-false, leb-false, eqb-true, eqb-false}
-use Rattle.laws.proofs.Tests.{or-left, or-right}
+use Rattle.lemmas.proofs.Tests.{or-left, or-right}
 use Rattle.table.specs.declared.Region.{Region}
 use Rattle.table.specs.Table.{addresses, outside, pastTop, regionOutside, regionRow, noRegion, sought, firstFrom, keyRow, freeRow, entryRow}
 use Rattle.table.specs.View.{regionOf}

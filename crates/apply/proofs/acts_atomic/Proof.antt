@@ -1,6 +1,6 @@
 use borrow.Author.Needs.{needs}
-use Rattle.laws.proofs.Auto.{tested}
-use Rattle.protocol.specs.Apply.{actsAtomic}
+use Rattle.lemmas.proofs.Auto.{tested}
+use Rattle.responder_spec.specs.Apply.{actsAtomic}
 use Rattle.apply.proofs.acts_atomic.Statement.{statement}
 use Rattle.apply.proofs.acts_atomic.Tie as tie
 

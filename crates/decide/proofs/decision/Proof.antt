@@ -15,7 +15,7 @@ use Rattle.decide.proofs.take.Reads as take-reads
 use Rattle.decide.proofs.unreliable_service.Reads as unreliable-service-reads
 use Rattle.idle.proofs.ahead.Reads as ahead-reads
 use Rattle.idle.proofs.quietly.Reads as quietly-reads
-use Rattle.judge.proofs.packet_of.Reads as packet-of-reads
+use Rattle.request_checks.proofs.packet_of.Reads as packet-of-reads
 
 -- src/lib.rt:154:9
 quietly-requires : tie.Need-quietly-requires

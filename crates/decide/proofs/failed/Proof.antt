@@ -1,5 +1,5 @@
 use borrow.Author.Tests.{eq-eqb, ne-eqb}
-use Rattle.protocol.specs.Decide.{failed}
+use Rattle.responder_spec.specs.Decide.{failed}
 use borrow.Author.Needs.{needs}
 use Rattle.decide.proofs.failed.Statement.{statement}
 use Rattle.decide.proofs.failed.Tie as tie

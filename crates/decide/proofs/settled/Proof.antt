@@ -2,7 +2,7 @@ use Prim.Native.Nat.{_<_, _^_}
 use mathlib.Core.Path.{sym, ap, subst, _∙_}
 use native.Mathlib.Omega.{arith}
 use borrow.Author.Needs.{needs}
-use Rattle.request.specs.Verdict.{expectedCode}
+use Rattle.request_spec.specs.Verdict.{expectedCode}
 use Rattle.decide.specs.Guard.{Executable}
 use Rattle.decide.specs.Either.{metBy, finished}
 use Rattle.decide.proofs.Places.{executable}
@@ -16,8 +16,8 @@ use Rattle.decide.proofs.refused.Reads as refused-reads
 use Rattle.decide.proofs.unreliable.early.Reads as early-reads
 use Rattle.decide.proofs.unreliable.met.Reads as met-reads
 use Rattle.idle.proofs.quietly.Reads as quietly-reads
-use Rattle.judge.proofs.current.Reads as current-reads
-use Rattle.judge.proofs.expected_code.Reads as expected-code-reads
+use Rattle.request_checks.proofs.current.Reads as current-reads
+use Rattle.request_checks.proofs.expected_code.Reads as expected-code-reads
 
 -- src/lib.rt:87:9
 early-requires : tie.Need-early-requires

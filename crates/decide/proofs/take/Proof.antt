@@ -5,7 +5,7 @@ use Rattle.decide.proofs.take.Reads as reads
 use Rattle.decide.proofs.take.Lts as lts
 use Rattle.decide.proofs.settled.Reads as settled-reads
 use Rattle.idle.proofs.region_for.Reads as region-for-reads
-use Rattle.judge.proofs.current.Reads as current-reads
+use Rattle.request_checks.proofs.current.Reads as current-reads
 use Rattle.table.proofs.slot.Reads as slot-reads
 
 -- src/lib.rt:117:9

@@ -1,5 +1,5 @@
 use borrow.Author.Needs.{needs}
-use Rattle.laws.proofs.Auto.{tested}
+use Rattle.lemmas.proofs.Auto.{tested}
 use Rattle.header.specs.Read.{badLength}
 use Rattle.decode.proofs.bad_length.Statement.{statement}
 use Rattle.decode.proofs.bad_length.Tie as tie

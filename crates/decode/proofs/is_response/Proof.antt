@@ -1,5 +1,5 @@
 use borrow.Author.Needs.{needs}
-use Rattle.laws.proofs.Auto.{tested}
+use Rattle.lemmas.proofs.Auto.{tested}
 use Rattle.header.specs.Check.{isResponse}
 use Rattle.decode.proofs.is_response.Statement.{statement}
 use Rattle.decode.proofs.is_response.Tie as tie

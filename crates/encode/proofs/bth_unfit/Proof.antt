@@ -1,7 +1,7 @@
 use Prim.Native.Nat.{_^_}
 use native.Mathlib.Omega.{arith}
 use borrow.Author.Tests.{lt-ltb, le-ltb, lt-leb, le-leb, eq-eqb, ne-eqb}
-use Rattle.laws.proofs.Tests.{not-ltb}
+use Rattle.lemmas.proofs.Tests.{not-ltb}
 use Rattle.header.specs.Write.{bthFits}
 use borrow.Author.Needs.{needs}
 use Rattle.encode.proofs.bth_unfit.Statement.{statement}

@@ -1,5 +1,5 @@
 use borrow.Author.Needs.{needs}
-use Rattle.laws.proofs.Auto.{tested}
+use Rattle.lemmas.proofs.Auto.{tested}
 use Rattle.header.specs.Read.{otherService}
 use Rattle.header.proofs.other_service.Statement.{statement}
 use Rattle.header.proofs.other_service.Tie as tie

@@ -1,5 +1,5 @@
 use borrow.Author.Needs.{needs}
-use Rattle.laws.proofs.Auto.{tested}
+use Rattle.lemmas.proofs.Auto.{tested}
 use Rattle.header.specs.Check.{pkeysMatch, fullMember}
 use Rattle.header.proofs.pkeys_match.Statement.{statement}
 use Rattle.header.proofs.pkeys_match.Tie as tie

@@ -1,5 +1,5 @@
 use borrow.Author.Tests.{eq-eqb, le-leb, le-ltb, lt-leb, lt-ltb, ne-eqb}
-use Rattle.protocol.specs.Decide.{regionFor}
+use Rattle.responder_spec.specs.Decide.{regionFor}
 use Rattle.table.specs.View.{regionOf}
 use borrow.Author.Needs.{needs}
 use Rattle.idle.proofs.region_for.Statement.{statement}

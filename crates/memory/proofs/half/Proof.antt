@@ -2,7 +2,7 @@ use Prim.Native.Nat.{suc, _+_}
 use mathlib.Core.Path.{_≡_, ap}
 use native.Mathlib.Omega.{arith}
 use lib.ListN.{getD}
-use Rattle.laws.proofs.Lists.{elements, take-elements}
+use Rattle.lemmas.proofs.Lists.{elements, take-elements}
 use Rattle.memory.specs.Word.{lowNumber}
 use borrow.Author.Needs.{needs}
 use Rattle.memory.proofs.half.Statement.{statement}

@@ -1,5 +1,5 @@
 use borrow.Author.Needs.{needs}
-use Rattle.laws.proofs.Auto.{tested}
+use Rattle.lemmas.proofs.Auto.{tested}
 use Rattle.opcode.specs.Opcode.{kindOf}
 use Rattle.opcode.proofs.kind_of.Statement.{statement}
 use Rattle.opcode.proofs.kind_of.Tie as tie

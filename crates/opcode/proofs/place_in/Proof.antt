@@ -1,5 +1,5 @@
 use borrow.Author.Needs.{needs}
-use Rattle.laws.proofs.Auto.{tested}
+use Rattle.lemmas.proofs.Auto.{tested}
 use Rattle.opcode.specs.Opcode.{placeIn}
 use Rattle.opcode.proofs.place_in.Statement.{statement}
 use Rattle.opcode.proofs.place_in.Tie as tie

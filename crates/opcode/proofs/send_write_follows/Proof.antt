@@ -1,5 +1,5 @@
 use borrow.Author.Needs.{needs}
-use Rattle.laws.proofs.Auto.{tested}
+use Rattle.lemmas.proofs.Auto.{tested}
 use Rattle.opcode.specs.Opcode.{sendWriteFollows}
 use Rattle.opcode.proofs.send_write_follows.Statement.{statement}
 use Rattle.opcode.proofs.send_write_follows.Tie as tie

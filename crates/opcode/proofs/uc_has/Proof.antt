@@ -1,5 +1,5 @@
 use borrow.Author.Needs.{needs}
-use Rattle.laws.proofs.Auto.{tested}
+use Rattle.lemmas.proofs.Auto.{tested}
 use Rattle.opcode.specs.Opcode.{ucHas}
 use Rattle.opcode.proofs.uc_has.Statement.{statement}
 use Rattle.opcode.proofs.uc_has.Tie as tie

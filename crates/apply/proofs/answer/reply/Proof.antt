@@ -1,5 +1,5 @@
 use borrow.Author.Tests.{lt-ltb, le-ltb, eq-eqb, ne-eqb}
-use Rattle.protocol.specs.Reply.{answerBytes, over}
+use Rattle.responder_spec.specs.Reply.{answerBytes, over}
 use borrow.Author.Needs.{needs}
 use Rattle.apply.proofs.answer.reply.Statement.{statement}
 use Rattle.apply.proofs.answer.reply.Tie as tie

@@ -1,5 +1,5 @@
 use borrow.Author.Tests.{eq-eqb, le-leb, le-ltb, lt-leb, lt-ltb, ne-eqb}
-use Rattle.protocol.specs.Apply.{after}
+use Rattle.responder_spec.specs.Apply.{after}
 use borrow.Author.Needs.{needs}
 use Rattle.apply.proofs.state.after.Statement.{statement}
 use Rattle.apply.proofs.state.after.Tie as tie

@@ -1,4 +1,4 @@
-use Rattle.protocol.specs.Apply.{entriesBy, ringTaken}
+use Rattle.responder_spec.specs.Apply.{entriesBy, ringTaken}
 use borrow.Author.Needs.{needs}
 use Rattle.apply.proofs.state.entries_by.Statement.{statement}
 use Rattle.apply.proofs.state.entries_by.Tie as tie

@@ -1,4 +1,4 @@
-use Rattle.protocol.specs.Apply.{executedPair}
+use Rattle.responder_spec.specs.Apply.{executedPair}
 use borrow.Author.Needs.{needs}
 use Rattle.apply.proofs.state.executed_pair.Statement.{statement}
 use Rattle.apply.proofs.state.executed_pair.Tie as tie

@@ -1,4 +1,4 @@
-use Rattle.protocol.specs.Apply.{msnBy}
+use Rattle.responder_spec.specs.Apply.{msnBy}
 use borrow.Author.Needs.{needs}
 use Rattle.apply.proofs.state.msn_by.Statement.{statement}
 use Rattle.apply.proofs.state.msn_by.Tie as tie

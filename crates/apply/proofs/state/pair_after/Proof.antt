@@ -1,4 +1,4 @@
-use Rattle.protocol.specs.Apply.{pairBy}
+use Rattle.responder_spec.specs.Apply.{pairBy}
 use borrow.Author.Needs.{needs}
 use Rattle.apply.proofs.state.pair_after.Statement.{statement}
 use Rattle.apply.proofs.state.pair_after.Tie as tie

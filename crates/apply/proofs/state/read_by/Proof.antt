@@ -1,6 +1,6 @@
 use borrow.Author.Needs.{needs}
-use Rattle.laws.proofs.Auto.{tested}
-use Rattle.protocol.specs.Apply.{readBy}
+use Rattle.lemmas.proofs.Auto.{tested}
+use Rattle.responder_spec.specs.Apply.{readBy}
 use Rattle.apply.proofs.state.read_by.Statement.{statement}
 use Rattle.apply.proofs.state.read_by.Tie as tie
 

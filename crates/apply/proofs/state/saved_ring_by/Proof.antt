@@ -1,4 +1,4 @@
-use Rattle.protocol.specs.Apply.{savedRingBy}
+use Rattle.responder_spec.specs.Apply.{savedRingBy}
 use borrow.Author.Needs.{needs}
 use Rattle.apply.proofs.state.saved_ring_by.Statement.{statement}
 use Rattle.apply.proofs.state.saved_ring_by.Tie as tie

@@ -1,5 +1,5 @@
 use borrow.Author.Tests.{eq-eqb, ne-eqb}
-use Rattle.protocol.specs.Decide.{duplicateDecision}
+use Rattle.responder_spec.specs.Decide.{duplicateDecision}
 use borrow.Author.Needs.{needs}
 use Rattle.decide.proofs.again.duplicate.Statement.{statement}
 use Rattle.decide.proofs.again.duplicate.Tie as tie
@@ -9,7 +9,7 @@ use Rattle.idle.proofs.psn_before.Reads as psn-before-reads
 use Rattle.decide.proofs.again.reread.Reads as reread-reads
 use Rattle.idle.proofs.acknowledging.Reads as acknowledging-reads
 use Rattle.idle.proofs.quietly.Reads as quietly-reads
-use Rattle.judge.proofs.carrying.Reads as carrying-reads
+use Rattle.request_checks.proofs.carrying.Reads as carrying-reads
 use Rattle.table.proofs.newest.Reads as newest-reads
 
 carrying-requires : tie.Need-carrying-requires

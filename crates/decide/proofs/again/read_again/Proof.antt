@@ -2,7 +2,7 @@ use Prim.Native.Nat.{_<_, _^_}
 use mathlib.Core.Path.{refl}
 use native.Mathlib.Omega.{arith}
 use Rattle.decide.proofs.Places.{own-spot, again-key}
-use Rattle.protocol.specs.Decide.{readAgain}
+use Rattle.responder_spec.specs.Decide.{readAgain}
 use borrow.Author.Needs.{needs}
 use Rattle.decide.proofs.again.read_again.Statement.{statement}
 use Rattle.decide.proofs.again.read_again.Tie as tie
@@ -11,7 +11,7 @@ use Rattle.decide.proofs.execute.reading.Reads as reading-reads
 use Rattle.decide.proofs.execute.spot.Reads as spot-reads
 use Rattle.pair.proofs.no_message.Reads as no-message-reads
 use Rattle.idle.proofs.quietly.Reads as quietly-reads
-use Rattle.pieces.proofs.count.Reads as count-reads
+use Rattle.pmtu.proofs.count.Reads as count-reads
 
 again-fails-requires : tie.Need-again-fails-requires
 again-fails-requires c κs = search needs

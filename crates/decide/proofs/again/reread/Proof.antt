@@ -6,7 +6,7 @@ use Rattle.decide.proofs.again.reread.Statement.{statement}
 use Rattle.decide.proofs.again.reread.Tie as tie
 use Rattle.decide.proofs.again.read_again.Reads as read-again-reads
 use Rattle.idle.proofs.region_for.Reads as region-for-reads
-use Rattle.judge.proofs.current.Reads as current-reads
+use Rattle.request_checks.proofs.current.Reads as current-reads
 
 current-requires : tie.Need-current-requires
 current-requires c κs = search needs

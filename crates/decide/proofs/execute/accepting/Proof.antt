@@ -1,10 +1,10 @@
-use Rattle.protocol.specs.Decide.{accepting}
+use Rattle.responder_spec.specs.Decide.{accepting}
 use borrow.Author.Needs.{needs}
 use Rattle.decide.proofs.execute.accepting.Statement.{statement}
 use Rattle.decide.proofs.execute.accepting.Tie as tie
 use Rattle.decide.proofs.execute.reading.Reads as reading-reads
 use Rattle.decide.proofs.execute.spot.Reads as spot-reads
-use Rattle.pieces.proofs.count.Reads as count-reads
+use Rattle.pmtu.proofs.count.Reads as count-reads
 
 spot-requires : tie.Need-spot-requires
 spot-requires c κs = search needs

@@ -1,5 +1,5 @@
 use borrow.Author.Needs.{needs}
-use Rattle.laws.proofs.Auto.{tested}
+use Rattle.lemmas.proofs.Auto.{tested}
 use Rattle.decide.proofs.execute.atomic_act.Statement.{statement}
 use Rattle.decide.proofs.execute.atomic_act.Tie as tie
 

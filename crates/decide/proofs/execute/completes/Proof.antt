@@ -1,10 +1,10 @@
-use Rattle.protocol.specs.Decide.{completes}
-use Rattle.request.specs.Verdict.{usesEntry}
+use Rattle.responder_spec.specs.Decide.{completes}
+use Rattle.request_spec.specs.Verdict.{usesEntry}
 use borrow.Author.Needs.{needs}
 use Rattle.decide.proofs.execute.completes.Statement.{statement}
 use Rattle.decide.proofs.execute.completes.Tie as tie
-use Rattle.judge.proofs.uses_entry.Reads as uses-entry-reads
-use Rattle.pieces.proofs.ends.Reads as ends-reads
+use Rattle.request_checks.proofs.uses_entry.Reads as uses-entry-reads
+use Rattle.pmtu.proofs.ends.Reads as ends-reads
 
 ends-requires : tie.Need-ends-requires
 ends-requires c κs = search needs

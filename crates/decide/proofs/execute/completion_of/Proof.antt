@@ -1,12 +1,12 @@
-use Rattle.protocol.specs.Decide.{completionOf}
-use Rattle.request.specs.Verdict.{netOf}
+use Rattle.responder_spec.specs.Decide.{completionOf}
+use Rattle.request_spec.specs.Verdict.{netOf}
 use borrow.Author.Needs.{needs}
 use Rattle.decide.proofs.execute.completion_of.Statement.{statement}
 use Rattle.decide.proofs.execute.completion_of.Tie as tie
 use Rattle.decide.proofs.execute.completes.Reads as completes-reads
 use Rattle.decide.proofs.execute.counted.Reads as counted-reads
 use Rattle.idle.proofs.no_completion.Reads as no-completion-reads
-use Rattle.judge.proofs.less.Reads as less-reads
+use Rattle.request_checks.proofs.less.Reads as less-reads
 
 completes-requires : tie.Need-completes-requires
 completes-requires c κs = search needs

@@ -1,4 +1,4 @@
-use Rattle.laws.proofs.Auto.{tested}
+use Rattle.lemmas.proofs.Auto.{tested}
 use borrow.Author.Needs.{needs}
 use Rattle.decide.proofs.execute.counted.Statement.{statement}
 use Rattle.decide.proofs.execute.counted.Tie as tie

@@ -12,7 +12,7 @@ use Rattle.decide.proofs.execute.numbers.Reads as numbers-reads
 use Rattle.decide.proofs.execute.placing.Reads as placing-reads
 use Rattle.decide.proofs.execute.swapping.Reads as swapping-reads
 use Rattle.idle.proofs.quietly.Reads as quietly-reads
-use Rattle.judge.proofs.carrying.Reads as carrying-reads
+use Rattle.request_checks.proofs.carrying.Reads as carrying-reads
 
 carrying-requires : tie.Need-carrying-requires
 carrying-requires c κs = search needs

@@ -1,9 +1,9 @@
-use Rattle.protocol.specs.Decide.{grown}
+use Rattle.responder_spec.specs.Decide.{grown}
 use borrow.Author.Needs.{needs}
 use Rattle.decide.proofs.execute.grown.Statement.{statement}
 use Rattle.decide.proofs.execute.grown.Tie as tie
 use Rattle.pair.proofs.no_message.Reads as no-message-reads
-use Rattle.pieces.proofs.ends.Reads as ends-reads
+use Rattle.pmtu.proofs.ends.Reads as ends-reads
 
 ends-requires : tie.Need-ends-requires
 ends-requires c κs = search needs

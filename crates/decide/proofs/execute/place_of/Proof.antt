@@ -2,14 +2,14 @@ use Prim.Native.Nat.{_<_}
 use native.Mathlib.Omega.{arith}
 use Rattle.decide.proofs.Places.{nowhere, at-spot, same-spot}
 use borrow.Author.Tests.{eq-eqb, ne-eqb}
-use Rattle.protocol.specs.Decide.{placeOf}
-use Rattle.request.specs.Verdict.{spot, keySpan}
+use Rattle.responder_spec.specs.Decide.{placeOf}
+use Rattle.request_spec.specs.Verdict.{spot, keySpan}
 use borrow.Author.Needs.{needs}
 use Rattle.decide.proofs.execute.place_of.Statement.{statement}
 use Rattle.decide.proofs.execute.place_of.Tie as tie
 use Rattle.decide.proofs.execute.spot.Reads as spot-reads
 use Rattle.decide.proofs.execute.wide.Reads as wide-reads
-use Rattle.judge.proofs.less.Reads as less-reads
+use Rattle.request_checks.proofs.less.Reads as less-reads
 
 wide-requires : tie.Need-wide-requires
 wide-requires c κs = search needs

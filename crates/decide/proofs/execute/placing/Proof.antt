@@ -1,5 +1,5 @@
-use Rattle.protocol.specs.Decide.{placing}
-use Rattle.request.specs.Verdict.{netOf}
+use Rattle.responder_spec.specs.Decide.{placing}
+use Rattle.request_spec.specs.Verdict.{netOf}
 use Rattle.decide.specs.Either.{answered}
 use borrow.Author.Needs.{needs}
 use Rattle.decide.proofs.execute.placing.Statement.{statement}
@@ -9,8 +9,8 @@ use Rattle.decide.proofs.execute.answer.Reads as answer-reads
 use Rattle.decide.proofs.execute.completion_of.Reads as completion-of-reads
 use Rattle.decide.proofs.execute.grown.Reads as grown-reads
 use Rattle.decide.proofs.execute.place_of.Reads as place-of-reads
-use Rattle.judge.proofs.less.Reads as less-reads
-use Rattle.pieces.proofs.ends.Reads as ends-reads
+use Rattle.request_checks.proofs.less.Reads as less-reads
+use Rattle.pmtu.proofs.ends.Reads as ends-reads
 
 less-requires : tie.Need-less-requires
 less-requires c κs = search needs

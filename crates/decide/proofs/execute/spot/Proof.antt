@@ -1,7 +1,7 @@
 use Prim.Native.Nat.{_<_}
 use native.Mathlib.Omega.{arith}
 use borrow.Author.Tests.{eq-eqb, ne-eqb}
-use Rattle.request.specs.Verdict.{spot}
+use Rattle.request_spec.specs.Verdict.{spot}
 use borrow.Author.Needs.{needs}
 use Rattle.decide.proofs.execute.spot.Statement.{statement}
 use Rattle.decide.proofs.execute.spot.Tie as tie

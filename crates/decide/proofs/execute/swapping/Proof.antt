@@ -1,4 +1,4 @@
-use Rattle.protocol.specs.Decide.{swapping}
+use Rattle.responder_spec.specs.Decide.{swapping}
 use borrow.Author.Needs.{needs}
 use Rattle.decide.proofs.execute.swapping.Statement.{statement}
 use Rattle.decide.proofs.execute.swapping.Tie as tie

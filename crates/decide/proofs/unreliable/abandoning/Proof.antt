@@ -1,5 +1,5 @@
 use borrow.Author.Tests.{eq-eqb, ne-eqb}
-use Rattle.protocol.specs.Decide.{abandoning}
+use Rattle.responder_spec.specs.Decide.{abandoning}
 use borrow.Author.Needs.{needs}
 use Rattle.decide.proofs.unreliable.abandoning.Statement.{statement}
 use Rattle.decide.proofs.unreliable.abandoning.Tie as tie

@@ -1,11 +1,11 @@
-use Rattle.protocol.specs.Decide.{closedBy}
+use Rattle.responder_spec.specs.Decide.{closedBy}
 use borrow.Author.Needs.{needs}
 use Rattle.decide.proofs.unreliable.closed_by.Statement.{statement}
 use Rattle.decide.proofs.unreliable.closed_by.Tie as tie
 use Rattle.decide.proofs.unreliable.closed_by.Reads as reads
 use Rattle.decide.proofs.unreliable.closed_by.Lts as lts
 use Rattle.pair.proofs.no_message.Reads as no-message-reads
-use Rattle.pieces.proofs.starts.Reads as starts-reads
+use Rattle.pmtu.proofs.starts.Reads as starts-reads
 
 -- src/unreliable.rt:48:9
 starts-requires : tie.Need-starts-requires

@@ -1,10 +1,10 @@
-use Rattle.protocol.specs.Decide.{orphaned}
+use Rattle.responder_spec.specs.Decide.{orphaned}
 use borrow.Author.Needs.{needs}
 use Rattle.decide.proofs.unreliable.orphaned.Statement.{statement}
 use Rattle.decide.proofs.unreliable.orphaned.Tie as tie
 use Rattle.decide.proofs.unreliable.orphaned.Reads as reads
 use Rattle.decide.proofs.unreliable.orphaned.Lts as lts
-use Rattle.pieces.proofs.starts.Reads as starts-reads
+use Rattle.pmtu.proofs.starts.Reads as starts-reads
 
 -- src/unreliable.rt:21:9
 starts-requires : tie.Need-starts-requires

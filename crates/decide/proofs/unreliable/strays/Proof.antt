@@ -1,11 +1,11 @@
 use borrow.Author.Tests.{eq-eqb, ne-eqb}
-use Rattle.protocol.specs.Decide.{strays}
+use Rattle.responder_spec.specs.Decide.{strays}
 use borrow.Author.Needs.{needs}
 use Rattle.decide.proofs.unreliable.strays.Statement.{statement}
 use Rattle.decide.proofs.unreliable.strays.Tie as tie
 use Rattle.decide.proofs.unreliable.strays.Reads as reads
 use Rattle.decide.proofs.unreliable.strays.Lts as lts
-use Rattle.pieces.proofs.starts.Reads as starts-reads
+use Rattle.pmtu.proofs.starts.Reads as starts-reads
 use Rattle.sequence.proofs.Psn.distance.Reads as distance-reads
 
 -- src/unreliable.rt:32:9

@@ -2,7 +2,7 @@ use Prim.Native.Nat.{_^_}
 use native.Mathlib.Omega.{arith}
 use borrow.Author.Tests.{lt-ltb}
 use Rattle.header.specs.Write.{aethFits}
-use Rattle.laws.proofs.Tests.{not-ltb}
+use Rattle.lemmas.proofs.Tests.{not-ltb}
 use Rattle.encode.proofs.width.aeth_unfit.Statement.{statement}
 use Rattle.encode.proofs.width.aeth_unfit.Tie as tie
 

@@ -2,7 +2,7 @@ use Rattle.header.specs.Write.{aethValueFits, aethFits}
 use Prim.Native.Nat.{_^_}
 use native.Mathlib.Omega.{arith}
 use borrow.Author.Tests.{lt-ltb}
-use Rattle.laws.proofs.Tests.{not-ltb, and-true}
+use Rattle.lemmas.proofs.Tests.{not-ltb, and-true}
 use Rattle.encode.proofs.width.aeth_value_unfit.Statement.{statement}
 use Rattle.encode.proofs.width.aeth_value_unfit.Tie as tie
 

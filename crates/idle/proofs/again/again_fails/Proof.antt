@@ -1,13 +1,13 @@
 use borrow.Author.Tests.{eq-eqb, ne-eqb}
-use Rattle.protocol.specs.Decide.{againFails}
+use Rattle.responder_spec.specs.Decide.{againFails}
 use borrow.Author.Needs.{needs}
 use Rattle.idle.proofs.again.again_fails.Statement.{statement}
 use Rattle.idle.proofs.again.again_fails.Tie as tie
 use Rattle.idle.proofs.again.wide.Reads as wide-reads
-use Rattle.judge.proofs.key_fails.Reads as key-fails-reads
-use Rattle.judge.proofs.not_enabled.Reads as not-enabled-reads
-use Rattle.judge.proofs.over_limit.Reads as over-limit-reads
-use Rattle.pieces.proofs.count.Reads as count-reads
+use Rattle.request_checks.proofs.key_fails.Reads as key-fails-reads
+use Rattle.request_checks.proofs.not_enabled.Reads as not-enabled-reads
+use Rattle.request_checks.proofs.over_limit.Reads as over-limit-reads
+use Rattle.pmtu.proofs.count.Reads as count-reads
 use Rattle.sequence.proofs.Psn.distance.Reads as distance-reads
 
 not-enabled-requires : tie.Need-not-enabled-requires

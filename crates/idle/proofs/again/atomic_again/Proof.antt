@@ -1,4 +1,4 @@
-use Rattle.protocol.specs.Decide.{quietly}
+use Rattle.responder_spec.specs.Decide.{quietly}
 use borrow.Author.Needs.{needs}
 use Rattle.idle.proofs.again.atomic_again.Statement.{statement}
 use Rattle.idle.proofs.again.atomic_again.Tie as tie

@@ -1,6 +1,6 @@
 use borrow.Author.Needs.{needs}
-use Rattle.laws.proofs.Auto.{tested}
-use Rattle.protocol.specs.Decide.{isAtomic}
+use Rattle.lemmas.proofs.Auto.{tested}
+use Rattle.responder_spec.specs.Decide.{isAtomic}
 use Rattle.idle.proofs.again.is_atomic.Statement.{statement}
 use Rattle.idle.proofs.again.is_atomic.Tie as tie
 

@@ -1,4 +1,4 @@
-use Rattle.protocol.specs.Decide.{psnBefore}
+use Rattle.responder_spec.specs.Decide.{psnBefore}
 use borrow.Author.Needs.{needs}
 use Rattle.idle.proofs.again.psn_before.Statement.{statement}
 use Rattle.idle.proofs.again.psn_before.Tie as tie

@@ -1,4 +1,4 @@
-use Rattle.protocol.specs.Decide.{acknowledging}
+use Rattle.responder_spec.specs.Decide.{acknowledging}
 use borrow.Author.Needs.{needs}
 use Rattle.idle.proofs.still.acknowledging.Statement.{statement}
 use Rattle.idle.proofs.still.acknowledging.Tie as tie

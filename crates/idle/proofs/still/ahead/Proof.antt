@@ -1,4 +1,4 @@
-use Rattle.protocol.specs.Decide.{aheadDecision}
+use Rattle.responder_spec.specs.Decide.{aheadDecision}
 use borrow.Author.Needs.{needs}
 use Rattle.idle.proofs.still.ahead.Statement.{statement}
 use Rattle.idle.proofs.still.ahead.Tie as tie

@@ -1,4 +1,4 @@
-use Rattle.protocol.specs.Decide.{quietly}
+use Rattle.responder_spec.specs.Decide.{quietly}
 use borrow.Author.Needs.{needs}
 use Rattle.idle.proofs.still.quietly.Statement.{statement}
 use Rattle.idle.proofs.still.quietly.Tie as tie

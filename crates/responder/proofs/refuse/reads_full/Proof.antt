@@ -1,6 +1,6 @@
 use borrow.Author.Needs.{needs}
-use Rattle.laws.proofs.Auto.{tested}
-use Rattle.protocol.specs.Decide.{readsFull}
+use Rattle.lemmas.proofs.Auto.{tested}
+use Rattle.responder_spec.specs.Decide.{readsFull}
 use Rattle.responder.proofs.refuse.reads_full.Statement.{statement}
 use Rattle.responder.proofs.refuse.reads_full.Tie as tie
 

@@ -1,5 +1,5 @@
 use borrow.Author.Tests.{eq-eqb, le-leb, le-ltb, lt-leb, lt-ltb, ne-eqb}
-use Rattle.protocol.specs.Decide.{inboundRefusal}
+use Rattle.responder_spec.specs.Decide.{inboundRefusal}
 use borrow.Author.Needs.{needs}
 use Rattle.responder.proofs.refuse.refusal.Statement.{statement}
 use Rattle.responder.proofs.refuse.refusal.Tie as tie

@@ -2,11 +2,11 @@ use Rattle.pair.specs.Sound.{pairUnsound}
 use borrow.Author.Needs.{needs}
 use Rattle.responder.proofs.refuse.unsound.Statement.{statement}
 use Rattle.responder.proofs.refuse.unsound.Tie as tie
-use Rattle.host.proofs.sound.message_unsound.Reads as message-unsound-reads
-use Rattle.host.proofs.sound.numbers_unsound.Reads as numbers-unsound-reads
-use Rattle.host.proofs.sound.read_unsound.Reads as read-unsound-reads
-use Rattle.host.proofs.sound.ring_unsound.Reads as ring-unsound-reads
-use Rattle.host.proofs.sound.setup_unsound.Reads as setup-unsound-reads
+use Rattle.host_calls.proofs.sound.message_unsound.Reads as message-unsound-reads
+use Rattle.host_calls.proofs.sound.numbers_unsound.Reads as numbers-unsound-reads
+use Rattle.host_calls.proofs.sound.read_unsound.Reads as read-unsound-reads
+use Rattle.host_calls.proofs.sound.ring_unsound.Reads as ring-unsound-reads
+use Rattle.host_calls.proofs.sound.setup_unsound.Reads as setup-unsound-reads
 
 setup-unsound-requires : tie.Need-setup-unsound-requires
 setup-unsound-requires c κs = search needs

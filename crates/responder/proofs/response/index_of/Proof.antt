@@ -1,4 +1,4 @@
-use Rattle.protocol.specs.Response.{indexOf}
+use Rattle.responder_spec.specs.Response.{indexOf}
 use borrow.Author.Needs.{needs}
 use Rattle.responder.proofs.response.index_of.Statement.{statement}
 use Rattle.responder.proofs.response.index_of.Tie as tie

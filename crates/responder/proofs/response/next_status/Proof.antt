@@ -1,5 +1,5 @@
 use borrow.Author.Tests.{eq-eqb, ne-eqb}
-use Rattle.protocol.specs.Response.{nextStatus}
+use Rattle.responder_spec.specs.Response.{nextStatus}
 use borrow.Author.Needs.{needs}
 use Rattle.responder.proofs.response.next_status.Statement.{statement}
 use Rattle.responder.proofs.response.next_status.Tie as tie

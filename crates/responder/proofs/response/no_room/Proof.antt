@@ -1,4 +1,4 @@
-use Rattle.judge.proofs.Sums.{over-left}
+use Rattle.request_checks.proofs.Sums.{over-left}
 use borrow.Author.Tests.{lt-ltb}
 use native.Mathlib.Omega.{arith}
 use mathlib.Core.Path.{sym}

@@ -1,6 +1,6 @@
 use borrow.Author.Needs.{needs}
-use Rattle.laws.proofs.Auto.{tested}
-use Rattle.protocol.specs.Response.{responseExtension}
+use Rattle.lemmas.proofs.Auto.{tested}
+use Rattle.responder_spec.specs.Response.{responseExtension}
 use Rattle.responder.proofs.response.response_extension.Statement.{statement}
 use Rattle.responder.proofs.response.response_extension.Tie as tie
 

@@ -1,8 +1,8 @@
-use Rattle.pieces.proofs.Cuts.{place-bound}
+use Rattle.pmtu.proofs.Cuts.{place-bound}
 use mathlib.Core.Path.{sym, subst}
 use Prim.Native.Nat.{_≤_}
-use Rattle.protocol.specs.Response.{responseHeader}
-use Rattle.protocol.specs.Reply.{replyHeader}
+use Rattle.responder_spec.specs.Response.{responseHeader}
+use Rattle.responder_spec.specs.Reply.{replyHeader}
 use borrow.Author.Needs.{needs}
 use Rattle.responder.proofs.response.response_header.Statement.{statement}
 use Rattle.responder.proofs.response.response_header.Tie as tie

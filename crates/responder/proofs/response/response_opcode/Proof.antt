@@ -1,5 +1,5 @@
-use Rattle.laws.proofs.Auto.{tested}
-use Rattle.protocol.specs.Response.{responseOpcode}
+use Rattle.lemmas.proofs.Auto.{tested}
+use Rattle.responder_spec.specs.Response.{responseOpcode}
 use borrow.Author.Needs.{needs}
 use Rattle.responder.proofs.response.response_opcode.Statement.{statement}
 use Rattle.responder.proofs.response.response_opcode.Tie as tie

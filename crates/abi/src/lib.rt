@@ -1,0 +1,231 @@
+// A pair and a header as words of 64 bits, the form in which other languages lend and get them.
+mod fields;
+mod rows;
+
+pub use fields::bth_from;
+pub use fields::bth_words;
+pub use fields::extension_from;
+pub use fields::extension_words;
+use pair::OpenMessage;
+use pair::Pair;
+use pair::ReadAnswer;
+use pair::Setup;
+pub use rows::regions_strange;
+use sequence::Msn;
+use sequence::Psn;
+use table::Ring;
+ghost use mathlib.Core.Path.{_≡_};
+ghost use mathlib.Core.Bool.{not, false, cond};
+ghost use Prim.Native.Nat.{_%_, _^_, _≤_};
+ghost use lib.Dec.{eqb};
+ghost use lib.ListN.{length};
+ghost use Rattle.abi_spec.specs.Words.{flag, eqWords, put};
+ghost use Rattle.abi_spec.specs.Pair.{setupOf, messageOf, readOf, pairOf, pairWords, strange};
+
+// How many words a pair has.
+pub const PAIR: usize = 30;
+
+pub(crate) fn low8(x: u64) -> u8
+    ensures { λ r. ⌜ r ≡ x % 2 ^ 8 ⌝ }
+{
+    (x % 256) as u8
+}
+
+pub(crate) fn low16(x: u64) -> u16
+    ensures { λ r. ⌜ r ≡ x % 2 ^ 16 ⌝ }
+{
+    (x % 65536) as u16
+}
+
+pub(crate) fn low32(x: u64) -> u32
+    ensures { λ r. ⌜ r ≡ x % 2 ^ 32 ⌝ }
+{
+    (x % 4294967296) as u32
+}
+
+pub(crate) fn flag(x: u64) -> bool
+    ensures { λ r. ⌜ r ≡ flag x ⌝ }
+{
+    x != 0
+}
+
+// What is left of `same` so far, after one word more.
+fn still(ok: bool, x: u64, y: u64) -> bool
+    ensures { λ r. ⌜ r ≡ cond (eqb x y) ok false ⌝ }
+{
+    if x != y {
+        return false;
+    }
+    ok
+}
+
+// Whether two lists of words are the same, their lengths too. It looks at all of them: a loop that may end early is not
+// unrolled.
+pub fn same(a: &[u64], b: &[u64]) -> bool
+    ensures { λ r. ⌜ r ≡ eqWords (now (a .entry)) (now (b .entry)) ⌝ }
+{
+    if a.len() != b.len() {
+        return false;
+    }
+    let mut ok = true;
+    let mut i = 0;
+    while i < b.len() {
+        ok = still(ok, a[i], b[i]);
+        i += 1;
+    }
+    ok
+}
+
+// Writes new over words of the same length; else nothing changes.
+pub fn put(words: &mut [u64], new: &[u64])
+    ensures { λ _. ⌜ now (words .exit) ≡ put (now (words .entry)) (now (new .entry)) ⌝ }
+{
+    if words.len() != new.len() {
+        return;
+    }
+    let mut i = 0;
+    while i < new.len() {
+        words[i] = new[i];
+        i += 1;
+    }
+}
+
+fn setup_of(w: &[u64]) -> Setup
+    requires { ⌜ 30 ≤ length (now w) ⌝ }
+    ensures { λ r. ⌜ r ≡ setupOf (now (w .entry)) ⌝ }
+{
+    let start = Psn(low32(w[4]));
+    Setup {
+        pmtu: w[0] as usize,
+        memory: w[1] as usize,
+        ours: low32(w[2]),
+        theirs: low32(w[3]),
+        start,
+        pkey: low16(w[5]),
+        service: low8(w[6]),
+        timer: low8(w[7]),
+        send: flag(w[8]),
+        write: flag(w[9]),
+        read: flag(w[10]),
+        atomic: flag(w[11]),
+    }
+}
+
+fn message_of(w: &[u64]) -> OpenMessage
+    requires { ⌜ 30 ≤ length (now w) ⌝ }
+    ensures { λ r. ⌜ r ≡ messageOf (now (w .entry)) ⌝ }
+{
+    OpenMessage {
+        kind: low8(w[12]),
+        placed: w[13] as usize,
+        address: w[14],
+        key: low32(w[15]),
+        length: w[16] as usize,
+    }
+}
+
+fn read_of(w: &[u64]) -> ReadAnswer
+    requires { ⌜ 30 ≤ length (now w) ⌝ }
+    ensures { λ r. ⌜ r ≡ readOf (now (w .entry)) ⌝ }
+{
+    let psn = Psn(low32(w[22]));
+    let msn = Msn(low32(w[23]));
+    ReadAnswer {
+        remaining: w[19] as usize,
+        offset: w[20] as usize,
+        length: w[21] as usize,
+        psn,
+        msn,
+    }
+}
+
+// The pair that the words say, each cut to its field; the blank pair where they are too few.
+pub fn pair_of(w: &[u64]) -> Pair
+    ensures { λ r. ⌜ r ≡ pairOf (now (w .entry)) ⌝ }
+{
+    if w.len() < PAIR {
+        return host_calls::blank();
+    }
+    let setup = setup_of(w);
+    let message = message_of(w);
+    let entries = Ring {
+        head: w[17] as usize,
+        count: w[18] as usize,
+    };
+    let read = read_of(w);
+    let saved = Ring {
+        head: w[24] as usize,
+        count: w[25] as usize,
+    };
+    let expected = Psn(low32(w[26]));
+    let msn = Msn(low32(w[27]));
+    Pair {
+        setup,
+        message,
+        entries,
+        read,
+        saved,
+        expected,
+        msn,
+        state: low8(w[28]),
+        mark: flag(w[29]),
+    }
+}
+
+// The words of a pair. As every number fits its field, they are not strange.
+pub fn pair_words(q: Pair) -> [u64; 30]
+    ensures { λ r. ⌜ r ≡ pairWords q ⌝ }
+    ensures { λ r. ⌜ strange r ≡ false ⌝ }
+{
+    let s = q.setup;
+    let m = q.message;
+    let e = q.entries;
+    let r = q.read;
+    let a = q.saved;
+    let start = s.start;
+    let psn = r.psn;
+    let answered = r.msn;
+    let expected = q.expected;
+    let msn = q.msn;
+    [
+        s.pmtu as u64,
+        s.memory as u64,
+        s.ours as u64,
+        s.theirs as u64,
+        start.0 as u64,
+        s.pkey as u64,
+        s.service as u64,
+        s.timer as u64,
+        s.send as u64,
+        s.write as u64,
+        s.read as u64,
+        s.atomic as u64,
+        m.kind as u64,
+        m.placed as u64,
+        m.address,
+        m.key as u64,
+        m.length as u64,
+        e.head as u64,
+        e.count as u64,
+        r.remaining as u64,
+        r.offset as u64,
+        r.length as u64,
+        psn.0 as u64,
+        answered.0 as u64,
+        a.head as u64,
+        a.count as u64,
+        expected.0 as u64,
+        msn.0 as u64,
+        q.state as u64,
+        q.mark as u64,
+    ]
+}
+
+// Whether words are not those of any pair: too few or too many, or one that does not fit its field.
+pub fn strange(w: &[u64]) -> bool
+    ensures { λ r. ⌜ r ≡ strange (now (w .entry)) ⌝ }
+{
+    let q = pair_of(w);
+    let own = pair_words(q);
+    !same(w, &own)
+}

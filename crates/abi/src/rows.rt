@@ -1,0 +1,41 @@
+// Rows of the table of regions whose numbers are out of range.
+ghost use mathlib.Core.Path.{_≡_};
+ghost use Rattle.abi_spec.specs.Rows.{rowStrange, strangeFrom};
+
+// Whether a row is neither free nor that of a region in memory.
+fn row_strange(row: [u64; 7], memory: u64) -> bool
+    ensures { λ r. ⌜ r ≡ rowStrange row memory ⌝ }
+{
+    if row[2] == 0 {
+        return false;
+    }
+    if 4294967296 <= row[0] {
+        return true;
+    }
+    if 1 < row[4] {
+        return true;
+    }
+    if 1 < row[5] {
+        return true;
+    }
+    if 1 < row[6] {
+        return true;
+    }
+    table::region_outside(row[1], row[2], row[3], memory)
+}
+
+// Whether some row is.
+pub fn regions_strange(regions: &[[u64; 7]; 16], memory: u64) -> bool
+    ensures { λ r. ⌜ r ≡ strangeFrom (now (regions .entry)) memory 0 16 ⌝ }
+{
+    let mut i: usize = 0;
+    while i < 16 {
+        let row = regions[i];
+        let bad = row_strange(row, memory);
+        if bad {
+            return true;
+        }
+        i = i + 1;
+    }
+    false
+}

@@ -1,0 +1,58 @@
+use Rattle.pmtu.proofs.Cuts.{parts-within}
+use Rattle.cut_spec.proofs.Steps.{bth-numbers, length-small, header-is}
+use Rattle.pmtu.proofs.Cuts.{place-bound}
+use Prim.Native.Nat.{_≤_}
+use mathlib.Core.Path.{sym, subst}
+use native.Mathlib.Omega.{arith}
+use borrow.Author.Needs.{needs}
+use Rattle.cut.proofs.header_at.Statement.{statement}
+use Rattle.cut.proofs.header_at.Tie as tie
+
+carried-length-requires : tie.Need-carried-length-requires
+carried-length-requires c κs = search needs
+
+count-requires : tie.Need-count-requires
+count-requires c κs = search needs
+
+place-requires : tie.Need-place-requires
+place-requires c κs = search needs
+
+part-requires : tie.Need-part-requires
+part-requires c κs = search needs
+
+low-for-requires : tie.Need-low-for-requires
+low-for-requires c κs = subst (λ x. x ≤ 4) (sym (c .before .place .ensures)) (place-bound _ _)
+
+sub-bth-at : tie.Need-sub-bth-at
+sub-bth-at c = subst (λ x. x .start ≤ x .end) (sym (c .before .before .part .ensures)) (parts-within _ _ _ .0)
+
+bth-at-requires : tie.Need-bth-at-requires
+bth-at-requires c κs = bth-numbers (c .before .before .before .before .before .before .args .connection) (c .before .before .before .before .before .before .args .request) (c .before .before .before .before .before .before .args .n) (c .before .before .before .before .before .before .args .first) (c .before .before .before .before .before .before .args .index) (c .before .before .before .before .before .before .pre) _ _ (subst (λ x. x ≤ 4) (sym (c .before .before .before .place .ensures)) (place-bound _ _)) (c .before .low-for .ensures)
+
+message-length-requires : tie.Need-message-length-requires
+message-length-requires c κs = search needs
+
+cast-extension-for : tie.Need-cast-extension-for
+cast-extension-for c = omega (arith, length-small (c .before .before .before .before .before .before .before .before .args .connection) (c .before .before .before .before .before .before .before .before .args .request) (c .before .before .before .before .before .before .before .before .args .n) (c .before .before .before .before .before .before .before .before .args .first) (c .before .before .before .before .before .before .before .before .args .index) (c .before .before .before .before .before .before .before .before .pre) _ (c .message-length .ensures))
+
+extension-for-requires : tie.Need-extension-for-requires
+extension-for-requires c κs = search needs
+
+returns : tie.Need-returns
+returns c = header-is (c .before .before .before .before .before .before .before .before .before .args .connection) (c .before .before .before .before .before .before .before .before .before .args .request) (c .before .before .before .before .before .before .before .before .before .args .n) (c .before .before .before .before .before .before .before .before .before .args .first) (c .before .before .before .before .before .before .before .before .before .args .index) _ _ _ _ _ _ _ _ (c .before .before .before .before .before .before .before .before .carried-length .ensures) (c .before .before .before .before .before .before .before .count .ensures) (c .before .before .before .before .before .before .place .ensures) (c .before .before .before .before .before .part .ensures) (c .before .before .before .before .low-for .ensures) (c .before .before .bth-at .ensures) (c .before .message-length .ensures) (c .extension-for .ensures)
+
+pub header-at-spec : {M : Type 1} → statement M
+header-at-spec =
+    tie.close
+    (tie.spec
+    carried-length-requires
+    count-requires
+    place-requires
+    part-requires
+    low-for-requires
+    sub-bth-at
+    bth-at-requires
+    message-length-requires
+    cast-extension-for
+    extension-for-requires
+    returns)

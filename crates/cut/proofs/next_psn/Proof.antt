@@ -1,0 +1,47 @@
+use Rattle.cut_spec.proofs.Steps.{count-passed}
+use native.Mathlib.Omega.{arith}
+use borrow.Author.Tests.{eq-eqb, le-leb, le-ltb, lt-leb, lt-ltb, ne-eqb}
+use Rattle.cut_spec.specs.Next.{nextAnswer, nextRefusal, followingBy, nextPsn, psnsOf}
+use borrow.Author.Needs.{needs}
+use Rattle.cut.proofs.next_psn.Statement.{statement}
+use Rattle.cut.proofs.next_psn.Tie as tie
+
+returns : tie.Need-returns
+unfolding nextAnswer nextRefusal followingBy nextPsn psnsOf
+returns c = simp (le-ltb _ _ (c .if1 .taken), le-leb _ _ (c .if1 .taken))
+
+message-length-requires : tie.Need-message-length-requires
+message-length-requires c κs = search needs
+
+length-refusal-requires : tie.Need-length-refusal-requires
+length-refusal-requires c κs = search needs
+
+returns-2 : tie.Need-returns-2
+unfolding nextAnswer nextRefusal followingBy nextPsn psnsOf
+returns-2 c = simp (lt-leb _ _ (c .before .before .before .if1 .left), lt-ltb _ _ (c .before .before .before .if1 .left), ← c .before .before .message-length .ensures, ← c .before .length-refusal .ensures, ne-eqb _ _ (c .if2 .taken))
+
+count-requires : tie.Need-count-requires
+count-requires c κs = search needs
+
+cast-after : tie.Need-cast-after
+cast-after c = omega (arith, count-passed _ (c .before .before .before .before .before .before .args .pmtu) _ _ (c .before .before .length-refusal .ensures) (c .before .if2 .left) (c .count .ensures))
+
+after-requires : tie.Need-after-requires
+after-requires c κs = search needs
+
+returns-3 : tie.Need-returns-3
+unfolding nextAnswer nextRefusal followingBy nextPsn psnsOf
+returns-3 c = simp (lt-leb _ _ (c .before .before .before .before .before .if1 .left), lt-ltb _ _ (c .before .before .before .before .before .if1 .left), ← c .before .before .before .before .message-length .ensures, ← c .before .before .before .length-refusal .ensures, eq-eqb _ _ (c .before .before .if2 .left), ← c .before .count .ensures, ← c .after .ensures)
+
+pub next-psn-spec : {M : Type 1} → statement M
+next-psn-spec =
+    tie.close
+    (tie.spec
+    returns
+    message-length-requires
+    length-refusal-requires
+    returns-2
+    count-requires
+    cast-after
+    after-requires
+    returns-3)

@@ -1,0 +1,37 @@
+use Rattle.header.specs.Write.{answerBy}
+use borrow.Author.Tests.{eq-eqb, ne-eqb}
+use Rattle.cut_spec.specs.Message.{packetsAnswer, packetsOf}
+use borrow.Author.Needs.{needs}
+use Rattle.cut.proofs.packets.Statement.{statement}
+use Rattle.cut.proofs.packets.Tie as tie
+
+message-length-requires : tie.Need-message-length-requires
+message-length-requires c κs = search needs
+
+length-refusal-requires : tie.Need-length-refusal-requires
+length-refusal-requires c κs = search needs
+
+returns : tie.Need-returns
+unfolding packetsAnswer packetsOf answerBy
+returns c = simp (← c .before .before .message-length .ensures, ← c .before .length-refusal .ensures, ne-eqb _ _ (c .if1 .taken))
+
+carried-length-requires : tie.Need-carried-length-requires
+carried-length-requires c κs = search needs
+
+count-requires : tie.Need-count-requires
+count-requires c κs = search needs
+
+returns-2 : tie.Need-returns-2
+unfolding packetsAnswer packetsOf answerBy
+returns-2 c = simp (← c .before .before .before .before .message-length .ensures, ← c .before .before .before .length-refusal .ensures, eq-eqb _ _ (c .before .before .if1 .left), ← c .before .carried-length .ensures, ← c .count .ensures)
+
+pub packets-spec : {M : Type 1} → statement M
+packets-spec =
+    tie.close
+    (tie.spec
+    message-length-requires
+    length-refusal-requires
+    returns
+    carried-length-requires
+    count-requires
+    returns-2)

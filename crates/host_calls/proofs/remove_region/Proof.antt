@@ -1,0 +1,31 @@
+use borrow.Author.Tests.{le-leb, le-ltb, lt-leb, lt-ltb}
+use Rattle.pair.specs.Host.{removeStatus, removeRegions}
+use Rattle.pair.specs.Answer.{executed, statusNumber}
+use borrow.Author.Needs.{needs}
+use Rattle.host_calls.proofs.remove_region.Statement.{statement}
+use Rattle.host_calls.proofs.remove_region.Tie as tie
+
+wide32-requires : tie.Need-wide32-requires
+wide32-requires c κs = search needs
+
+find-requires : tie.Need-find-requires
+find-requires c κs = search needs
+
+returns : tie.Need-returns
+unfolding removeStatus removeRegions executed statusNumber
+returns c = (simp (← c .before .before .wide32 .ensures, ← c .before .find .ensures .0, le-ltb _ _ (c .if1 .taken), le-leb _ _ (c .if1 .taken)), simp (← c .before .before .wide32 .ensures, ← c .before .find .ensures .0, le-ltb _ _ (c .if1 .taken), le-leb _ _ (c .if1 .taken)))
+
+mul-row : tie.Need-mul-row
+mul-row c = search needs
+
+element-set-from-row : tie.Need-element-set-from-row
+element-set-from-row c = search needs
+
+returns-2 : tie.Need-returns-2
+unfolding removeStatus removeRegions executed statusNumber
+returns-2 c = (simp (← c .before .before .wide32 .ensures, ← c .before .find .ensures .0, lt-leb _ _ (c .if1 .left), lt-ltb _ _ (c .if1 .left)), simp (← c .before .before .wide32 .ensures, ← c .before .find .ensures .0, lt-leb _ _ (c .if1 .left), lt-ltb _ _ (c .if1 .left)))
+
+pub remove-region-spec : {M : Type 1} → statement M
+remove-region-spec =
+    tie.close
+    (tie.spec wide32-requires find-requires returns mul-row element-set-from-row returns-2)

@@ -1,0 +1,54 @@
+use borrow.Author.Tests.{le-leb, le-ltb, lt-leb, lt-ltb}
+use Rattle.pair.specs.Host.{setUp, setUpRegions, setUpStatus}
+use Rattle.pair.specs.Answer.{executed, statusNumber}
+use borrow.Author.Needs.{needs}
+use Rattle.host_calls.proofs.set_up.Statement.{statement}
+use Rattle.host_calls.proofs.set_up.Tie as tie
+
+setup-unfit-requires : tie.Need-setup-unfit-requires
+setup-unfit-requires c κs = search needs
+
+blank-requires : tie.Need-blank-requires
+blank-requires c κs = search needs
+
+outcome-requires : tie.Need-outcome-requires
+outcome-requires c κs = search needs
+
+returns : tie.Need-returns
+unfolding setUp setUpRegions setUpStatus executed statusNumber
+returns c = (simp (← c .before .before .before .setup-unfit .ensures, c .before .before .if1 .taken, ← c .before .blank .ensures, ← c .outcome .ensures), simp (← c .before .before .before .setup-unfit .ensures, c .before .before .if1 .taken, ← c .before .blank .ensures, ← c .outcome .ensures))
+
+blank-requires-2 : tie.Need-blank-requires-2
+blank-requires-2 c κs = search needs
+
+outcome-requires-2 : tie.Need-outcome-requires-2
+outcome-requires-2 c κs = search needs
+
+returns-2 : tie.Need-returns-2
+unfolding setUp setUpRegions setUpStatus executed statusNumber
+returns-2 c = (simp (← c .before .before .before .before .before .setup-unfit .ensures, c .before .before .before .before .if1 .left, lt-leb _ _ (c .before .before .if2 .taken), lt-ltb _ _ (c .before .before .if2 .taken), ← c .before .blank2 .ensures, ← c .outcome2 .ensures), simp (← c .before .before .before .before .before .setup-unfit .ensures, c .before .before .before .before .if1 .left, lt-leb _ _ (c .before .before .if2 .taken), lt-ltb _ _ (c .before .before .if2 .taken), ← c .before .blank2 .ensures, ← c .outcome2 .ensures))
+
+fresh-requires : tie.Need-fresh-requires
+fresh-requires c κs = search needs
+
+outcome-requires-3 : tie.Need-outcome-requires-3
+outcome-requires-3 c κs = search needs
+
+returns-3 : tie.Need-returns-3
+unfolding setUp setUpRegions setUpStatus executed statusNumber
+returns-3 c = (simp (← c .before .before .before .before .before .before .setup-unfit .ensures, c .before .before .before .before .before .if1 .left, le-ltb _ _ (c .before .before .before .if2 .left), le-leb _ _ (c .before .before .before .if2 .left), ← c .before .fresh .ensures, ← c .outcome3 .ensures), simp (← c .before .before .before .before .before .before .setup-unfit .ensures, c .before .before .before .before .before .if1 .left, le-ltb _ _ (c .before .before .before .if2 .left), le-leb _ _ (c .before .before .before .if2 .left), ← c .before .fresh .ensures, ← c .outcome3 .ensures))
+
+pub set-up-spec : {M : Type 1} → statement M
+set-up-spec =
+    tie.close
+    (tie.spec
+    setup-unfit-requires
+    blank-requires
+    outcome-requires
+    returns
+    blank-requires-2
+    outcome-requires-2
+    returns-2
+    fresh-requires
+    outcome-requires-3
+    returns-3)

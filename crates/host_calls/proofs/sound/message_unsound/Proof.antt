@@ -1,0 +1,52 @@
+use borrow.Author.Tests.{eq-eqb, le-leb, le-ltb, lt-leb, lt-ltb, ne-eqb}
+use Rattle.pair.specs.Sound.{messageUnsound, writeUnsound}
+use borrow.Author.Needs.{needs}
+use Rattle.host_calls.proofs.sound.message_unsound.Statement.{statement}
+use Rattle.host_calls.proofs.sound.message_unsound.Tie as tie
+
+returns : tie.Need-returns
+unfolding messageUnsound writeUnsound
+returns c = simp (eq-eqb _ _ (c .if1 .taken))
+
+send-unsound-requires : tie.Need-send-unsound-requires
+send-unsound-requires c κs = search needs
+
+returns-2 : tie.Need-returns-2
+unfolding messageUnsound writeUnsound
+returns-2 c = simp (ne-eqb _ _ (c .before .before .if1 .left), eq-eqb _ _ (c .before .if2 .taken), ← c .send-unsound .ensures)
+
+returns-3 : tie.Need-returns-3
+unfolding messageUnsound writeUnsound
+returns-3 c = simp (ne-eqb _ _ (c .before .before .if1 .left), ne-eqb _ _ (c .before .if2 .left), ne-eqb _ _ (c .if3 .taken))
+
+returns-4 : tie.Need-returns-4
+unfolding messageUnsound writeUnsound
+returns-4 c = simp (ne-eqb _ _ (c .before .before .before .if1 .left), ne-eqb _ _ (c .before .before .if2 .left), eq-eqb _ _ (c .before .if3 .left), le-ltb _ _ (c .if4 .taken), le-leb _ _ (c .if4 .taken))
+
+returns-5 : tie.Need-returns-5
+unfolding messageUnsound writeUnsound
+returns-5 c = simp (ne-eqb _ _ (c .before .before .before .before .if1 .left), ne-eqb _ _ (c .before .before .before .if2 .left), eq-eqb _ _ (c .before .before .if3 .left), lt-leb _ _ (c .before .if4 .left), lt-ltb _ _ (c .before .if4 .left), lt-leb _ _ (c .if5 .taken), lt-ltb _ _ (c .if5 .taken))
+
+wide-requires : tie.Need-wide-requires
+wide-requires c κs = search needs
+
+past-top-requires : tie.Need-past-top-requires
+past-top-requires c κs = search needs
+
+returns-6 : tie.Need-returns-6
+unfolding messageUnsound writeUnsound
+returns-6 c = simp (ne-eqb _ _ (c .before .before .before .before .before .before .if1 .left), ne-eqb _ _ (c .before .before .before .before .before .if2 .left), eq-eqb _ _ (c .before .before .before .before .if3 .left), lt-leb _ _ (c .before .before .before .if4 .left), lt-ltb _ _ (c .before .before .before .if4 .left), le-ltb _ _ (c .before .before .if5 .left), le-leb _ _ (c .before .before .if5 .left), ← c .before .wide .ensures, ← c .past-top .ensures)
+
+pub message-unsound-spec : {M : Type 1} → statement M
+message-unsound-spec =
+    tie.close
+    (tie.spec
+    returns
+    send-unsound-requires
+    returns-2
+    returns-3
+    returns-4
+    returns-5
+    wide-requires
+    past-top-requires
+    returns-6)

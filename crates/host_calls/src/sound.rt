@@ -1,0 +1,178 @@
+// Pairs with a number out of its range, which no call makes.
+use crate::wide;
+use pair::Pair;
+use pair::Setup;
+use sequence::Msn;
+use sequence::Psn;
+ghost use mathlib.Core.Path.{_≡_};
+ghost use Rattle.table.specs.Table.{outside};
+ghost use Rattle.pair.specs.Sound.{setupUnfit, setupUnsound, ringUnsound, sendUnsound, messageUnsound, readUnsound, numbersUnsound, pairUnsound};
+
+fn outside(offset: usize, length: usize, memory: usize) -> bool
+    ensures { λ r. ⌜ r ≡ outside offset length memory ⌝ }
+{
+    table::outside(wide(offset), wide(length), wide(memory))
+}
+
+// Whether a number of the set-up is bad.
+pub fn setup_unfit(setup: Setup) -> bool
+    ensures { λ r. ⌜ r ≡ setupUnfit setup ⌝ }
+{
+    let pmtu = pmtu::pmtu_unfit(setup.pmtu);
+    if pmtu {
+        return true;
+    }
+    let service = header::other_service(setup.service);
+    if service {
+        return true;
+    }
+    if Psn::SPACE <= setup.ours {
+        return true;
+    }
+    if Psn::SPACE <= setup.theirs {
+        return true;
+    }
+    if Psn::SPACE <= setup.start.0 {
+        return true;
+    }
+    if setup.pkey % 32768 == 0 {
+        return true;
+    }
+    31 < setup.timer
+}
+
+// Whether no set-up accepts these numbers.
+pub fn setup_unsound(setup: Setup) -> bool
+    ensures { λ r. ⌜ r ≡ setupUnsound setup ⌝ }
+{
+    let unfit = setup_unfit(setup);
+    if unfit {
+        return true;
+    }
+    pair::LIMIT < setup.memory
+}
+
+// A table has 16 rows.
+pub fn ring_unsound(head: usize, count: usize) -> bool
+    ensures { λ r. ⌜ r ≡ ringUnsound head count ⌝ }
+{
+    if 16 <= head {
+        return true;
+    }
+    16 < count
+}
+
+// An open SEND holds an entry, and has placed no more than memory can have.
+fn send_unsound(placed: usize, entries: usize) -> bool
+    ensures { λ r. ⌜ r ≡ sendUnsound placed entries ⌝ }
+{
+    if entries == 0 {
+        return true;
+    }
+    pair::LIMIT < placed
+}
+
+// An open WRITE has bytes to come, within the limit, and its next byte has an address.
+pub fn message_unsound(kind: u8, placed: usize, address: u64, length: usize, entries: usize) -> bool
+    ensures { λ r. ⌜ r ≡ messageUnsound kind placed address length entries ⌝ }
+{
+    if kind == pair::CLOSED {
+        return false;
+    }
+    if kind == opcode::SEND {
+        return send_unsound(placed, entries);
+    }
+    if kind != opcode::WRITE {
+        return true;
+    }
+    if length <= placed {
+        return true;
+    }
+    if pair::LIMIT < length {
+        return true;
+    }
+    table::past_top(address, wide(placed))
+}
+
+// A read answer has no more responses to send than there are, lies in memory, and has numbers of 24 bits.
+pub fn read_unsound(
+    remaining: usize,
+    offset: usize,
+    length: usize,
+    psn: Psn,
+    msn: Msn,
+    pmtu: usize,
+    memory: usize,
+) -> bool
+    ensures { λ r. ⌜ r ≡ readUnsound remaining offset length (psn .0) (msn .0) pmtu memory ⌝ }
+{
+    if remaining == 0 {
+        return false;
+    }
+    if pmtu::count(length, pmtu) < remaining {
+        return true;
+    }
+    let off = outside(offset, length, memory);
+    if off {
+        return true;
+    }
+    if Psn::SPACE <= psn.0 {
+        return true;
+    }
+    16777216 <= msn.0
+}
+
+// The state is one of three, PSN and MSN have 24 bits.
+pub fn numbers_unsound(state: u8, expected: Psn, msn: Msn) -> bool
+    ensures { λ r. ⌜ r ≡ numbersUnsound state (expected .0) (msn .0) ⌝ }
+{
+    if 2 < state {
+        return true;
+    }
+    if Psn::SPACE <= expected.0 {
+        return true;
+    }
+    16777216 <= msn.0
+}
+
+// Whether some number of the pair is out of its range.
+pub fn unsound(pair: Pair) -> bool
+    ensures { λ r. ⌜ r ≡ pairUnsound pair ⌝ }
+{
+    let setup = pair.setup;
+    let a = setup_unsound(setup);
+    if a {
+        return true;
+    }
+    let b = numbers_unsound(pair.state, pair.expected, pair.msn);
+    if b {
+        return true;
+    }
+    let c = ring_unsound(pair.entries.head, pair.entries.count);
+    if c {
+        return true;
+    }
+    let d = ring_unsound(pair.saved.head, pair.saved.count);
+    if d {
+        return true;
+    }
+    let e = message_unsound(
+        pair.message.kind,
+        pair.message.placed,
+        pair.message.address,
+        pair.message.length,
+        pair.entries.count,
+    );
+    if e {
+        return true;
+    }
+    read_unsound(
+        pair.read.remaining,
+        pair.read.offset,
+        pair.read.length,
+        pair.read.psn,
+        pair.read.msn,
+        pair.setup.pmtu,
+        pair.setup.memory,
+    )
+}

@@ -1,0 +1,41 @@
+-- Bytes cut at the PMTU.
+use Prim.Native.Nat.{ℕ, zero, suc, _+_, _*_, _/_, _%_, min}
+use mathlib.Core.Bool.{Bool, cond, _||_}
+use mathlib.Core.List.{List, [], _++_}
+use lib.Dec.{leb, eqb}
+use lib.ListN.{take, drop}
+use Rattle.pmtu.specs.declared.Span.{Span}
+
+-- the PMTUs
+unfoldable pub pmtuFits : ℕ → Bool
+pmtuFits pmtu = eqb pmtu 256 || (eqb pmtu 512 || (eqb pmtu 1024 || (eqb pmtu 2048 || eqb pmtu 4096)))
+
+-- n bytes are 1 piece if n is 0, else n / PMTU, rounded up
+unfoldable pub pieces : ℕ → ℕ → ℕ
+pieces n pmtu = cond (eqb n 0) 1 (n / pmtu + cond (eqb (n % pmtu) 0) 0 1)
+
+-- the place of piece i of count, by its number in an opcode: the one piece is 4, Only; else the first is 0, First, the
+-- last 2, Last, and all others 1, Middle
+unfoldable pub placeAt : ℕ → ℕ → ℕ
+placeAt count i = cond (eqb count 1) 4 (cond (eqb i 0) 0 (cond (eqb (i + 1) count) 2 1))
+
+-- First, 0, and Middle, 1, are followed by more; Last, 2, and Only, 4, end the message
+unfoldable pub ends : ℕ → Bool
+ends place = leb 2 place
+
+-- First and Only begin it
+unfoldable pub starts : ℕ → Bool
+starts place = eqb place 0 || eqb place 4
+
+-- piece i of the bytes d: PMTU bytes, or as many as there are, from i x PMTU on
+unfoldable pub pieceAt : List ℕ → ℕ → ℕ → List ℕ
+pieceAt d pmtu i = take pmtu (drop (i * pmtu) d)
+
+-- the same by numbers: from where to where it goes in n bytes
+unfoldable pub partAt : ℕ → ℕ → ℕ → Span
+partAt n pmtu i = record { start = min (i * pmtu) n; end = min (i * pmtu + pmtu) n }
+
+-- k pieces from i on, put together
+unfoldable pub joined : (ℕ → List ℕ) → ℕ → ℕ → List ℕ
+joined piece i zero = []
+joined piece i (suc k) = piece i ++ joined piece (suc i) k

@@ -1,0 +1,83 @@
+use borrow.Author.Tests.{eq-eqb, le-leb, le-ltb, lt-leb, lt-ltb, ne-eqb}
+use Rattle.request_spec.specs.Verdict.{lacks}
+use borrow.Author.Needs.{needs}
+use Rattle.request_checks.proofs.key.lacks.Statement.{statement}
+use Rattle.request_checks.proofs.key.lacks.Tie as tie
+use Rattle.request_checks.proofs.key.past_end.Reads as past-end-reads
+use Rattle.request_checks.proofs.wide.Reads as wide-reads
+use Rattle.table.proofs.outside.Reads as outside-reads
+use Rattle.table.proofs.past_top.Reads as past-top-reads
+
+returns : tie.Need-returns
+unfolding lacks
+returns c = simp (eq-eqb _ _ (c .if1 .taken))
+
+array-read-outside : tie.Need-array-read-outside
+array-read-outside c = search needs
+
+array-read-outside-2 : tie.Need-array-read-outside-2
+array-read-outside-2 c = search needs
+
+wide-requires : tie.Need-wide-requires
+wide-requires c κs = search needs
+
+outside-requires : tie.Need-outside-requires
+outside-requires c κs = search needs
+
+returns-2 : tie.Need-returns-2
+unfolding lacks
+returns-2 c = simp (ne-eqb _ _ (c .before .before .before .if1 .left), ← c .before .before .wide .ensures, ← c .before .outside .ensures, c .if2 .taken)
+
+array-read-past-top : tie.Need-array-read-past-top
+array-read-past-top c = search needs
+
+array-read-past-top-2 : tie.Need-array-read-past-top-2
+array-read-past-top-2 c = search needs
+
+past-top-requires : tie.Need-past-top-requires
+past-top-requires c κs = search needs
+
+returns-3 : tie.Need-returns-3
+unfolding lacks
+returns-3 c = simp (ne-eqb _ _ (c .before .before .before .before .before .if1 .left), ← c .before .before .before .before .wide .ensures, ← c .before .before .before .outside .ensures, c .before .before .if2 .left, ← c .before .past-top .ensures, c .if3 .taken)
+
+array-read-if4 : tie.Need-array-read-if4
+array-read-if4 c = search needs
+
+returns-4 : tie.Need-returns-4
+unfolding lacks
+returns-4 c = simp (ne-eqb _ _ (c .before .before .before .before .before .before .if1 .left), ← c .before .before .before .before .before .wide .ensures, ← c .before .before .before .before .outside .ensures, c .before .before .before .if2 .left, ← c .before .before .past-top .ensures, c .before .if3 .left, lt-leb _ _ (c .if4 .taken), lt-ltb _ _ (c .if4 .taken))
+
+array-read-past-end : tie.Need-array-read-past-end
+array-read-past-end c = search needs
+
+array-read-past-end-2 : tie.Need-array-read-past-end-2
+array-read-past-end-2 c = search needs
+
+past-end-requires : tie.Need-past-end-requires
+past-end-requires c κs = search needs
+
+returns-5 : tie.Need-returns-5
+unfolding lacks
+returns-5 c = simp (ne-eqb _ _ (c .before .before .before .before .before .before .before .if1 .left), ← c .before .before .before .before .before .before .wide .ensures, ← c .before .before .before .before .before .outside .ensures, c .before .before .before .before .if2 .left, ← c .before .before .before .past-top .ensures, c .before .before .if3 .left, le-ltb _ _ (c .before .if4 .left), le-leb _ _ (c .before .if4 .left), ← c .past-end .ensures)
+
+pub lacks-spec : {M : Type 1} → statement M
+lacks-spec =
+    tie.close
+    (tie.spec
+    returns
+    array-read-outside
+    array-read-outside-2
+    wide-requires
+    outside-requires
+    returns-2
+    array-read-past-top
+    array-read-past-top-2
+    past-top-requires
+    returns-3
+    array-read-if4
+    returns-4
+    array-read-past-end
+    array-read-past-end-2
+    past-end-requires
+    returns-5)

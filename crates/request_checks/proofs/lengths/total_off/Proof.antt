@@ -1,0 +1,54 @@
+use borrow.Author.Tests.{eq-eqb, ne-eqb}
+use Rattle.request_spec.specs.Verdict.{totalOff}
+use borrow.Author.Needs.{needs}
+use Rattle.request_checks.proofs.lengths.total_off.Statement.{statement}
+use Rattle.request_checks.proofs.lengths.total_off.Tie as tie
+use Rattle.request_checks.proofs.lengths.no_more.Reads as no-more-reads
+use Rattle.request_checks.proofs.lengths.over.Reads as over-reads
+use Rattle.request_checks.proofs.lengths.unequal.Reads as unequal-reads
+use Rattle.request_checks.proofs.wide.Reads as wide-reads
+use Rattle.pmtu.proofs.ends.Reads as ends-reads
+
+wide-requires : tie.Need-wide-requires
+wide-requires c κs = search needs
+
+wide-requires-2 : tie.Need-wide-requires-2
+wide-requires-2 c κs = search needs
+
+over-requires : tie.Need-over-requires
+over-requires c κs = search needs
+
+returns : tie.Need-returns
+unfolding totalOff
+returns c = simp (eq-eqb _ _ (c .before .before .before .if1 .taken), ← c .before .before .wide .ensures, ← c .before .wide2 .ensures, ← c .over .ensures)
+
+ends-requires : tie.Need-ends-requires
+ends-requires c κs = search needs
+
+unequal-requires : tie.Need-unequal-requires
+unequal-requires c κs = search needs
+
+returns-2 : tie.Need-returns-2
+unfolding totalOff
+returns-2 c = simp (ne-eqb _ _ (c .before .before .before .if1 .left), ← c .before .before .ends .ensures, c .before .if2 .taken, ← c .unequal .ensures)
+
+no-more-requires : tie.Need-no-more-requires
+no-more-requires c κs = search needs
+
+returns-3 : tie.Need-returns-3
+unfolding totalOff
+returns-3 c = simp (ne-eqb _ _ (c .before .before .before .if1 .left), ← c .before .before .ends .ensures, c .before .if2 .left, ← c .no-more .ensures)
+
+pub total-off-spec : {M : Type 1} → statement M
+total-off-spec =
+    tie.close
+    (tie.spec
+    wide-requires
+    wide-requires-2
+    over-requires
+    returns
+    ends-requires
+    unequal-requires
+    returns-2
+    no-more-requires
+    returns-3)

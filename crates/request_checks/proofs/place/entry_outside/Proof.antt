@@ -1,0 +1,42 @@
+use Rattle.request_spec.specs.Verdict.{entryOutside}
+use borrow.Author.Needs.{needs}
+use Rattle.request_checks.proofs.place.entry_outside.Statement.{statement}
+use Rattle.request_checks.proofs.place.entry_outside.Tie as tie
+use Rattle.request_checks.proofs.place.uses_entry.Reads as uses-entry-reads
+use Rattle.request_checks.proofs.wide.Reads as wide-reads
+use Rattle.table.proofs.outside.Reads as outside-reads
+
+uses-entry-requires : tie.Need-uses-entry-requires
+uses-entry-requires c κs = search needs
+
+array-read-outside : tie.Need-array-read-outside
+array-read-outside c = search needs
+
+array-read-outside-2 : tie.Need-array-read-outside-2
+array-read-outside-2 c = search needs
+
+wide-requires : tie.Need-wide-requires
+wide-requires c κs = search needs
+
+outside-requires : tie.Need-outside-requires
+outside-requires c κs = search needs
+
+returns : tie.Need-returns
+unfolding entryOutside
+returns c = simp (← c .before .before .before .uses-entry .ensures, c .before .before .if1 .taken, ← c .before .wide .ensures, ← c .outside .ensures)
+
+returns-2 : tie.Need-returns-2
+unfolding entryOutside
+returns-2 c = simp (← c .before .uses-entry .ensures, c .if1 .left)
+
+pub entry-outside-spec : {M : Type 1} → statement M
+entry-outside-spec =
+    tie.close
+    (tie.spec
+    uses-entry-requires
+    array-read-outside
+    array-read-outside-2
+    wide-requires
+    outside-requires
+    returns
+    returns-2)

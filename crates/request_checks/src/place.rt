@@ -1,0 +1,74 @@
+// The checks of a packet's place in its message, its pad and its receive entry.
+use crate::less;
+use crate::wide;
+ghost use mathlib.Core.Path.{_≡_};
+ghost use Rattle.request_spec.specs.Verdict.{outOfSequence, padEarly, needsEntry, entriesWaiting, noneWaiting, usesEntry, entryOutside};
+
+pub(crate) fn out_of_sequence(under: u8, kind: u8, place: u8) -> bool
+    ensures { λ r. ⌜ r ≡ outOfSequence under kind place ⌝ }
+{
+    let begins = pmtu::starts(place);
+    if begins {
+        return under != pair::CLOSED;
+    }
+    under != kind
+}
+
+pub(crate) fn pad_early(place: u8, pad: usize) -> bool
+    ensures { λ r. ⌜ r ≡ padEarly place pad ⌝ }
+{
+    let last = pmtu::ends(place);
+    if last {
+        return false;
+    }
+    pad != 0
+}
+
+fn needs_entry(kind: u8, place: u8, immediate: bool) -> bool
+    ensures { λ r. ⌜ r ≡ needsEntry kind place immediate ⌝ }
+{
+    if kind == opcode::SEND {
+        return pmtu::starts(place);
+    }
+    immediate
+}
+
+// Of the entries those that wait: an open SEND holds one.
+fn entries_waiting(under: u8, count: usize) -> usize
+    ensures { λ r. ⌜ r ≡ entriesWaiting under count ⌝ }
+{
+    if under == opcode::SEND {
+        return less(count, 1);
+    }
+    count
+}
+
+pub(crate) fn none_waiting(kind: u8, place: u8, immediate: bool, under: u8, count: usize) -> bool
+    ensures { λ r. ⌜ r ≡ noneWaiting kind place immediate under count ⌝ }
+{
+    let needs = needs_entry(kind, place, immediate);
+    if needs {
+        return entries_waiting(under, count) == 0;
+    }
+    false
+}
+
+// Whether a packet uses the entry at the head: a SEND's, or one with an immediate.
+pub fn uses_entry(kind: u8, immediate: bool) -> bool
+    ensures { λ r. ⌜ r ≡ usesEntry kind immediate ⌝ }
+{
+    if kind == opcode::SEND {
+        return true;
+    }
+    immediate
+}
+
+pub(crate) fn entry_outside(kind: u8, immediate: bool, entry: [u64; 3], memory: usize) -> bool
+    ensures { λ r. ⌜ r ≡ entryOutside kind immediate entry memory ⌝ }
+{
+    let uses = uses_entry(kind, immediate);
+    if uses {
+        return table::outside(entry[1], entry[2], wide(memory));
+    }
+    false
+}

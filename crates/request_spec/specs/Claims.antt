@@ -1,0 +1,269 @@
+-- What is proved of the request checks, each statement by a name; the proofs stand in proofs/.
+-- Every condition is listed here once more, by numbers, and not by the test that the checks make.
+use Prim.Native.Nat.{ℕ, _+_, _-_, _%_, _^_, _≤_, _<_}
+use mathlib.Core.Path.{_≡_}
+use mathlib.Core.Bool.{Bool, true, false}
+use mathlib.Core.List.{List}
+use mathlib.Core.Logic.{_⊎_}
+use lib.ListN.{getD}
+use Rattle.header.specs.Bytes.{be4}
+use Rattle.header.specs.Read.{bthOf, rethOf, atomicOf, headerOf}
+use Rattle.opcode.specs.Opcode.{classOf}
+use Rattle.pair.specs.declared.Setup.{Setup}
+use Rattle.pair.specs.declared.OpenMessage.{OpenMessage}
+use Rattle.request_spec.specs.declared.Operands.{Operands}
+use Rattle.request_spec.specs.declared.Packet.{Packet}
+use Rattle.request_spec.specs.Packet.{packetOf}
+use Rattle.request_spec.specs.Verdict.{outOfSequence, notEnabled, padEarly, overLimit, noneWaiting, entryOutside, keyFails, lengthsOff, current, expectedCode}
+
+-- Places: 0 First, 1 Middle, 2 Last, 4 Only. First and Only begin a message, Middle and Last go on with one; First and
+-- Middle are followed by more, Last and Only end it.
+abbrev pub Begins : ℕ → Type 0
+Begins place = (place ≡ 0) ⊎ (place ≡ 4)
+
+abbrev pub GoesOn : ℕ → Type 0
+GoesOn place = (place ≡ 1) ⊎ (place ≡ 2)
+
+abbrev pub HasMore : ℕ → Type 0
+HasMore place = (place ≡ 0) ⊎ (place ≡ 1)
+
+abbrev pub Ends : ℕ → Type 0
+Ends place = (place ≡ 2) ⊎ (place ≡ 4)
+
+abbrev pub Place : ℕ → Type 0
+Place place = Begins place ⊎ GoesOn place
+
+-- Kinds: 0 SEND, 6 WRITE, 12 READ, 19 CmpSwap, 20 FetchAdd. These are all that are ever served.
+abbrev pub Carries : ℕ → Type 0
+Carries kind = (kind ≡ 0) ⊎ (kind ≡ 6)
+
+abbrev pub IsAtomic : ℕ → Type 0
+IsAtomic kind = (kind ≡ 19) ⊎ (kind ≡ 20)
+
+abbrev pub Served : ℕ → Type 0
+Served kind = Carries kind ⊎ ((kind ≡ 12) ⊎ IsAtomic kind)
+
+-- In sequence: what begins a message comes with none open, 255, and what goes on with one comes in one of its kind.
+pub record InSequence (under kind place : ℕ) : Type 0 where
+  pub begins : Begins place → under ≡ 255
+  pub onward : GoesOn place → under ≡ kind
+
+-- The function is one of four, and it is on.
+abbrev pub Enabled : Setup → ℕ → Type 0
+Enabled s kind =
+    ((kind ≡ 0) × (s .send ≡ true))
+    ⊎ (((kind ≡ 6) × (s .write ≡ true))
+    ⊎ (((kind ≡ 12) × (s .read ≡ true))
+    ⊎ (IsAtomic kind × (s .atomic ≡ true))))
+
+-- There is pad at the end of a message only.
+abbrev pub PadAtEnd : ℕ → ℕ → Type 0
+PadAtEnd place pad = HasMore place → pad ≡ 0
+
+abbrev pub WithinLimit : ℕ → Type 0
+WithinLimit length = length ≤ 1048576
+
+-- A SEND takes an entry when it begins, a WRITE with its immediate; no other kind has an immediate.
+abbrev pub TakesEntry : ℕ → ℕ → Bool → Type 0
+TakesEntry kind place immediate = ((kind ≡ 0) × Begins place) ⊎ ((kind ≡ 0 → ⊥) × (immediate ≡ true))
+
+-- An entry waits: one, or where an open SEND holds one, another.
+pub record Waits (under count : ℕ) : Type 0 where
+  pub held : under ≡ 0 → 2 ≤ count
+  pub free : (under ≡ 0 → ⊥) → 1 ≤ count
+
+abbrev pub EntryWaits : ℕ → ℕ → Bool → ℕ → ℕ → Type 0
+EntryWaits kind place immediate under count = TakesEntry kind place immediate → Waits under count
+
+-- The entry of a SEND, or of an immediate, lies in memory. A row is number, offset, length.
+abbrev pub EntryInMemory : ℕ → Bool → List ℕ → ℕ → Type 0
+EntryInMemory kind immediate entry memory =
+    (kind ≡ 0) ⊎ (immediate ≡ true)
+    → getD entry 1 0 + getD entry 2 0 ≤ memory
+
+-- A region gives n bytes at an address: the right in that column is there, the region lies in memory and ends below 2^64, the bytes lie in it.
+-- A row is key, address, length, offset and the rights to write, 4, to read, 5, and to atomics, 6.
+pub record Gives (region : List ℕ) (right memory address n : ℕ) : Type 0 where
+  pub granted : 0 < getD region right 0
+  pub within : getD region 3 0 + getD region 2 0 ≤ memory
+  pub top : getD region 1 0 + getD region 2 0 < 2 ^ 64
+  pub from : getD region 1 0 ≤ address
+  pub to : address + n ≤ getD region 1 0 + getD region 2 0
+
+-- So it does for a message's bytes still to come, if there are any.
+abbrev pub GivesRest : List ℕ → ℕ → ℕ → OpenMessage → Type 0
+GivesRest region right memory m =
+    0 < m .length - m .placed
+    → Gives region right memory (m .address + m .placed) (m .length - m .placed)
+
+-- The key is good: a SEND has none.
+pub record KeyGood (kind memory : ℕ) (m : OpenMessage) (region : List ℕ) : Type 0 where
+  pub writes : kind ≡ 6 → GivesRest region 4 memory m
+  pub reads : kind ≡ 12 → GivesRest region 5 memory m
+  pub atomics : IsAtomic kind → GivesRest region 6 memory m
+
+-- The lengths are good. The bytes carried are those there are but the pad; a SEND's entry has room for most.
+pub record LengthsGood (p : Packet) (pmtu : ℕ) (m : OpenMessage) (most : ℕ) : Type 0 where
+  pub pad : p .pad ≤ p .raw
+  pub full : Carries (p .kind) → HasMore (p .place) → p .raw - p .pad ≡ pmtu
+  pub last : Carries (p .kind) → p .place ≡ 2 → (1 ≤ p .raw - p .pad) × (p .raw - p .pad ≤ pmtu)
+  pub only : Carries (p .kind) → p .place ≡ 4 → p .raw - p .pad ≤ pmtu
+  pub fits : p .kind ≡ 0 → m .placed + (p .raw - p .pad) ≤ most
+  pub more : p .kind ≡ 6 → HasMore (p .place) → m .placed + (p .raw - p .pad) < m .length
+  pub whole : p .kind ≡ 6 → Ends (p .place) → m .placed + (p .raw - p .pad) ≡ m .length
+  pub bare : (p .kind ≡ 12) ⊎ IsAtomic (p .kind) → p .raw ≡ 0
+  pub aligned : IsAtomic (p .kind) → m .address % 8 ≡ 0
+
+-- The message that a packet is of, before the packet: its own operands with nothing placed, or the one under way.
+pub record IsCurrent (under : OpenMessage) (p : Packet) (m : OpenMessage) : Type 0 where
+  pub own : Begins (p .place)
+      → m
+      ≡ (record { kind = p .kind; placed = 0; address = p .operands .address; key = p .operands .key; length = p .operands .length })
+  pub old : GoesOn (p .place) → m ≡ under
+
+-- Each test says its condition, both ways.
+abbrev pub Says : Bool → Type 0 → Type 0
+Says failing Good = (failing ≡ false → Good) × (Good → failing ≡ false)
+
+abbrev pub CurrentTested : Type 0
+CurrentTested = (under : OpenMessage) (p : Packet) → Place (p .place) → IsCurrent under p (current under p)
+
+abbrev pub SequenceTested : Type 0
+SequenceTested =
+    (under kind place : ℕ) → Place place → Says (outOfSequence under kind place) (InSequence under kind place)
+
+abbrev pub EnabledTested : Type 0
+EnabledTested = (s : Setup) (kind : ℕ) → Says (notEnabled s kind) (Enabled s kind)
+
+abbrev pub PadTested : Type 0
+PadTested = (place pad : ℕ) → Place place → Says (padEarly place pad) (PadAtEnd place pad)
+
+abbrev pub LimitTested : Type 0
+LimitTested = (length : ℕ) → Says (overLimit length) (WithinLimit length)
+
+abbrev pub EntryTested : Type 0
+EntryTested =
+    (kind place : ℕ) (immediate : Bool) (under count : ℕ)
+    → Says (noneWaiting kind place immediate under count) (EntryWaits kind place immediate under count)
+
+abbrev pub InsideTested : Type 0
+InsideTested =
+    (kind : ℕ) (immediate : Bool) (entry : List ℕ) (memory : ℕ)
+    → Says (entryOutside kind immediate entry memory) (EntryInMemory kind immediate entry memory)
+
+-- Of kinds that are not served these two tests say more; but such a packet does not come so far.
+abbrev pub KeyTested : Type 0
+KeyTested =
+    (kind memory : ℕ) (m : OpenMessage) (region : List ℕ) → Served kind
+    → Says (keyFails memory kind m region) (KeyGood kind memory m region)
+
+abbrev pub LengthsTested : Type 0
+LengthsTested =
+    (p : Packet) (pmtu : ℕ) (m : OpenMessage) (most : ℕ) → Place (p .place) → Served (p .kind)
+    → Says (lengthsOff p pmtu m most) (LengthsGood p pmtu m most)
+
+-- The code of eight conditions, in this order: the first that fails decides, whatever the later ones are; 0 if none does.
+-- And back: each code says what held and what did not, and no other code comes.
+pub record Judged (Sequence Function Pad Limit Waiting Inside Key Lengths : Type 0) (code : ℕ) : Type 0 where
+  pub sequence : (Sequence → ⊥) → code ≡ 17
+  pub function : Sequence → (Function → ⊥) → code ≡ 17
+  pub pad : Sequence → Function → (Pad → ⊥) → code ≡ 17
+  pub limit : Sequence → Function → Pad → (Limit → ⊥) → code ≡ 17
+  pub waiting : Sequence → Function → Pad → Limit → (Waiting → ⊥) → code ≡ 19
+  pub inside : Sequence → Function → Pad → Limit → Waiting → (Inside → ⊥) → code ≡ 34
+  pub key : Sequence → Function → Pad → Limit → Waiting → Inside → (Key → ⊥) → code ≡ 18
+  pub lengths : Sequence → Function → Pad → Limit → Waiting → Inside → Key → (Lengths → ⊥) → code ≡ 17
+  pub good : Sequence → Function → Pad → Limit → Waiting → Inside → Key → Lengths → code ≡ 0
+  pub only : code ≡ 0 → Sequence × Function × Pad × Limit × Waiting × Inside × Key × Lengths
+  pub only19 : code ≡ 19 → Sequence × Function × Pad × Limit × (Waiting → ⊥)
+  pub only34 : code ≡ 34 → Sequence × Function × Pad × Limit × Waiting × (Inside → ⊥)
+  pub only18 : code ≡ 18 → Sequence × Function × Pad × Limit × Waiting × Inside × (Key → ⊥)
+  pub only17 : code ≡ 17 → ((Sequence × Function × Pad × Limit) → ⊥) ⊎ (Waiting × Inside × Key × (Lengths → ⊥))
+  pub codes : (code ≡ 0) ⊎ ((code ≡ 17) ⊎ ((code ≡ 18) ⊎ ((code ≡ 19) ⊎ (code ≡ 34))))
+
+-- The request checks, of a packet of the message m.
+abbrev pub JudgedBy : Setup → OpenMessage → Packet → OpenMessage → ℕ → List ℕ → List ℕ → ℕ → Type 0
+JudgedBy s under p m count entry region =
+    Judged (InSequence (under .kind) (p .kind) (p .place)) (Enabled s (p .kind)) (PadAtEnd (p .place) (p .pad))
+    (WithinLimit (p .operands .length)) (EntryWaits (p .kind) (p .place) (p .operands .immediate) (under .kind) count)
+    (EntryInMemory (p .kind) (p .operands .immediate) entry (s .memory)) (KeyGood (p .kind) (s .memory) m region)
+    (LengthsGood p (s .pmtu) m (getD entry 2 0))
+
+abbrev pub Order : Type 0
+Order =
+    (s : Setup) (under : OpenMessage) (p : Packet) (m : OpenMessage) (count : ℕ) (entry region : List ℕ) → Place (p .place)
+    → IsCurrent under p m
+    → JudgedBy s under p m count entry region (expectedCode s under p count entry region)
+
+-- What is taken from a packet's bytes. From the BTH, of every packet; the bytes behind the headers are the rest.
+pub record FromBth (bytes : List ℕ) (n : ℕ) (p : Packet) : Type 0 where
+  pub ackreq : p .ackreq ≡ bthOf bytes .ackreq
+  pub pad : p .pad ≡ bthOf bytes .pad
+  pub psn : p .psn ≡ bthOf bytes .psn
+  pub raw : p .raw ≡ n - p .start
+  pub place : Place (p .place)
+
+abbrev pub BthTaken : Type 0
+BthTaken = (bytes : List ℕ) (n : ℕ) → FromBth bytes n (packetOf (headerOf bytes) n)
+
+-- Kind, place and length of the headers, and an immediate and its value.
+pub record Form (p : Packet) (kind place start : ℕ) (immediate : Bool) (value : ℕ) : Type 0 where
+  pub kinds : p .kind ≡ kind
+  pub places : p .place ≡ place
+  pub starts : p .start ≡ start
+  pub flag : p .operands .immediate ≡ immediate
+  pub values : p .operands .value ≡ value
+
+-- no address, no bytes
+pub record NoOperands (o : Operands) : Type 0 where
+  pub address : o .address ≡ 0
+  pub key : o .key ≡ 0
+  pub length : o .length ≡ 0
+  pub swap : o .swap ≡ 0
+  pub compare : o .compare ≡ 0
+
+pub record FromReth (bytes : List ℕ) (o : Operands) : Type 0 where
+  pub address : o .address ≡ rethOf bytes .address
+  pub key : o .key ≡ rethOf bytes .key
+  pub length : o .length ≡ rethOf bytes .length
+  pub swap : o .swap ≡ 0
+  pub compare : o .compare ≡ 0
+
+pub record FromAtomic (bytes : List ℕ) (o : Operands) : Type 0 where
+  pub address : o .address ≡ atomicOf bytes .address
+  pub key : o .key ≡ atomicOf bytes .key
+  pub length : o .length ≡ 8
+  pub swap : o .swap ≡ atomicOf bytes .swap
+  pub compare : o .compare ≡ atomicOf bytes .compare
+
+-- By the opcode. An Immediate stands behind a BTH at byte 12, behind a RETH at 28.
+pub record Taken (bytes : List ℕ) (opcode : ℕ) (p : Packet) : Type 0 where
+  pub sendFirst : opcode ≡ 0 → Form p 0 0 12 false 0 × NoOperands (p .operands)
+  pub sendMiddle : opcode ≡ 1 → Form p 0 1 12 false 0 × NoOperands (p .operands)
+  pub sendLast : opcode ≡ 2 → Form p 0 2 12 false 0 × NoOperands (p .operands)
+  pub sendLastImm : opcode ≡ 3 → Form p 0 2 16 true (be4 bytes 12) × NoOperands (p .operands)
+  pub sendOnly : opcode ≡ 4 → Form p 0 4 12 false 0 × NoOperands (p .operands)
+  pub sendOnlyImm : opcode ≡ 5 → Form p 0 4 16 true (be4 bytes 12) × NoOperands (p .operands)
+  pub writeFirst : opcode ≡ 6 → Form p 6 0 28 false 0 × FromReth bytes (p .operands)
+  pub writeMiddle : opcode ≡ 7 → Form p 6 1 12 false 0 × NoOperands (p .operands)
+  pub writeLast : opcode ≡ 8 → Form p 6 2 12 false 0 × NoOperands (p .operands)
+  pub writeLastImm : opcode ≡ 9 → Form p 6 2 16 true (be4 bytes 12) × NoOperands (p .operands)
+  pub writeOnly : opcode ≡ 10 → Form p 6 4 28 false 0 × FromReth bytes (p .operands)
+  pub writeOnlyImm : opcode ≡ 11 → Form p 6 4 32 true (be4 bytes 28) × FromReth bytes (p .operands)
+  pub read : opcode ≡ 12 → Form p 12 4 28 false 0 × FromReth bytes (p .operands)
+  pub cmpSwap : opcode ≡ 19 → Form p 19 4 40 false 0 × FromAtomic bytes (p .operands)
+  pub fetchAdd : opcode ≡ 20 → Form p 20 4 40 false 0 × FromAtomic bytes (p .operands)
+  pub reserved : 21 ≤ opcode → opcode < 32 → Form p 21 4 12 false 0 × NoOperands (p .operands)
+
+abbrev pub OpcodeTaken : Type 0
+OpcodeTaken = (bytes : List ℕ) (n : ℕ) → Taken bytes (bthOf bytes .opcode) (packetOf (headerOf bytes) n)
+
+-- UC's opcodes are RC's first twelve, from 32 on.
+abbrev pub UcAlike : Type 0
+UcAlike = (low : ℕ) → low < 12 → classOf (32 + low) ≡ classOf low
+
+-- So the same is taken from a packet of UC as from one of RC with the same low five bits.
+abbrev pub UcTaken : Type 0
+UcTaken =
+    (bytes : List ℕ) (n low : ℕ) → bthOf bytes .opcode ≡ 32 + low → low < 12
+    → Taken bytes low (packetOf (headerOf bytes) n)

@@ -1,0 +1,50 @@
+-- A request packet as numbers.
+use Prim.Native.Nat.{ℕ, _-_}
+use mathlib.Core.Bool.{Bool, true, false}
+use Rattle.opcode.specs.Opcode.{classOf}
+use Rattle.header.specs.Write.{headerLength}
+use Rattle.header.specs.declared.Reth.{Reth}
+use Rattle.header.specs.declared.AtomicEth.{AtomicEth}
+use Rattle.header.specs.declared.Extension.{Extension}
+use Rattle.header.specs.declared.Extension.the-variants.{Bare, Remote, RemoteImmediate, Immediate, Atomic, Acknowledge, AtomicAcknowledge}
+use Rattle.header.specs.declared.Header.{Header}
+use Rattle.request_spec.specs.declared.Operands.{Operands}
+use Rattle.request_spec.specs.declared.Packet.{Packet}
+
+-- a RETH's address, R_Key and DMA length, with or without an immediate behind it
+abbrev pub remote : Reth → Bool → ℕ → Operands
+remote a immediate value =
+    record { address = a .address; key = a .key; length = a .length; swap = 0; compare = 0; immediate = immediate; value = value }
+
+abbrev pub alone : Bool → ℕ → Operands
+alone immediate value =
+    record { address = 0; key = 0; length = 0; swap = 0; compare = 0; immediate = immediate; value = value }
+
+-- an atomic names 8 bytes
+abbrev pub exchanging : AtomicEth → Operands
+exchanging a =
+    record { address = a .address; key = a .key; length = 8; swap = a .swap; compare = a .compare; immediate = false; value = 0 }
+
+-- responses do not come to a responder
+unfoldable pub operandsOf : Extension → Operands
+operandsOf Bare = alone false 0
+operandsOf (Remote a) = remote a false 0
+operandsOf (RemoteImmediate a v) = remote a true v
+operandsOf (Immediate v) = alone true v
+operandsOf (Atomic a) = exchanging a
+operandsOf (Acknowledge a) = alone false 0
+operandsOf (AtomicAcknowledge a v) = alone false 0
+
+-- the packet of n bytes that has this header
+unfoldable pub packetOf : Header → ℕ → Packet
+packetOf h n =
+    record {
+      kind = classOf (h .bth .opcode) .kind;
+      place = classOf (h .bth .opcode) .place;
+      ackreq = h .bth .ackreq;
+      pad = h .bth .pad;
+      psn = h .bth .psn;
+      start = headerLength h;
+      raw = n - headerLength h;
+      operands = operandsOf (h .extension);
+    }

@@ -1,0 +1,134 @@
+-- The request checks, in their order. Each test names the failing case, by numbers alone.
+use Prim.Native.Nat.{ℕ, _+_, _-_, _%_}
+use mathlib.Core.Bool.{Bool, false, true, cond, not, _&&_, _||_}
+use mathlib.Core.List.{List}
+use lib.Dec.{eqb, ltb}
+use lib.ListN.{getD}
+use Rattle.pmtu.specs.Pieces.{starts, ends}
+use Rattle.table.specs.Table.{outside, pastTop}
+use Rattle.pair.specs.Sound.{memoryLimit}
+use Rattle.pair.specs.declared.Setup.{Setup}
+use Rattle.pair.specs.declared.OpenMessage.{OpenMessage}
+use Rattle.request_spec.specs.declared.Packet.{Packet}
+
+-- kinds: 0 SEND, 6 WRITE, 12 READ, 19 CmpSwap, 20 FetchAdd, 21 reserved; those below 12 carry bytes
+unfoldable pub carrying : ℕ → Bool
+carrying kind = ltb kind 12
+
+-- Sequence: what begins a message comes while none is open, which is 255; a Middle or Last goes on with one of its kind
+unfoldable pub outOfSequence : ℕ → ℕ → ℕ → Bool
+outOfSequence under kind place = cond (starts place) (not (eqb under 255)) (not (eqb under kind))
+
+-- Function: one of the four, and switched on; a reserved opcode has none
+unfoldable pub notEnabled : Setup → ℕ → Bool
+notEnabled s kind =
+    cond (eqb kind 0) (not (s .send))
+    (cond (eqb kind 6) (not (s .write))
+    (cond (eqb kind 12) (not (s .read))
+    (cond (eqb kind 19) (not (s .atomic))
+    (cond (eqb kind 20) (not (s .atomic)) true))))
+
+-- Pad: only where a message ends
+unfoldable pub padEarly : ℕ → ℕ → Bool
+padEarly place pad = not (ends place) && not (eqb pad 0)
+
+-- Limit of the DMA length
+unfoldable pub overLimit : ℕ → Bool
+overLimit length = ltb memoryLimit length
+
+-- Entry: wanted where a SEND begins, and by a WRITE's immediate
+unfoldable pub needsEntry : ℕ → ℕ → Bool → Bool
+needsEntry kind place immediate = cond (eqb kind 0) (starts place) immediate
+
+-- of the entries, those that wait: an open SEND holds one
+unfoldable pub entriesWaiting : ℕ → ℕ → ℕ
+entriesWaiting under count = cond (eqb under 0) (count - 1) count
+
+unfoldable pub noneWaiting : ℕ → ℕ → Bool → ℕ → ℕ → Bool
+noneWaiting kind place immediate under count = needsEntry kind place immediate && eqb (entriesWaiting under count) 0
+
+-- The entry that a packet uses does not lie in memory: a row that no call made. A row is number, offset, length
+unfoldable pub usesEntry : ℕ → Bool → Bool
+usesEntry kind immediate = eqb kind 0 || immediate
+
+unfoldable pub entryOutside : ℕ → Bool → List ℕ → ℕ → Bool
+entryOutside kind immediate entry memory = usesEntry kind immediate && outside (getD entry 1 0) (getD entry 2 0) memory
+
+-- R_Key. A region's row is key, address, length, offset and the rights to write, read and atomics
+unfoldable pub rightOf : ℕ → List ℕ → ℕ
+rightOf kind region = cond (eqb kind 6) (getD region 4 0) (cond (eqb kind 12) (getD region 5 0) (getD region 6 0))
+
+-- the region does not hold n bytes at an address: no right, or it is no region that the host could add, in memory and
+-- below 2^64, or they do not lie in it
+unfoldable pub lacks : List ℕ → ℕ → ℕ → ℕ → ℕ → Bool
+lacks region right memory address n =
+    eqb right 0
+    || (outside (getD region 3 0) (getD region 2 0) memory
+    || (pastTop (getD region 1 0) (getD region 2 0)
+    || (ltb address (getD region 1 0) || ltb (getD region 1 0 + getD region 2 0) (address + n))))
+
+-- what the key must hold: the bytes still to come
+unfoldable pub keySpan : ℕ → ℕ → ℕ
+keySpan length placed = length - placed
+
+-- a SEND has no key, and no bytes need none
+unfoldable pub keyLacking : ℕ → List ℕ → ℕ → ℕ → ℕ → Bool
+keyLacking kind region memory address span =
+    cond (eqb kind 0) false (cond (eqb span 0) false (lacks region (rightOf kind region) memory address span))
+
+unfoldable pub keyFails : ℕ → ℕ → OpenMessage → List ℕ → Bool
+keyFails memory kind m region =
+    keyLacking kind region memory (m .address + m .placed) (keySpan (m .length) (m .placed))
+
+-- where in memory an address of the region lies; no bytes lie at 0
+unfoldable pub spot : List ℕ → ℕ → ℕ → ℕ
+spot region address span = cond (eqb span 0) 0 (getD region 3 0 + (address - getD region 1 0))
+
+-- Lengths. Before the end of a message the PMTU is filled; at its end there is no more than that, and in a Last something
+unfoldable pub sizeOff : ℕ → ℕ → ℕ → Bool
+sizeOff place pmtu net = cond (ends place) ((eqb place 2 && eqb net 0) || ltb pmtu net) (not (eqb net pmtu))
+
+-- a SEND stays within its entry; a WRITE reaches its DMA length with its last packet, and not before
+unfoldable pub totalOff : ℕ → ℕ → ℕ → ℕ → ℕ → ℕ → Bool
+totalOff kind place placed net length most =
+    cond (eqb kind 0) (ltb most (placed + net))
+    (cond (ends place) (not (eqb (placed + net) length)) (not (ltb (placed + net) length)))
+
+-- all other kinds are bare, and atomics aligned to 8 bytes
+unfoldable pub bareOff : ℕ → ℕ → ℕ → Bool
+bareOff kind raw address = not (eqb raw 0) || (not (eqb kind 12) && not (eqb (address % 8) 0))
+
+-- the bytes carried: those there are but the pad
+unfoldable pub netOf : Packet → ℕ
+netOf p = p .raw - p .pad
+
+unfoldable pub lengthsOff : Packet → ℕ → OpenMessage → ℕ → Bool
+lengthsOff p pmtu m most =
+    ltb (p .raw) (p .pad)
+    || cond (carrying (p .kind))
+    (sizeOff (p .place) pmtu (netOf p) || totalOff (p .kind) (p .place) (m .placed) (netOf p) (m .length) most)
+    (bareOff (p .kind) (p .raw) (m .address))
+
+-- The message that a packet is of, as it is before the packet: it begins it, or it is under way
+unfoldable pub current : OpenMessage → Packet → OpenMessage
+current under p =
+    cond (starts (p .place))
+    (record { kind = p .kind; placed = 0; address = p .operands .address; key = p .operands .key; length = p .operands .length })
+    under
+
+-- The checks but the first: 0, or the number of the answer. By the set-up, the message under way, the packet, the count of
+-- entries, the entry's row and the region's
+unfoldable pub requestCode : Setup → OpenMessage → Packet → ℕ → List ℕ → List ℕ → ℕ
+requestCode s under p count entry region =
+    cond (notEnabled s (p .kind)) 17
+    (cond (padEarly (p .place) (p .pad)) 17
+    (cond (overLimit (p .operands .length)) 17
+    (cond (noneWaiting (p .kind) (p .place) (p .operands .immediate) (under .kind) count) 19
+    (cond (entryOutside (p .kind) (p .operands .immediate) entry (s .memory)) 34
+    (cond (keyFails (s .memory) (p .kind) (current under p) region) 18
+    (cond (lengthsOff p (s .pmtu) (current under p) (getD entry 2 0)) 17 0))))))
+
+-- All of them, on RC
+unfoldable pub expectedCode : Setup → OpenMessage → Packet → ℕ → List ℕ → List ℕ → ℕ
+expectedCode s under p count entry region =
+    cond (outOfSequence (under .kind) (p .kind) (p .place)) 17 (requestCode s under p count entry region)

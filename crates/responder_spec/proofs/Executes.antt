@@ -1,0 +1,249 @@
+-- A request that passed the checks leads to a steady pair.
+use Prim.Native.Nat.{ℕ, _+_, _-_, _^_, _≤_, _<_}
+use mathlib.Core.Path.{_≡_, refl, sym, ap, subst, _∙_}
+use mathlib.Core.Bool.{Bool, true, false, cond, not, _&&_, _||_, true≢false}
+use mathlib.Core.List.{List}
+use mathlib.Core.Logic.{_⊎_, inl, inr}
+use native.Mathlib.Omega.{arith}
+use lib.Dec.{eqb, leb, ltb}
+use lib.ListN.{getD}
+use borrow.Author.Tests.{eq-eqb, eqb-true, eqb-false, ltb-true, ltb-false}
+use Rattle.lemmas.proofs.Tests.{or-right}
+use Rattle.pmtu.specs.Pieces.{starts, ends}
+use Rattle.table.specs.Table.{outside}
+use Rattle.pair.specs.Answer.{statusNumber}
+use Rattle.pair.specs.Calls.{Whole}
+use Rattle.pair.specs.Pair.{noMessage}
+use Rattle.pair.specs.Sound.{memoryLimit}
+use Rattle.pair.specs.Claims.{MessageSound}
+use Rattle.pair.proofs.Posting.{held-some}
+use Rattle.pair.specs.declared.OpenMessage.{OpenMessage}
+use Rattle.pair.specs.declared.Status.the-variants as status
+use Rattle.request_spec.specs.declared.Packet.{Packet}
+use Rattle.request_spec.specs.Verdict.{carrying, overLimit, needsEntry, entriesWaiting, noneWaiting, usesEntry, entryOutside, keySpan, keyFails, spot, sizeOff, totalOff, bareOff, netOf, lengthsOff, current}
+use Rattle.responder_spec.specs.Decide.{noCompletion, completes, completionOf, grown, placing, swapping, accepting, executing, regionFor, headEntry}
+use Rattle.responder_spec.specs.Apply.{actsAtomic}
+use Rattle.responder_spec.specs.Kept.{Steady}
+use Rattle.responder_spec.proofs.Checked.{Checked, Follows, follows, send-or-write, holds, spot-in}
+use Rattle.responder_spec.proofs.Leads.{Leads, branch, Opens, Does, does-leads}
+
+-- a key that holds the whole of a message
+pub whole-in : (memory kind : ℕ) (m : OpenMessage) (region : List ℕ) → (kind ≡ 0 → ⊥) → m .placed ≡ 0 → keyFails memory kind m region ≡ false
+    → spot region (m .address) (m .length) + m .length ≤ memory
+unfolding keyFails keySpan
+whole-in memory kind m region k z h =
+    let a : m .address + m .placed ≡ m .address = omega arith in
+    let b : m .length - m .placed ≡ m .length = omega arith in
+    subst (λ n. spot region (m .address) n + n ≤ memory) b
+    (subst (λ x. spot region x (m .length - m .placed) + (m .length - m .placed) ≤ memory) a
+    (spot-in kind region memory (m .address + m .placed) (m .length - m .placed) k h))
+
+-- where an entry is needed and one waits, there is one
+waits : (kind place under count : ℕ) (immediate : Bool) → needsEntry kind place immediate ≡ true
+    → noneWaiting kind place immediate under count ≡ false
+    → 1 ≤ count
+unfolding noneWaiting entriesWaiting
+waits kind place under count immediate h k = go (needsEntry kind place immediate) h (eqb under 0) k
+  where
+    go : (a : Bool) → a ≡ true → (b : Bool) → (a && eqb (cond b (count - 1) count) 0) ≡ false → 1 ≤ count
+    go true h true k = let ne = eqb-false (count - 1) 0 k in omega arith
+    go true h false k = let ne = eqb-false count 0 k in omega arith
+    go false h b k = absurd (true≢false (sym h))
+
+module _ (w : Whole) (W : Steady w) where
+  -- the message under way, where nothing completes
+  under-opens : Opens w false (w .pair .message)
+  under-opens = go (W .pair .message)
+    where
+      go : MessageSound (w .pair) → Opens w false (w .pair .message)
+      go (inl e) = inl e
+      go (inr (inl (e, a, b))) = inr (inl (e, refl, a, b, W .held e))
+      go (inr (inr x)) = inr (inr x)
+
+  under-limit : w .pair .message .kind ≡ 6 → w .pair .message .length ≤ 1048576
+  under-limit k = go (W .pair .message)
+    where
+      go : MessageSound (w .pair) → w .pair .message .length ≤ 1048576
+      go (inl e) = absurd (omega arith)
+      go (inr (inl (e, a, b))) = absurd (omega arith)
+      go (inr (inr (e, a, b, c))) = b
+
+  no-read : w .pair .message .kind ≡ 12 → ⊥
+  no-read k = go (W .pair .message)
+    where
+      go : MessageSound (w .pair) → ⊥
+      go (inl e) = omega arith
+      go (inr (inl (e, a, b))) = omega arith
+      go (inr (inr (e, a, b, c))) = omega arith
+
+  module _ (p : Packet) where
+    abbrev message : OpenMessage
+    message = current (w .pair .message) p
+
+    abbrev entry : List ℕ
+    entry = headEntry (w .pair) (w .entries)
+
+    abbrev region : List ℕ
+    region = regionFor (p .kind) (message .key) (w .regions)
+
+    module _ (C : Checked (w .pair .setup) (w .pair .message) p (w .pair .entries .count) entry region) where
+      same-kind : message .kind ≡ p .kind
+      same-kind = go (follows (w .pair .message) p (C .sequence))
+        where
+          go : Follows (w .pair .message) p → current (w .pair .message) p .kind ≡ p .kind
+          go (inl (a, e, k)) = ap (λ x. x .kind) e
+          go (inr (a, e, k)) = ap (λ x. x .kind) e ∙ k
+
+      send-entry : p .kind ≡ 0 → 1 ≤ w .pair .entries .count
+      unfolding needsEntry
+      send-entry z = go (follows (w .pair .message) p (C .sequence))
+        where
+          go : Follows (w .pair .message) p → 1 ≤ w .pair .entries .count
+          go (inl (a, e, k)) =
+              waits (p .kind) (p .place) (w .pair .message .kind) (w .pair .entries .count) (p .operands .immediate)
+              (ap (λ t. cond t (starts (p .place)) (p .operands .immediate)) (eq-eqb (p .kind) 0 z) ∙ a) (C .waiting)
+          go (inr (a, e, k)) = held-some (w .pair) (W .pair) (k ∙ z)
+
+      done-entry : completes (p .kind) (p .place) (p .operands .immediate) ≡ true → 1 ≤ w .pair .entries .count
+      unfolding completes needsEntry
+      done-entry h = go (ends (p .place)) (eqb (p .kind) 0) refl h
+        where
+          go : (a b : Bool) → eqb (p .kind) 0 ≡ b → (a && (b || p .operands .immediate)) ≡ true → 1 ≤ w .pair .entries .count
+          go true true e h = send-entry (eqb-true (p .kind) 0 e)
+          go true false e h =
+              waits (p .kind) (p .place) (w .pair .message .kind) (w .pair .entries .count) (p .operands .immediate)
+              (ap (λ t. cond t (starts (p .place)) (p .operands .immediate)) e ∙ h) (C .waiting)
+          go false b e h = absurd (true≢false (sym h))
+
+      write-limit : p .kind ≡ 6 → message .length ≤ 1048576
+      unfolding overLimit
+      write-limit z = go (follows (w .pair .message) p (C .sequence))
+        where
+          go : Follows (w .pair .message) p → current (w .pair .message) p .length ≤ 1048576
+          go (inl (a, e, k)) = subst (λ x. x .length ≤ 1048576) (sym e) (ltb-false memoryLimit (p .operands .length) (C .limit))
+          go (inr (a, e, k)) = subst (λ x. x .length ≤ 1048576) (sym e) (under-limit (k ∙ z))
+
+      total : carrying (p .kind) ≡ true → totalOff (p .kind) (p .place) (message .placed) (netOf p) (message .length) (getD entry 2 0) ≡ false
+      unfolding lengthsOff
+      total c = go (carrying (p .kind)) c (or-right (ltb (p .raw) (p .pad)) _ (C .lengths))
+        where
+          go : (t : Bool) → t ≡ true
+              → cond t (sizeOff (p .place) (w .pair .setup .pmtu) (netOf p) || totalOff (p .kind) (p .place) (message .placed) (netOf p) (message .length) (getD entry 2 0)) (bareOff (p .kind) (p .raw) (message .address)) ≡ false
+              → totalOff (p .kind) (p .place) (message .placed) (netOf p) (message .length) (getD entry 2 0) ≡ false
+          go true e h = or-right (sizeOff (p .place) (w .pair .setup .pmtu) (netOf p)) _ h
+          go false e h = absurd (true≢false (sym e))
+
+      -- a SEND fits its entry, and that lies in memory
+      entry-limit : p .kind ≡ 0 → getD entry 2 0 ≤ 1048576
+      unfolding entryOutside usesEntry outside
+      entry-limit z = go (eqb (p .kind) 0) (eq-eqb (p .kind) 0 z) (C .inside)
+        where
+          go : (a : Bool) → a ≡ true → ((a || p .operands .immediate) && ltb (w .pair .setup .memory) (getD entry 1 0 + getD entry 2 0)) ≡ false
+              → getD entry 2 0 ≤ 1048576
+          go true e h = omega (arith, ltb-false (w .pair .setup .memory) (getD entry 1 0 + getD entry 2 0) h, W .pair .setup .1)
+          go false e h = absurd (true≢false (sym e))
+
+      send-fits : p .kind ≡ 0 → carrying (p .kind) ≡ true → message .placed + netOf p ≤ getD entry 2 0
+      unfolding totalOff
+      send-fits z c = go (eqb (p .kind) 0) (eq-eqb (p .kind) 0 z) (total c)
+        where
+          go : (a : Bool) → a ≡ true
+              → cond a (ltb (getD entry 2 0) (message .placed + netOf p)) (cond (ends (p .place)) (not (eqb (message .placed + netOf p) (message .length))) (not (ltb (message .placed + netOf p) (message .length)))) ≡ false
+              → message .placed + netOf p ≤ getD entry 2 0
+          go true e h = ltb-false (getD entry 2 0) (message .placed + netOf p) h
+          go false e h = absurd (true≢false (sym e))
+
+      -- a WRITE leaves bytes to come before its last packet
+      write-fits : p .kind ≡ 6 → carrying (p .kind) ≡ true → ends (p .place) ≡ false → message .placed + netOf p < message .length
+      unfolding totalOff
+      write-fits z c n = go (eqb (p .kind) 0) refl (ends (p .place)) n (ltb (message .placed + netOf p) (message .length)) refl (total c)
+        where
+          go : (a : Bool) → eqb (p .kind) 0 ≡ a → (b : Bool) → b ≡ false → (c : Bool) → ltb (message .placed + netOf p) (message .length) ≡ c
+              → cond a (ltb (getD entry 2 0) (message .placed + netOf p)) (cond b (not (eqb (message .placed + netOf p) (message .length))) (not c)) ≡ false
+              → message .placed + netOf p < message .length
+          go true e b f c g h = absurd (omega (arith, z, eqb-true (p .kind) 0 e))
+          go false e true f c g h = absurd (true≢false f)
+          go false e false f true g h = ltb-true (message .placed + netOf p) (message .length) g
+          go false e false f false g h = absurd (true≢false h)
+
+      -- and they have addresses
+      write-top : p .kind ≡ 6 → message .placed + netOf p < message .length → message .address + (message .placed + netOf p) < 2 ^ 64
+      unfolding keyFails keySpan
+      write-top z l =
+          let H =
+          holds (p .kind) region (w .pair .setup .memory) (message .address + message .placed) (message .length - message .placed) (λ e. omega arith)
+          (λ e. omega arith) (C .key) in
+          omega (arith, H .to, H .top, l)
+
+      opens : carrying (p .kind) ≡ true
+          → Opens w (completes (p .kind) (p .place) (p .operands .immediate)) (grown (p .place) message (netOf p))
+      unfolding completes grown
+      opens c = go (ends (p .place)) refl (send-or-write (w .pair .setup) (p .kind) (C .enabled) c)
+        where
+          go : (t : Bool) → ends (p .place) ≡ t → (p .kind ≡ 0) ⊎ (p .kind ≡ 6)
+              → Opens w (t && (eqb (p .kind) 0 || p .operands .immediate))
+              (cond t noMessage
+              (record { kind = message .kind; placed = message .placed + netOf p; address = message .address; key = message .key; length = message .length }))
+          go true e k = inl refl
+          go false e (inl k) =
+              let a = send-fits k c in
+              let b = entry-limit k in
+              inr (inl (same-kind ∙ k, refl, send-entry k, omega (arith, a, b), a))
+          go false e (inr k) =
+              let a = write-fits k c e in
+              inr (inr (same-kind ∙ k, a, write-limit k, write-top k a))
+
+      pub placing-does : carrying (p .kind) ≡ true → Does w (placing p message entry region)
+      unfolding placing completionOf actsAtomic statusNumber
+      placing-does c =
+          record {
+            number = acks (p .ackreq);
+            entry = λ e. done-entry (sym (same (completes (p .kind) (p .place) (p .operands .immediate)) _) ∙ e);
+            message = subst (λ t. Opens w t (grown (p .place) message (netOf p))) (sym (same (completes (p .kind) (p .place) (p .operands .immediate)) _)) (opens c);
+            read = inl refl;
+            psn = λ e. absurd (true≢false (sym e));
+          }
+        where
+          acks : (t : Bool) → leb (statusNumber (cond t status.Acknowledged status.Executed)) 3 ≡ true
+          acks true = refl
+          acks false = refl
+
+          same : (t : Bool) (number : ℕ)
+              → cond t
+              (record {
+                some = true;
+                number = number;
+                length = cond (eqb (p .kind) 0) (message .placed + netOf p) (message .length);
+                immediate = p .operands .immediate;
+                value = p .operands .value;
+              })
+              noCompletion .some ≡ t
+          same true number = refl
+          same false number = refl
+
+      module _ (n : p .psn .0 < 2 ^ 24) where
+        accepting-does : p .kind ≡ 12 → Does w (accepting p message (w .pair .message) region (w .pair .setup .pmtu))
+        unfolding accepting actsAtomic statusNumber
+        accepting-does k =
+            record {
+              number = refl;
+              entry = λ e. absurd (true≢false (sym e));
+              message = under-opens;
+              read = inr (omega arith, whole-in (w .pair .setup .memory) (p .kind) message region (λ e. omega arith) (go (follows (w .pair .message) p (C .sequence))) (C .key), n);
+              psn = λ e. absurd (true≢false (sym e));
+            }
+          where
+            go : Follows (w .pair .message) p → current (w .pair .message) p .placed ≡ 0
+            go (inl (a, e, x)) = ap (λ y. y .placed) e
+            go (inr (a, e, x)) = absurd (no-read (x ∙ k))
+
+        swapping-does : Does w (swapping p message (w .pair .message) region)
+        unfolding swapping statusNumber
+        swapping-does =
+            record { number = refl; entry = λ e. absurd (true≢false (sym e)); message = under-opens; read = inl refl; psn = λ e. n }
+
+        pub executing-leads : Leads w (executing p message (w .pair .message) entry region (w .pair .setup .pmtu))
+        unfolding executing
+        executing-leads =
+            branch w (carrying (p .kind)) _ _ (λ c. does-leads w W _ (placing-does c))
+            (λ c. branch w (eqb (p .kind) 12) _ _ (λ e. does-leads w W _ (accepting-does (eqb-true (p .kind) 12 e))) (λ e. does-leads w W _ swapping-does))

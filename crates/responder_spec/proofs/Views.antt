@@ -1,0 +1,167 @@
+-- A packet of the unreliable connection meets the message that it leaves open: the laws of the reliable one serve there.
+use Prim.Native.Nat.{ℕ, _+_, _%_}
+use mathlib.Core.Path.{_≡_, refl, sym, ap}
+use mathlib.Core.Bool.{Bool, true, false, cond, not, _&&_, _||_, true≢false}
+use mathlib.Core.List.{List}
+use mathlib.Core.Logic.{inl}
+use native.Mathlib.Omega.{arith}
+use lib.Dec.{eqb}
+use borrow.Author.Tests.{eqb-false}
+use Rattle.lemmas.proofs.Tests.{or-right}
+use Rattle.sequence.specs.Sequence.{distance, psnAfter}
+use Rattle.sequence.specs.declared.Psn.{Psn}
+use Rattle.sequence.proofs.Circle.{after-distance}
+use Rattle.pmtu.specs.Pieces.{starts}
+use Rattle.pair.specs.Pair.{noMessage}
+use Rattle.pair.specs.Claims.{Sound, MessageSound}
+use Rattle.pair.specs.declared.Setup.{Setup}
+use Rattle.pair.specs.declared.OpenMessage.{OpenMessage}
+use Rattle.pair.specs.declared.Pair.{Pair}
+use Rattle.pair.specs.declared.Status.the-variants as status
+use Rattle.request_spec.specs.Verdict.{outOfSequence, current, requestCode, expectedCode}
+use Rattle.request_spec.specs.declared.Packet.{Packet}
+use Rattle.responder_spec.specs.declared.Decision.{Decision}
+use Rattle.responder_spec.specs.Decide.{quietly, orphaned, strays, closedBy, ucSettled, ucDecision}
+use Rattle.responder_spec.specs.Apply.{closing}
+
+-- a First or Only closes the open message, a Middle or Last leaves it open
+pub closed-starts : (place : ℕ) (under : OpenMessage) → starts place ≡ true → closedBy place under ≡ noMessage
+unfolding closedBy
+closed-starts place under e = λ i. cond (e i) noMessage under
+
+pub closed-onward : (place : ℕ) (under : OpenMessage) → starts place ≡ false → closedBy place under ≡ under
+unfolding closedBy
+closed-onward place under e = λ i. cond (e i) noMessage under
+
+-- a close leaves all but the message as it was
+pub closes : (q : Pair)
+    → closing q
+    ≡ (record {
+      setup = q .setup;
+      state = q .state;
+      expected = q .expected;
+      msn = q .msn;
+      mark = q .mark;
+      message = noMessage;
+      entries = q .entries;
+      read = q .read;
+      saved = q .saved;
+    })
+closes q = refl
+
+-- none open, then astray, then checked
+module _ (p : Packet) (s : Setup) (expected : Psn) (under : OpenMessage) (count : ℕ) (entry region : List ℕ) where
+  abbrev D : Decision
+  D = ucDecision p s expected under count entry region
+
+  abbrev checked : Decision
+  checked = ucSettled (requestCode s (closedBy (p .place) under) p count entry region) p expected under entry region
+
+  pub orphan-dropped : orphaned (p .place) (under .kind) ≡ true → D ≡ quietly status.Dropped
+  unfolding ucDecision
+  orphan-dropped o = rw o refl
+
+  pub stray-abandoned : orphaned (p .place) (under .kind) ≡ false → strays p expected (under .kind) ≡ true → D ≡ quietly status.Abandoned
+  unfolding ucDecision
+  stray-abandoned o t = rw (o, t) refl
+
+  pub others-checked : orphaned (p .place) (under .kind) ≡ false → strays p expected (under .kind) ≡ false → D ≡ checked
+  unfolding ucDecision
+  others-checked o t = rw (o, t) refl
+
+-- the pair as a packet of this place finds it
+abbrev pub viewed : ℕ → Pair → Pair
+viewed place q =
+    record {
+      setup = q .setup;
+      state = q .state;
+      expected = q .expected;
+      msn = q .msn;
+      mark = q .mark;
+      message = closedBy place (q .message);
+      entries = q .entries;
+      read = q .read;
+      saved = q .saved;
+    }
+
+pub closed-message : (place : ℕ) (q : Pair) → MessageSound q → MessageSound (viewed place q)
+unfolding closedBy
+closed-message place q M = go (starts place)
+  where
+    go : (b : Bool)
+        → MessageSound
+        (record {
+          setup = q .setup;
+          state = q .state;
+          expected = q .expected;
+          msn = q .msn;
+          mark = q .mark;
+          message = cond b noMessage (q .message);
+          entries = q .entries;
+          read = q .read;
+          saved = q .saved;
+        })
+    go true = inl refl
+    go false = M
+
+pub viewed-sound : (place : ℕ) (q : Pair) → Sound q → Sound (viewed place q)
+viewed-sound place q S =
+    record {
+      setup = S .setup;
+      state = S .state;
+      expected = S .expected;
+      msn = S .msn;
+      entries = S .entries;
+      saved = S .saved;
+      message = closed-message place q (S .message);
+      read = S .read;
+    }
+
+-- it is of the same message
+pub current-closed : (under : OpenMessage) (p : Packet) → current (closedBy (p .place) under) p ≡ current under p
+unfolding current closedBy
+current-closed under p = go (starts (p .place))
+  where
+    go : (b : Bool)
+        → cond b (record { kind = p .kind; placed = 0; address = p .operands .address; key = p .operands .key; length = p .operands .length })
+        (cond b noMessage under)
+        ≡ cond b (record { kind = p .kind; placed = 0; address = p .operands .address; key = p .operands .key; length = p .operands .length }) under
+    go true = refl
+    go false = refl
+
+-- and in sequence, if it is neither orphaned nor astray
+pub in-sequence : (under : OpenMessage) (p : Packet) (expected : Psn) → strays p expected (under .kind) ≡ false
+    → outOfSequence (closedBy (p .place) under .kind) (p .kind) (p .place) ≡ false
+unfolding outOfSequence closedBy strays
+in-sequence under p expected h = go (starts (p .place)) h
+  where
+    go : (b : Bool) → (not b && (not (eqb (distance (p .psn .0) (expected .0)) 0) || not (eqb (under .kind) (p .kind)))) ≡ false
+        → cond b (not (eqb (cond b noMessage under .kind) 255)) (not (eqb (cond b noMessage under .kind) (p .kind))) ≡ false
+    go true e = refl
+    go false e = or-right (not (eqb (distance (p .psn .0) (expected .0)) 0)) _ e
+
+pub same-code : (s : Setup) (under : OpenMessage) (p : Packet) (expected : Psn) (count : ℕ) (entry region : List ℕ)
+    → strays p expected (under .kind) ≡ false
+    → expectedCode s (closedBy (p .place) under) p count entry region ≡ requestCode s (closedBy (p .place) under) p count entry region
+unfolding expectedCode
+same-code s under p expected count entry region h =
+    ap (λ b. cond b 17 (requestCode s (closedBy (p .place) under) p count entry region)) (in-sequence under p expected h)
+
+-- what strays finds a message open
+pub stray-open : (p : Packet) (expected : Psn) (under : ℕ) → orphaned (p .place) under ≡ false → strays p expected under ≡ true
+    → under ≡ 255 → ⊥
+unfolding orphaned strays
+stray-open p expected under o s = go (starts (p .place)) o s
+  where
+    go : (b : Bool) → (not b && eqb under 255) ≡ false
+        → (not b && (not (eqb (distance (p .psn .0) (expected .0)) 0) || not (eqb under (p .kind)))) ≡ true
+        → under ≡ 255 → ⊥
+    go true x y = absurd (true≢false (sym y))
+    go false x y = eqb-false under 255 x
+
+-- all numbers up to a packet's own taken, the next is its number plus 1
+pub number-taken : (psn expected : Psn) → psnAfter expected (1 + distance (psn .0) (expected .0)) ≡ psnAfter psn 1
+number-taken psn expected =
+    let r = after-distance psn expected in
+    let e : (expected .0 + (1 + distance (psn .0) (expected .0))) % 16777216 ≡ (psn .0 + 1) % 16777216 = omega (arith, r) in
+    λ i. record { 0 = e i }

@@ -1,0 +1,110 @@
+-- What a decision does to the pair, to memory and to the saved atomics.
+use Prim.Native.Nat.{ℕ, _-_}
+use mathlib.Core.Bool.{Bool, true, false, cond, _||_}
+use mathlib.Core.List.{List}
+use lib.Dec.{eqb, leb}
+use lib.ListN.{take, drop}
+use Rattle.sequence.specs.Sequence.{psnAfter, msnNext}
+use Rattle.sequence.specs.declared.Msn.{Msn}
+use Rattle.memory.specs.Memory.{placed}
+use Rattle.memory.specs.Word.{wordAt, fetchAdded, swapped}
+use Rattle.table.specs.Table.{slotAt}
+use Rattle.table.specs.View.{savedRing, savedRows}
+use Rattle.table.specs.declared.Ring.{Ring}
+use Rattle.pair.specs.Answer.{statusNumber}
+use Rattle.pair.specs.Pair.{noMessage}
+use Rattle.pair.specs.declared.ReadAnswer.{ReadAnswer}
+use Rattle.pair.specs.declared.Pair.{Pair}
+use Rattle.responder_spec.specs.declared.Decision.{Decision}
+
+-- The acts: 1 the packet's bytes are placed, 2 FetchAdd, 3 CmpSwap
+unfoldable pub memoryBy : Decision → List ℕ → List ℕ → List ℕ
+memoryBy d m p =
+    cond (eqb (d .act) 1) (placed m (d .at) (take (d .end - d .start) (drop (d .start) p)))
+    (cond (eqb (d .act) 2) (fetchAdded m (d .at) (d .swap))
+    (cond (eqb (d .act) 3) (swapped m (d .at) (d .compare) (d .swap)) m))
+
+unfoldable pub actsAtomic : ℕ → Bool
+actsAtomic act = eqb act 2 || eqb act 3
+
+-- an atomic's old value is saved with its PSN
+unfoldable pub savedBy : Ring → Decision → List (List ℕ) → List ℕ → List (List ℕ)
+savedBy ring d saved m = cond (actsAtomic (d .act)) (savedRows saved ring (d .psn .0) (wordAt m (d .at))) saved
+
+unfoldable pub savedRingBy : Ring → ℕ → Ring
+savedRingBy ring act = cond (actsAtomic act) (savedRing ring) ring
+
+-- the entry at the head is done with; it was held, or waited
+unfoldable pub ringTaken : Ring → Ring
+ringTaken r = record { head = slotAt (r .head) 1; count = r .count - 1 }
+
+unfoldable pub entriesBy : Bool → Ring → Ring
+entriesBy completes r = cond completes (ringTaken r) r
+
+-- the MSN rises by one where a message ends
+unfoldable pub msnBy : Bool → Msn → Msn
+msnBy ends msn = cond ends (msnNext msn) msn
+
+-- a READ that begins to be answered carries the MSN as it is after the packet
+unfoldable pub readBy : Decision → ReadAnswer → Msn → ReadAnswer
+readBy d old msn =
+    cond (eqb (d .responses) 0) old
+    (record { remaining = d .responses; offset = d .at; length = d .length; psn = d .psn; msn = msn })
+
+-- executed: the expected PSN moves on, and the mark is cleared
+unfoldable pub executedPair : Pair → Decision → Pair
+executedPair q d =
+    record {
+      setup = q .setup;
+      state = q .state;
+      expected = psnAfter (q .expected) (d .numbers);
+      msn = msnBy (d .ends) (q .msn);
+      mark = false;
+      message = d .message;
+      entries = entriesBy (d .completion .some) (q .entries);
+      read = readBy d (q .read) (msnBy (d .ends) (q .msn));
+      saved = savedRingBy (q .saved) (d .act);
+    }
+
+-- the same pair with another state, mark and READ being answered
+abbrev pub with : Pair → ℕ → Bool → ReadAnswer → Pair
+with q state mark reads =
+    record {
+      setup = q .setup;
+      state = state;
+      expected = q .expected;
+      msn = q .msn;
+      mark = mark;
+      message = q .message;
+      entries = q .entries;
+      read = reads;
+      saved = q .saved;
+    }
+
+-- the same pair with no message open. An entry that was held is first in the ring still, and waits again
+abbrev pub closing : Pair → Pair
+closing q =
+    record {
+      setup = q .setup;
+      state = q .state;
+      expected = q .expected;
+      msn = q .msn;
+      mark = q .mark;
+      message = noMessage;
+      entries = q .entries;
+      read = q .read;
+      saved = q .saved;
+    }
+
+-- What each answer leaves: 0 to 3 as executed; 4 may begin a READ's answer; 6 closes the message; 16 and 19 set the mark;
+-- 17 and 18 are the Error state; all others nothing
+unfoldable pub after : Pair → Decision → ℕ → Pair
+after q d number =
+    cond (leb number 3) (executedPair q d)
+    (cond (eqb number 4) (with q (q .state) (q .mark) (readBy d (q .read) (q .msn)))
+    (cond (eqb number 16 || eqb number 19) (with q (q .state) true (q .read))
+    (cond (eqb number 17 || eqb number 18) (with q 2 (q .mark) (q .read))
+    (cond (eqb number 6) (closing q) q))))
+
+unfoldable pub pairBy : Pair → Decision → Pair
+pairBy q d = after q d (statusNumber (d .status))

@@ -1,0 +1,114 @@
+-- The closed instance: by computation, and by the theorem.
+use Prim.Native.Nat.{ℕ, _≤_}
+use mathlib.Core.Path.{_≡_, refl, sym, ap, subst, _∙_}
+use mathlib.Core.Bool.{true, false}
+use mathlib.Core.List.{[], _∷_}
+use mathlib.Core.Logic.{inl, inr}
+use native.Mathlib.Omega.{arith}
+use lib.ListN.{length, getD, replicate}
+use Rattle.header.specs.Check.{pkeysMatch, fullMember}
+use Rattle.header.specs.Read.{otherService}
+use Rattle.pmtu.specs.Pieces.{pmtuFits, pieces}
+use Rattle.table.specs.Table.{regionRow, entryRow, firstFrom, sought, outside, pastTop, regionOutside, slotAt}
+use Rattle.table.specs.View.{regionOf}
+use Rattle.pair.specs.Claims.{SetupSound}
+use Rattle.pair.specs.Answer.{statusNumber, executed}
+use Rattle.pair.specs.Pair.{freshPair}
+use Rattle.pair.specs.Calls.{begun, called, calledAll}
+use Rattle.pair.specs.Host.{setUpStatus, setUp, setUpRegions, addStatus, addRegions, postStatus, posted, postEntries, readyStatus, madeReady}
+use Rattle.pair.specs.Sound.{setupUnfit, setupUnsound, numbersUnsound, ringUnsound, messageUnsound, readUnsound, pairUnsound}
+use Rattle.cut_spec.specs.Message.{carries, carriedLength, packetsOf}
+use Rattle.cut_spec.specs.declared.Request.the-variants.{Send, SendImmediate}
+use Rattle.uc_delivery.specs.Message.{Standing, packetOf, handed, Comes, firstEntry, Untold}
+use Rattle.uc_delivery.specs.Example.{setup, region, calls, made, message, out, first, fresh, AllMet, Delivered, broken, Interrupted}
+use Rattle.responder_spec.specs.Calls.{received}
+use Rattle.delivery.specs.Demand.{AtLeast, entryOf}
+use Rattle.uc_delivery.proofs.Before.{stands-made, leaves}
+use Rattle.uc_delivery.proofs.Lost.{comes, handed-in-part}
+use Rattle.uc_delivery.proofs.Whole.{handed-whole}
+
+sound : SetupSound setup
+unfolding setup
+sound = (record { pmtu = inl refl; service = inr refl; ours = omega arith; theirs = omega arith; start = omega arith; pkey = λ e. absurd (omega arith); timer = omega arith }, omega arith)
+
+is-standing : Standing made
+unfolding made setup calls region calledAll called begun setUp setUpStatus setUpRegions addStatus addRegions postStatus posted postEntries readyStatus madeReady executed statusNumber freshPair setupUnfit setupUnsound numbersUnsound ringUnsound messageUnsound readUnsound pairUnsound pmtuFits otherService outside pastTop regionOutside firstFrom sought regionRow entryRow slotAt
+is-standing = stands-made setup [] (replicate 16 (replicate 3 0)) (replicate 16 (replicate 2 0)) calls sound refl refl refl (tt, (tt, (tt, tt))) refl .0
+
+room : (i : ℕ) → 24 ≤ length (replicate {A = ℕ} 24 0)
+room i = omega arith
+
+pub all-met : AllMet
+unfolding fresh made setup calls region message calledAll called begun setUp setUpStatus setUpRegions addStatus addRegions postStatus posted postEntries readyStatus madeReady executed statusNumber freshPair setupUnfit setupUnsound numbersUnsound ringUnsound messageUnsound readUnsound pairUnsound pmtuFits otherService outside pastTop regionOutside firstFrom sought regionRow entryRow slotAt regionOf pkeysMatch fullMember
+all-met =
+    record {
+      send =
+          record {
+            comes = record { standing = is-standing; memory = refl; outputs = room; first24 = omega arith; addressed = record { limit = omega arith; service = refl; pmtu = refl; dest = refl; match = refl; pkey = omega arith; widths = tt }; carries = tt };
+            allowed = refl;
+            supplied = record { some = λ e. omega arith; long = omega arith };
+          };
+      sendImmediate =
+          record {
+            comes = record { standing = is-standing; memory = refl; outputs = room; first24 = omega arith; addressed = record { limit = omega arith; service = refl; pmtu = refl; dest = refl; match = refl; pkey = omega arith; widths = omega arith }; carries = tt };
+            allowed = refl;
+            supplied = record { some = λ e. omega arith; long = omega arith };
+          };
+      write =
+          record {
+            comes = record { standing = is-standing; memory = refl; outputs = room; first24 = omega arith; addressed = record { limit = omega arith; service = refl; pmtu = refl; dest = refl; match = refl; pkey = omega arith; widths = (omega arith, omega arith) }; carries = tt };
+            allowed = (refl, inr (region, refl, refl, omega arith, omega arith));
+            supplied = record { some = λ e. omega arith; long = tt };
+          };
+      writeImmediate =
+          record {
+            comes = record { standing = is-standing; memory = refl; outputs = room; first24 = omega arith; addressed = record { limit = omega arith; service = refl; pmtu = refl; dest = refl; match = refl; pkey = omega arith; widths = ((omega arith, omega arith), omega arith) }; carries = tt };
+            allowed = (refl, inl refl);
+            supplied = record { some = λ e. omega arith; long = tt };
+          };
+    }
+
+pub is-delivered : Delivered
+unfolding fresh message packetsOf carriedLength carries pieces
+is-delivered =
+    let M = all-met .sendImmediate in
+    (refl, handed-whole _ (message (SendImmediate 77) 600) _ fresh (M .comes) (M .allowed) (M .supplied))
+
+is-broken : Untold fresh broken
+unfolding broken fresh message packetsOf carriedLength carries pieces
+is-broken =
+    handed-in-part _ (message (SendImmediate 77) 600) _ fresh (true ∷ false ∷ false ∷ []) (all-met .sendImmediate .comes) refl (1, omega arith, refl) (inl refl)
+
+-- the pair after the one packet: set-up, regions and the table of entries are the same
+comes-broken : Comes out (message Send 3) first broken
+unfolding broken handed message packetsOf carriedLength carries pieces
+comes-broken =
+    let K = comes out (message (SendImmediate 77) 600) first fresh (all-met .sendImmediate .comes) 0 (omega arith) in
+    let A = K .addressed in
+    record {
+      standing = K .standing;
+      memory = K .memory;
+      outputs = K .outputs;
+      first24 = K .first24;
+      addressed = record { limit = omega arith; service = A .service; pmtu = A .pmtu; dest = A .dest; match = A .match; pkey = A .pkey; widths = tt };
+      carries = tt;
+    }
+
+sends-on : broken .whole .pair .setup .send ≡ true
+unfolding broken handed message fresh
+sends-on =
+    ap (λ s. s .send) (leaves fresh (packetOf (message (SendImmediate 77) 600) first 0) (out 0) (all-met .send .comes .standing .unreliable) .setup)
+    ∙ all-met .send .allowed
+
+fits-held : AtLeast (firstEntry (broken .whole) .length) Send 3
+unfolding broken handed received message fresh
+fits-held =
+    subst (λ r. 3 ≤ entryOf (getD (fresh .whole .entries) (slotAt (r .head) 0) []) .length) (sym (is-broken .entries)) (all-met .send .supplied .long)
+
+pub is-interrupted : Interrupted
+unfolding fresh message packetsOf carriedLength carries pieces
+is-interrupted = (
+  is-broken,
+  handed-whole _ (message Send 3) _ broken comes-broken sends-on
+      (record { some = λ e. subst (λ r. 1 ≤ r .count) (sym (is-broken .entries)) (all-met .send .supplied .some refl); long = fits-held }),
+)

@@ -1,0 +1,344 @@
+-- Packet i of a permitted message, before a pair where it follows, is executed: what the run is then.
+use Prim.Native.Nat.{ℕ, zero, suc, _+_, _-_, _*_, _^_, _≤_, _<_}
+use mathlib.Core.Path.{_≡_, refl, sym, ap, subst, _∙_}
+use mathlib.Core.Bool.{Bool, true, false, cond, _&&_, true≢false}
+use mathlib.Core.List.{List, [], _∷_, _++_}
+use mathlib.Core.Logic.{_⊎_, inl, inr}
+use native.Mathlib.Omega.{arith}
+use lib.Dec.{eqb}
+use lib.ListN.{length, getD, replicate, length-append, length-replicate}
+use borrow.Author.Tests.{eqb-true, eqb-false, ltb-false}
+use Rattle.sequence.specs.Sequence.{distance, psnAfter}
+use Rattle.sequence.specs.declared.Psn.{Psn}
+use Rattle.sequence.specs.declared.Msn.{Msn}
+use Rattle.memory.specs.Memory.{put}
+use Rattle.pmtu.specs.Pieces.{pieceAt}
+use Rattle.table.specs.Table.{outside, slotAt}
+use Rattle.table.specs.declared.Entry.{Entry}
+use Rattle.pair.specs.Calls.{Whole}
+use Rattle.pair.specs.Claims.{SetupFit}
+use Rattle.pair.specs.Pair.{noMessage}
+use Rattle.pair.specs.declared.OpenMessage.{OpenMessage}
+use Rattle.pair.specs.declared.Pair.{Pair}
+use Rattle.cut_spec.specs.Claims.{Carrier, kindNumber}
+use Rattle.cut_spec.specs.declared.Request.{Request}
+use Rattle.cut_spec.specs.declared.Request.the-variants.{Send, SendImmediate, Write, WriteImmediate, Read, CmpSwap, FetchAdd}
+use Rattle.request_spec.specs.Verdict.{carrying, usesEntry, netOf, current, requestCode, expectedCode}
+use Rattle.request_spec.specs.declared.Packet.{Packet}
+use Rattle.responder_spec.specs.declared.Decision.{Decision}
+use Rattle.responder_spec.specs.Decide.{decided, regionFor, closedBy, orphaned, strays, completionOf, grown, placing, unanswered}
+use Rattle.responder_spec.specs.Apply.{memoryBy, entriesBy, msnBy}
+use Rattle.responder_spec.specs.Answers.{Willing}
+use Rattle.responder_spec.specs.Kept.{Steady}
+use Rattle.responder_spec.specs.declared.Completion.{Completion}
+use Rattle.responder_spec.proofs.Views.{current-closed, same-code}
+use Rattle.responder_spec.proofs.Sizes.{inbound-lengths}
+use Rattle.responder_spec.proofs.Kept.{inbound-steady}
+use Rattle.responder_spec.specs.Calls.{reports}
+use Rattle.delivery.specs.Stream.{Message, Slot, packetCount, packetAt}
+use Rattle.delivery.specs.Plain.{takes, needs, needing, isLast, none, completionFor, lies}
+use Rattle.delivery.specs.Demand.{Run, taken, Permitted, AtLeast}
+use Rattle.delivery.proofs.Chain.{Stands}
+use Rattle.delivery.proofs.Cutting.{placeFor, cutPacket, psn-small}
+use Rattle.delivery.proofs.Operands.{addressOf, keyOf, immediateOf}
+use Rattle.delivery.proofs.Rel.{IsOf, Holding, Under}
+use Rattle.delivery.proofs.Verdicts.{passes}
+use Rattle.delivery.proofs.Fitting.{Suits, and-false}
+use Rattle.delivery.proofs.Checks.{ends-is, says, before, behind, waiting-is}
+use Rattle.delivery.proofs.Entries.{entry-fits}
+use Rattle.delivery.proofs.Requests.{Carries, Sends, Writes, send-carries, send-imm-carries, write-carries, write-imm-carries, send-sends, send-imm-sends, write-writes, write-imm-writes}
+use Rattle.delivery.proofs.Placing.{placing-told, grown-more}
+use Rattle.delivery.proofs.Landing.{in-place, send-lands, send-completes, send-long, write-lands, write-completes, write-long}
+use Rattle.uc_delivery.specs.Message.{firstEntry, Supplied, target}
+use Rattle.uc_delivery.proofs.Steps.{decided-is, taken-is, at, placed-out, delivers}
+
+-- a SEND or a WRITE
+pub kinds : (r : Request) → Carrier r → Carries r × (Sends r ⊎ Writes r)
+kinds Send c = (send-carries, inl send-sends)
+kinds (SendImmediate v) c = (send-imm-carries v, inl (send-imm-sends v))
+kinds (Write t) c = (write-carries t, inr (write-writes t))
+kinds (WriteImmediate t v) c = (write-imm-carries t v, inr (write-imm-writes t v))
+kinds (Read a) c = absurd c
+kinds (CmpSwap a) c = absurd c
+kinds (FetchAdd t v) c = absurd c
+
+-- what an open message of it holds
+abbrev pub holding : Request → Entry → List Entry
+holding Send e = e ∷ []
+holding (SendImmediate v) e = e ∷ []
+holding (Write t) e = []
+holding (WriteImmediate t v) e = []
+holding (Read a) e = []
+holding (CmpSwap a) e = []
+holding (FetchAdd t v) e = []
+
+pub holds : (r : Request) (e : Entry) (n : ℕ) → AtLeast (e .length) r n → Holding r n (holding r e)
+holds Send e n l = (e, refl, l)
+holds (SendImmediate v) e n l = (e, refl, l)
+holds (Write t) e n l = refl
+holds (WriteImmediate t v) e n l = refl
+holds (Read a) e n l = refl
+holds (CmpSwap a) e n l = refl
+holds (FetchAdd t v) e n l = refl
+
+suits : (r : Request) (n most : ℕ) → AtLeast most r n → Suits r n most
+suits Send n most l = l
+suits (SendImmediate v) n most l = l
+suits (Write t) n most l = tt
+suits (WriteImmediate t v) n most l = tt
+suits (Read a) n most l = tt
+suits (CmpSwap a) n most l = tt
+suits (FetchAdd t v) n most l = tt
+
+-- what is held before packet i: nothing before the first
+abbrev pub heldAt : Bool → Request → Entry → List Entry
+heldAt begins r e = cond begins [] (holding r e)
+
+-- a packet that needs an entry is of a message that takes one, and finds none held; and what is held was taken
+needs-takes : (r : Request) (i n : ℕ) → needs r i n ≡ true → takes r ≡ true
+needs-takes Send i n h = refl
+needs-takes (SendImmediate v) i n h = refl
+needs-takes (Write t) i n h = absurd (true≢false (sym h))
+needs-takes (WriteImmediate t v) i n h = refl
+needs-takes (Read a) i n h = absurd (true≢false (sym h))
+needs-takes (CmpSwap a) i n h = absurd (true≢false (sym h))
+needs-takes (FetchAdd t v) i n h = absurd (true≢false (sym h))
+
+none-write : (b : Bool) → _≡_ {A = List Entry} (cond b [] []) []
+none-write true = refl
+none-write false = refl
+
+needs-none : (r : Request) (i n : ℕ) (e : Entry) → needs r i n ≡ true → heldAt (eqb i 0) r e ≡ []
+needs-none Send i n e h = ap (λ b. cond b [] (e ∷ [])) h
+needs-none (SendImmediate v) i n e h = ap (λ b. cond b [] (e ∷ [])) h
+needs-none (Write t) i n e h = none-write (eqb i 0)
+needs-none (WriteImmediate t v) i n e h = none-write (eqb i 0)
+needs-none (Read a) i n e h = none-write (eqb i 0)
+needs-none (CmpSwap a) i n e h = none-write (eqb i 0)
+needs-none (FetchAdd t v) i n e h = none-write (eqb i 0)
+
+held-there : (r : Request) (b : Bool) (e : Entry) (count : ℕ) → (takes r ≡ true → 1 ≤ count) → length (heldAt b r e) ≤ count
+held-there r true e count h = omega arith
+held-there Send false e count h = h refl
+held-there (SendImmediate v) false e count h = h refl
+held-there (Write t) false e count h = omega arith
+held-there (WriteImmediate t v) false e count h = omega arith
+held-there (Read a) false e count h = omega arith
+held-there (CmpSwap a) false e count h = omega arith
+held-there (FetchAdd t v) false e count h = omega arith
+
+none-some : (k : ℕ) (e : Entry) → 1 ≤ k → none (replicate k e) ≡ false
+none-some zero e h = absurd (omega arith)
+none-some (suc k) e h = refl
+
+-- a packet uses an entry only if its message takes one
+uses-takes : (r : Request) (last imm : Bool) → Carrier r → imm ≡ (last && immediateOf r) → usesEntry (kindNumber r) imm ≡ true → takes r ≡ true
+unfolding usesEntry
+uses-takes Send last imm c e h = refl
+uses-takes (SendImmediate v) last imm c e h = refl
+uses-takes (Write t) last imm c e h = absurd (true≢false (sym h ∙ (e ∙ and-false last)))
+uses-takes (WriteImmediate t v) last imm c e h = refl
+uses-takes (Read a) last imm c e h = absurd c
+uses-takes (CmpSwap a) last imm c e h = absurd c
+uses-takes (FetchAdd t v) last imm c e h = absurd c
+
+pub carries-bytes : (r : Request) → Carrier r → carrying (kindNumber r) ≡ true
+unfolding carrying
+carries-bytes Send c = refl
+carries-bytes (SendImmediate v) c = refl
+carries-bytes (Write t) c = refl
+carries-bytes (WriteImmediate t v) c = refl
+carries-bytes (Read a) c = absurd c
+carries-bytes (CmpSwap a) c = absurd c
+carries-bytes (FetchAdd t v) c = absurd c
+
+target-send : (r : Request) → Sends r → (regions : List (List ℕ)) (e : Entry) → target r regions e ≡ e .offset
+target-send Send Z regions e = refl
+target-send (SendImmediate v) Z regions e = refl
+target-send (Write t) Z regions e = absurd (omega (arith, Z .kind))
+target-send (WriteImmediate t v) Z regions e = absurd (omega (arith, Z .kind))
+target-send (Read a) Z regions e = absurd (omega (arith, Z .kind))
+target-send (CmpSwap a) Z regions e = absurd (omega (arith, Z .kind))
+target-send (FetchAdd t v) Z regions e = absurd (omega (arith, Z .kind))
+
+target-write : (r : Request) → Writes r → (regions : List (List ℕ)) (e : Entry) → target r regions e ≡ lies regions (keyOf r) (addressOf r)
+target-write Send Z regions e = absurd (omega (arith, Z .kind))
+target-write (SendImmediate v) Z regions e = absurd (omega (arith, Z .kind))
+target-write (Write t) Z regions e = refl
+target-write (WriteImmediate t v) Z regions e = refl
+target-write (Read a) Z regions e = absurd (omega (arith, Z .kind))
+target-write (CmpSwap a) Z regions e = absurd (omega (arith, Z .kind))
+target-write (FetchAdd t v) Z regions e = absurd (omega (arith, Z .kind))
+
+module _ (w : Whole) (m : Message) (first : Psn) (P : Permitted (w .pair .setup) (w .regions) m) (Cr : Carrier (m .request))
+    (small : first .0 < 2 ^ 24) (uc : w .pair .setup .service ≡ 1) (ready : w .pair .state ≡ 1) (idle : w .pair .read .remaining ≡ 0)
+    (sup : Supplied w m) where
+  abbrev pub slot : ℕ → Slot
+  slot i = record { message = m; first = first; index = i }
+
+  abbrev pub entry : List ℕ
+  entry = getD (w .entries) (slotAt (w .pair .entries .head) 0) []
+
+  abbrev pub held : ℕ → List Entry
+  held i = heldAt (eqb i 0) (m .request) (firstEntry w)
+
+  -- packet i follows where E is expected and u open
+  pub record Follows (i : ℕ) (E : Psn) (u : OpenMessage) : Type 0 where
+    pub orphan : orphaned (placeFor (slot i)) (u .kind) ≡ false
+    pub stray : strays (cutPacket (slot i)) E (u .kind) ≡ false
+    pub under : Under (eqb i 0) (slot i) (closedBy (placeFor (slot i)) u) (held i)
+
+  pub stands : (i : ℕ) → i < packetCount m → Stands (w .pair .setup) (w .regions) (slot i)
+  stands i h = record { allowed = P .allowed; sent = record { addressed = P .addressed; served = inr (uc, Cr); inside = h; first = small } }
+
+  module _ (i : ℕ) (h : i < packetCount m) (E : Psn) (n : Msn) (b : Bool) (u : OpenMessage) (mem : List ℕ) (cs : List Completion) (F : Follows i E u)
+      (Y : Steady (at w E n b u (w .pair .entries) mem cs .whole)) (ml : length mem ≡ w .pair .setup .memory) where
+    abbrev x : Run
+    x = at w E n b u (w .pair .entries) mem cs
+
+    abbrev q : Pair
+    q = at w E n b u (w .pair .entries) mem cs .whole .pair
+
+    abbrev t : Slot
+    t = slot i
+
+    -- the message that the packet leaves open
+    abbrev v : OpenMessage
+    v = closedBy (placeFor (slot i)) u
+
+    abbrev M : OpenMessage
+    M = current (closedBy (placeFor (slot i)) u) (cutPacket (slot i))
+
+    abbrev region : List ℕ
+    region = regionFor (kindNumber (m .request)) (current (closedBy (placeFor (slot i)) u) (cutPacket (slot i)) .key) (w .regions)
+
+    H : Stands (w .pair .setup) (w .regions) t
+    H = stands i h
+
+    f : SetupFit (w .pair .setup)
+    f = Y .pair .setup .0
+
+    abbrev waiting : List Entry
+    waiting = replicate (w .pair .entries .count - length (held i)) (firstEntry w)
+
+    count-is : w .pair .entries .count ≡ length (held i ++ waiting)
+    count-is =
+        let l = held-there (m .request) (eqb i 0) (firstEntry w) (w .pair .entries .count) (λ e. omega (arith, sup .some e)) in
+        omega (arith, length-append (held i) waiting, length-replicate (w .pair .entries .count - length (held i)) (firstEntry w), l)
+
+    wanted : (needing t && none waiting) ≡ false
+    wanted = go (needing t) refl
+      where
+        go : (c : Bool) → needing t ≡ c → (c && none waiting) ≡ false
+        go false e = refl
+        go true e =
+            let z = sup .some (needs-takes (m .request) i (packetCount m) e) in
+            let k = ap length (needs-none (m .request) i (packetCount m) (firstEntry w) e) in
+            none-some (w .pair .entries .count - length (held i)) (firstEntry w) (omega (arith, z, k))
+
+    immediate-is : cutPacket t .operands .immediate ≡ (isLast t && immediateOf (m .request))
+    immediate-is = says (w .pair .setup) (w .regions) f t H v .immediate ∙ ap (λ c. c && immediateOf (m .request)) (ends-is (w .pair .setup) (w .regions) f t H v (held i) (F .under))
+
+    -- the request checks pass it
+    code-zero : expectedCode (w .pair .setup) v (cutPacket t) (w .pair .entries .count) entry region ≡ 0
+    code-zero =
+        passes (w .pair .setup) v (cutPacket t) (w .pair .entries .count) entry region (before (w .pair .setup) (w .regions) f t H v (held i) (F .under))
+        (waiting-is (w .pair .setup) (w .regions) f t H v (held i) (F .under) waiting (w .pair .entries .count) count-is ∙ wanted)
+        (behind (w .pair .setup) (w .regions) f t H v (held i) (F .under) entry (Y .regions)
+        (λ e. entry-fits (w .pair .setup .memory) (w .entries) (w .pair .entries) (Y .entries) (sup .some (uses-takes (m .request) (isLast t) _ Cr immediate-is e)))
+        (suits (m .request) (length (m .bytes)) (getD entry 2 0) (sup .long)))
+
+    -- so the rules let it do what it would on the reliable connection, unanswered
+    code-is : (m' : OpenMessage) → M ≡ m' → requestCode (w .pair .setup) v (cutPacket t) (w .pair .entries .count) entry (regionFor (kindNumber (m .request)) (m' .key) (w .regions)) ≡ 0
+    code-is m' e =
+        subst (λ y. requestCode (w .pair .setup) v (cutPacket t) (w .pair .entries .count) entry (regionFor (kindNumber (m .request)) (y .key) (w .regions)) ≡ 0) e
+        (sym (same-code (w .pair .setup) u (cutPacket t) E (w .pair .entries .count) entry region (F .stray)) ∙ code-zero)
+
+    abbrev d : Decision
+    d = placing (cutPacket (slot i)) M entry region
+
+    W : (out : List ℕ) → 24 ≤ length out → Willing q mem out
+    W out o = record { room = o; memory = ml; sound = Y .pair; idle = idle }
+
+    decides : (out : List ℕ) → 24 ≤ length out
+        → decided q (w .regions) (w .entries) (w .saved) (length mem) (packetAt t) (length out) ≡ unanswered (1 + distance (cutPacket t .psn .0) (E .0)) d
+    decides out o =
+        let c = current-closed u (cutPacket t) in
+        decided-is q (w .regions) (w .entries) (w .saved) mem out (W out o) uc ready t (H .sent)
+        ∙ (delivers (cutPacket t) (w .pair .setup) E u (w .pair .entries .count) entry (regionFor (kindNumber (m .request)) (current u (cutPacket t) .key) (w .regions))
+        (F .orphan) (F .stray) (code-is (current u (cutPacket t)) c) (carries-bytes (m .request) Cr)
+        ∙ ap (λ y. unanswered (1 + distance (cutPacket t .psn .0) (E .0)) (placing (cutPacket t) y entry (regionFor (kindNumber (m .request)) (y .key) (w .regions)))) (sym c))
+
+    C : Carries (m .request)
+    C = kinds (m .request) Cr .0
+
+    abbrev piece : List ℕ
+    piece = pieceAt (m .bytes) (m .connection .pmtu) i
+
+    lands : Sends (m .request) ⊎ Writes (m .request) → memoryBy d mem (packetAt t) ≡ put mem (target (m .request) (w .regions) (firstEntry w) + i * m .connection .pmtu) piece
+    unfolding outside
+    lands (inl Z) =
+        let o : getD entry 1 0 + getD entry 2 0 ≤ w .pair .setup .memory =
+        ltb-false (w .pair .setup .memory) (getD entry 1 0 + getD entry 2 0) (entry-fits (w .pair .setup .memory) (w .entries) (w .pair .entries) (Y .entries) (sup .some (Z .takes))) in
+        send-lands (w .pair .setup) (w .regions) f t H v (held i) (F .under) C entry Z mem (omega (arith, o, ml)) (Z .least (length (m .bytes)) (getD entry 2 0) (sup .long))
+        ∙ ap (λ k. put mem (k + i * m .connection .pmtu) piece) (sym (target-send (m .request) Z (w .regions) (firstEntry w)))
+    lands (inr Z) =
+        write-lands (w .pair .setup) (w .regions) f t H v (held i) (F .under) C entry Z (Y .regions) mem ml
+        ∙ ap (λ k. put mem (k + i * m .connection .pmtu) piece) (sym (target-write (m .request) Z (w .regions) (firstEntry w)))
+
+    told : Sends (m .request) ⊎ Writes (m .request)
+        → (reports (completionOf (cutPacket t) M (getD entry 0 0)) ≡ cond (isLast t && takes (m .request)) (completionFor (m .request) (firstEntry w) (length (m .bytes)) ∷ []) [])
+        × (completionOf (cutPacket t) M (getD entry 0 0) .some ≡ (isLast t && takes (m .request)))
+    told (inl Z) =
+        placing-told (w .pair .setup) (w .regions) f t H v (held i) (F .under) C entry region (firstEntry w)
+        (send-completes (w .pair .setup) (w .regions) f t H v (held i) (F .under) C entry Z) (λ e. refl) (send-long (w .pair .setup) (w .regions) f t H v (held i) (F .under) C entry Z)
+    told (inr Z) =
+        placing-told (w .pair .setup) (w .regions) f t H v (held i) (F .under) C entry region (firstEntry w)
+        (write-completes (w .pair .setup) (w .regions) f t H v (held i) (F .under) C entry Z) (λ e. refl) (λ e. write-long (w .pair .setup) (w .regions) f t H v (held i) (F .under) C entry Z)
+
+    -- the run after the packet
+    pub steps : (out : List ℕ) → 24 ≤ length out
+        → taken x (packetAt t) out
+        ≡ at w (psnAfter (psnAfter first i) 1) (msnBy (isLast t) n) false (grown (placeFor t) M (netOf (cutPacket t))) (entriesBy (isLast t && takes (m .request)) (w .pair .entries))
+        (put mem (target (m .request) (w .regions) (firstEntry w) + i * m .connection .pmtu) piece)
+        (cs ++ cond (isLast t && takes (m .request)) (completionFor (m .request) (firstEntry w) (length (m .bytes)) ∷ []) [])
+    unfolding placing
+    steps out o =
+        let k = kinds (m .request) Cr .1 in
+        taken-is x (packetAt t) out (unanswered (1 + distance (cutPacket t .psn .0) (E .0)) d) (decides out o)
+        ∙ (placed-out w E n b u (w .pair .entries) mem cs (packetAt t) (cutPacket t) M entry region
+        ∙ λ j.
+        at w (psnAfter (psnAfter first i) 1) (msnBy (ends-is (w .pair .setup) (w .regions) f t H v (held i) (F .under) j) n) false (grown (placeFor t) M (netOf (cutPacket t)))
+        (entriesBy (told k .1 j) (w .pair .entries)) (lands k j) (cs ++ told k .0 j))
+
+    -- more packets to come: the next one's message is open
+    pub more : isLast t ≡ false → IsOf (slot (suc i)) (grown (placeFor t) M (netOf (cutPacket t)))
+    more e = grown-more (w .pair .setup) (w .regions) f t H v (held i) (F .under) C entry region e
+
+    -- none: the message is done with
+    pub done : isLast t ≡ true → grown (placeFor t) M (netOf (cutPacket t)) ≡ noMessage
+    unfolding grown
+    done e = rw (ends-is (w .pair .setup) (w .regions) f t H v (held i) (F .under) ∙ e)
+
+    -- where the message goes there is memory, unless it has no bytes
+    pub bounded : (length (m .bytes) ≡ 0) ⊎ (target (m .request) (w .regions) (firstEntry w) ≤ length mem)
+    unfolding outside
+    bounded = go (kinds (m .request) Cr .1) (eqb (length (m .bytes)) 0) refl
+      where
+        go : Sends (m .request) ⊎ Writes (m .request) → (c : Bool) → eqb (length (m .bytes)) 0 ≡ c
+            → (length (m .bytes) ≡ 0) ⊎ (target (m .request) (w .regions) (firstEntry w) ≤ length mem)
+        go k true z = inl (eqb-true (length (m .bytes)) 0 z)
+        go (inl Z) false z =
+            let o : getD entry 1 0 + getD entry 2 0 ≤ w .pair .setup .memory =
+            ltb-false (w .pair .setup .memory) (getD entry 1 0 + getD entry 2 0) (entry-fits (w .pair .setup .memory) (w .entries) (w .pair .entries) (Y .entries) (sup .some (Z .takes))) in
+            inr (omega (arith, o, ml, target-send (m .request) Z (w .regions) (firstEntry w)))
+        go (inr Z) false z =
+            let a = in-place (w .pair .setup) (w .regions) f t H v (held i) (F .under) C entry Z (Y .regions) (omega (arith, eqb-false (length (m .bytes)) 0 z)) .1 in
+            inr (omega (arith, a, ml, target-write (m .request) Z (w .regions) (firstEntry w)))
+
+    -- memory keeps its length, and the pair stays steady
+    pub kept : (out : List ℕ) → length (taken x (packetAt t) out .memory) ≡ w .pair .setup .memory
+    kept out = inbound-lengths q (w .regions) (w .entries) (w .saved) mem (packetAt t) out .0 ∙ ml
+
+    pub steady : (out : List ℕ) → Steady (taken x (packetAt t) out .whole)
+    steady out = inbound-steady (x .whole) mem (packetAt t) out (psn-small (w .pair .setup) f t (H .sent)) Y

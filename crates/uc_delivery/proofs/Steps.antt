@@ -1,0 +1,116 @@
+-- A packet of the message, before a pair where it follows: the decision, and the run that it leaves.
+use Prim.Native.Nat.{ℕ, _+_}
+use mathlib.Core.Path.{_≡_, ap, _∙_}
+use mathlib.Core.Bool.{Bool, true, false}
+use mathlib.Core.List.{List, [], _++_}
+use lib.ListN.{length}
+use borrow.Author.Tests.{eq-eqb}
+use Rattle.sequence.specs.Sequence.{distance, psnAfter}
+use Rattle.sequence.specs.declared.Psn.{Psn}
+use Rattle.sequence.specs.declared.Msn.{Msn}
+use Rattle.table.specs.declared.Ring.{Ring}
+use Rattle.pair.specs.Answer.{statusNumber}
+use Rattle.pair.specs.Calls.{Whole}
+use Rattle.pair.specs.declared.Setup.{Setup}
+use Rattle.pair.specs.declared.OpenMessage.{OpenMessage}
+use Rattle.pair.specs.declared.Pair.{Pair}
+use Rattle.cut_spec.specs.Claims.{kindNumber}
+use Rattle.request_spec.specs.Verdict.{carrying, current, requestCode}
+use Rattle.request_spec.specs.declared.Packet.{Packet}
+use Rattle.responder_spec.specs.Decide.{decided, packetDecision, headEntry, regionFor, orphaned, strays, closedBy, placing, unanswered, delivering, ucSettled, ucDecision}
+use Rattle.responder_spec.specs.Apply.{executedPair, pairBy, memoryBy, savedBy, savedRingBy, entriesBy, msnBy, readBy, actsAtomic, after}
+use Rattle.responder_spec.specs.Answers.{Willing}
+use Rattle.responder_spec.specs.Calls.{received, reports}
+use Rattle.responder_spec.specs.Inbound.{decision, inbound, inboundMemory, inboundSaved, outcomeBy}
+use Rattle.responder_spec.specs.declared.Completion.{Completion}
+use Rattle.responder_spec.specs.declared.Decision.{Decision}
+use Rattle.responder_spec.proofs.Answers.{goes}
+use Rattle.responder_spec.proofs.Views.{number-taken}
+use Rattle.delivery.specs.Stream.{Slot, packetAt}
+use Rattle.delivery.specs.Demand.{Run, taken}
+use Rattle.delivery.proofs.Chain.{Sent}
+use Rattle.delivery.proofs.Cutting.{cutPacket, admits, is-packet}
+
+-- Not refused, the header checks passed: the rules of the unreliable connection decide
+module _ (q : Pair) (regions entries saved : List (List ℕ)) (m out : List ℕ) (W : Willing q m out) (uc : q .setup .service ≡ 1) (ready : q .state ≡ 1)
+    (t : Slot) (H : Sent (q .setup) t) where
+  abbrev pub regionAt : OpenMessage → List ℕ
+  regionAt u = regionFor (kindNumber (t .message .request)) (u .key) regions
+
+  pub decided-is : decided q regions entries saved (length m) (packetAt t) (length out)
+      ≡ ucDecision (cutPacket t) (q .setup) (q .expected) (q .message) (q .entries .count) (headEntry q entries) (regionAt (current (q .message) (cutPacket t)))
+  unfolding decided packetDecision
+  decided-is =
+      let f = W .sound .setup .0 in
+      rw (goes q m out W, eq-eqb (q .state) 1 ready, admits (q .setup) f t H)
+      (ap (packetDecision q regions entries saved) (is-packet (q .setup) f t H)
+      ∙ rw (eq-eqb (q .setup .service) 1 uc))
+
+-- the run with a decision carried out
+abbrev pub carriedOut : Run → Decision → List ℕ → Run
+carriedOut x d b =
+    record {
+      whole =
+          record {
+            pair = pairBy (x .whole .pair) d;
+            regions = x .whole .regions;
+            entries = x .whole .entries;
+            saved = savedBy (x .whole .pair .saved) d (x .whole .saved) (x .memory);
+          };
+      memory = memoryBy d (x .memory) b;
+      completions = x .completions ++ reports (d .completion);
+    }
+
+pub taken-is : (x : Run) (p out : List ℕ) (d : Decision)
+    → decided (x .whole .pair) (x .whole .regions) (x .whole .entries) (x .whole .saved) (length (x .memory)) p (length out) ≡ d
+    → taken x p out ≡ carriedOut x d p
+unfolding received inbound inboundMemory inboundSaved decision outcomeBy
+taken-is x p out d e = ap (λ c. carriedOut x c p) e
+
+-- The run of w, with what a SEND or WRITE moves
+abbrev pub at : Whole → Psn → Msn → Bool → OpenMessage → Ring → List ℕ → List Completion → Run
+at w expected msn mark message entries memory completions =
+    record {
+      whole =
+          record {
+            pair =
+                record {
+                  setup = w .pair .setup;
+                  state = w .pair .state;
+                  expected = expected;
+                  msn = msn;
+                  mark = mark;
+                  message = message;
+                  entries = entries;
+                  read = w .pair .read;
+                  saved = w .pair .saved;
+                };
+            regions = w .regions;
+            entries = w .entries;
+            saved = w .saved;
+          };
+      memory = memory;
+      completions = completions;
+    }
+
+-- a payload placed, and no answer sent
+pub placed-out : (w : Whole) (e : Psn) (n : Msn) (b : Bool) (u : OpenMessage) (r : Ring) (m : List ℕ) (cs : List Completion)
+    (p : List ℕ) (k : Packet) (t : OpenMessage) (entry region : List ℕ)
+    → let d = placing k t entry region in
+    carriedOut (at w e n b u r m cs) (unanswered (1 + distance (k .psn .0) (e .0)) d) p
+    ≡ at w (psnAfter (k .psn) 1) (msnBy (d .ends) n) false (d .message) (entriesBy (d .completion .some) r) (memoryBy d m p) (cs ++ reports (d .completion))
+unfolding pairBy after statusNumber executedPair placing readBy savedRingBy savedBy actsAtomic memoryBy
+placed-out w e n b u r m cs p k t entry region =
+    ap (λ x. at w x (msnBy (placing k t entry region .ends) n) false (placing k t entry region .message) (entriesBy (placing k t entry region .completion .some) r) (memoryBy (placing k t entry region) m p) (cs ++ reports (placing k t entry region .completion)))
+    (number-taken (k .psn) e)
+
+-- what the rules decide of a SEND or WRITE that follows and passes the checks
+pub delivers : (p : Packet) (s : Setup) (expected : Psn) (under : OpenMessage) (count : ℕ) (entry region : List ℕ)
+    → orphaned (p .place) (under .kind) ≡ false
+    → strays p expected (under .kind) ≡ false
+    → requestCode s (closedBy (p .place) under) p count entry region ≡ 0
+    → carrying (p .kind) ≡ true
+    → ucDecision p s expected under count entry region
+    ≡ unanswered (1 + distance (p .psn .0) (expected .0)) (placing p (current under p) entry region)
+unfolding ucDecision ucSettled delivering
+delivers p s expected under count entry region o t z c = rw (o, t, z, c)

@@ -1,0 +1,42 @@
+use mathlib.Core.Path.{sym, ap, _∙_}
+use Rattle.udalopek_spec.specs.Headers.{readNumber, readBth, readExtension, readCheck, toldBth, toldExtension}
+use borrow.Author.Needs.{needs}
+use Rattle.udalopek.proofs.headers.udalopek_read_header.Statement.{statement}
+use Rattle.udalopek.proofs.headers.udalopek_read_header.Tie as tie
+
+read-requires : tie.Need-read-requires
+read-requires c κs = search needs
+
+enum-known-found : tie.Need-enum-known-found
+enum-known-found c = search needs
+
+enum-known-found-2 : tie.Need-enum-known-found-2
+enum-known-found-2 c = search needs
+
+tell-header-requires : tie.Need-tell-header-requires
+tell-header-requires c κs = search needs
+
+returns : tie.Need-returns
+unfolding readNumber readBth readExtension readCheck toldBth toldExtension
+returns c =
+    let A = c .before .before .before .before .before .args in
+    let e = sym (c .before .before .before .read .ensures) ∙ c .before .found .given .1 in
+    (sym (ap readCheck e), (sym (ap (λ h. toldBth h (A .bth .now)) e), sym (ap (λ h. toldExtension h (A .extension .now)) e)))
+
+returns-2 : tie.Need-returns-2
+unfolding readNumber readBth readExtension readCheck toldBth toldExtension
+returns-2 c =
+    let A = c .before .before .before .before .before .before .before .before .args in
+    let e = sym (c .before .before .before .before .before .before .read .ensures) ∙ c .before .before .before .before .found2 .given .1 in
+    (c .tell-header .ensures .0 ∙ sym (ap readCheck e), (c .tell-header .ensures .1 .0 ∙ sym (ap (λ h. toldBth h (A .bth .now)) e), c .tell-header .ensures .1 .1 ∙ sym (ap (λ h. toldExtension h (A .extension .now)) e)))
+
+pub udalopek-read-header-spec : {M : Type 1} → statement M
+udalopek-read-header-spec =
+    tie.close
+    (tie.spec
+    read-requires
+    enum-known-found
+    enum-known-found-2
+    tell-header-requires
+    returns
+    returns-2)

@@ -1,0 +1,47 @@
+use Rattle.udalopek_spec.specs.Headers.{writeNumber, writeOutput, writeTold}
+use borrow.Author.Needs.{needs}
+use Rattle.udalopek.proofs.headers.udalopek_write_header.Statement.{statement}
+use Rattle.udalopek.proofs.headers.udalopek_write_header.Tie as tie
+
+own-words-requires : tie.Need-own-words-requires
+own-words-requires c κs = search needs
+
+bth-from-requires : tie.Need-bth-from-requires
+bth-from-requires c κs = search needs
+
+extension-from-requires : tie.Need-extension-from-requires
+extension-from-requires c κs = search needs
+
+write-requires : tie.Need-write-requires
+write-requires c κs = search needs
+
+bytes-told-requires : tie.Need-bytes-told-requires
+bytes-told-requires c κs = search needs
+
+refusal-told-requires : tie.Need-refusal-told-requires
+refusal-told-requires c κs = search needs
+
+same-length : tie.Need-same-length
+same-length c = search needs
+
+returns : tie.Need-returns
+unfolding writeNumber writeOutput writeTold
+returns c = (simp (← c .before .before .before .before .before .before .before .before .before .before .own-words .ensures, c .before .before .before .before .before .before .before .before .before .if1 .taken, ← c .before .before .before .before .before .before .before .before .bth-from .ensures, ← c .before .before .before .before .before .before .before .extension-from .ensures, ← c .before .before .before .before .before .write .ensures .1, ← c .before .before .before .before .before .write .ensures .0, ← c .before .before .bytes-told .ensures, ← c .refusal-told .ensures), (simp (← c .before .before .before .before .before .before .before .before .before .before .own-words .ensures, c .before .before .before .before .before .before .before .before .before .if1 .taken, ← c .before .before .before .before .before .before .before .before .bth-from .ensures, ← c .before .before .before .before .before .before .before .extension-from .ensures, ← c .before .before .before .before .before .write .ensures .1, ← c .before .before .before .before .before .write .ensures .0, ← c .before .before .bytes-told .ensures, ← c .refusal-told .ensures), simp (← c .before .before .before .before .before .before .before .before .before .before .own-words .ensures, c .before .before .before .before .before .before .before .before .before .if1 .taken, ← c .before .before .before .before .before .before .before .before .bth-from .ensures, ← c .before .before .before .before .before .before .before .extension-from .ensures, ← c .before .before .before .before .before .write .ensures .1, ← c .before .before .before .before .before .write .ensures .0, ← c .before .before .bytes-told .ensures, ← c .refusal-told .ensures)))
+
+returns-2 : tie.Need-returns-2
+unfolding writeNumber writeOutput writeTold
+returns-2 c = (simp (← c .before .before .own-words .ensures, c .before .if1 .left), (simp (← c .before .before .own-words .ensures, c .before .if1 .left), simp (← c .before .before .own-words .ensures, c .before .if1 .left)))
+
+pub udalopek-write-header-spec : {M : Type 1} → statement M
+udalopek-write-header-spec =
+    tie.close
+    (tie.spec
+    own-words-requires
+    bth-from-requires
+    extension-from-requires
+    write-requires
+    bytes-told-requires
+    refusal-told-requires
+    same-length
+    returns
+    returns-2)

@@ -1,0 +1,80 @@
+use mathlib.Core.Path.{_≡_, refl, sym, ap, _∙_}
+use mathlib.Core.Bool.{true, false}
+use Rattle.pair.specs.Answer.{statusNumber}
+use Rattle.abi_spec.specs.Pair.{strange, pairWords}
+use Rattle.pair.specs.Host.{posted, postEntries}
+use Rattle.udalopek_spec.proofs.Steps.{second, first, strange-by, left-words}
+use Rattle.udalopek_spec.specs.Host.{postNumber, postWords, postTable}
+use borrow.Author.Needs.{needs}
+use Rattle.udalopek.proofs.host_calls.udalopek_post_entry.Statement.{statement}
+use Rattle.udalopek.proofs.host_calls.udalopek_post_entry.Tie as tie
+
+pair-of-requires : tie.Need-pair-of-requires
+pair-of-requires c κs = search needs
+
+pair-words-requires : tie.Need-pair-words-requires
+pair-words-requires c κs = search needs
+
+slice-aggregate-same : tie.Need-slice-aggregate-same
+slice-aggregate-same c = search needs
+
+same-requires : tie.Need-same-requires
+same-requires c κs = search needs
+
+same-length : tie.Need-same-length
+same-length c = search needs
+
+returns : tie.Need-returns
+unfolding postNumber postWords postTable
+returns c =
+    let A = c .before .before .before .before .before .before .before .before .args in
+    let q = c .before .before .before .before .before .pair-of .ensures in
+    let p : strange (A .pair .now) ≡ true = strange-by (A .pair .now) _ _ _ q (c .before .before .before .before .pair-words .ensures .0) (c .before .same .ensures) ∙ c .if1 .taken in
+    (first _ 34 _ p, (first _ _ _ p, (first _ _ _ p, refl)))
+
+post-entry-requires : tie.Need-post-entry-requires
+post-entry-requires c κs = search needs
+
+pair-words-requires-2 : tie.Need-pair-words-requires-2
+pair-words-requires-2 c κs = search needs
+
+slice-aggregate-put : tie.Need-slice-aggregate-put
+slice-aggregate-put c = search needs
+
+put-requires : tie.Need-put-requires
+put-requires c κs = search needs
+
+number-requires : tie.Need-number-requires
+number-requires c κs = search needs
+
+same-length-2 : tie.Need-same-length-2
+same-length-2 c = search needs
+
+returns-2 : tie.Need-returns-2
+unfolding postNumber postWords postTable
+returns-2 c =
+    let A = c .before .before .before .before .before .before .before .before .before .before .before .before .before .before .before .before .before .before .args in
+    let q = c .before .before .before .before .before .before .before .before .before .before .before .before .before .before .before .pair-of .ensures in
+    let p : strange (A .pair .now) ≡ false = strange-by (A .pair .now) _ _ _ q (c .before .before .before .before .before .before .before .before .before .before .before .before .before .before .pair-words .ensures .0) (c .before .before .before .before .before .before .before .before .before .before .before .same .ensures) ∙ c .before .before .before .before .before .before .before .before .before .before .if1 .left in
+    let l = left-words (A .pair .now) _ _ _ p (c .before .before .before .before .before .before .pair-words2 .ensures .0) (c .before .before .before .put .ensures) in
+    let s = ap strange l ∙ sym (ap strange (c .before .before .before .before .before .before .pair-words2 .ensures .0)) ∙ c .before .before .before .before .before .before .pair-words2 .ensures .1 ∙ sym p in
+    let o = c .before .before .before .before .before .before .before .before .post-entry .ensures .0 ∙ ap (λ x. posted x (record { number = A .number; offset = A .offset; length = A .length })) q in
+    (c .number .ensures ∙ ap (λ x. statusNumber (x .status)) o ∙ second _ 34 _ p, (l ∙ ap (λ x. pairWords (x .pair)) o ∙ second _ _ _ p, (c .before .before .before .before .before .before .before .before .post-entry .ensures .1 ∙ ap (λ x. postEntries x (A .entries .now) (record { number = A .number; offset = A .offset; length = A .length })) q ∙ second _ _ _ p, s)))
+
+pub udalopek-post-entry-spec : {M : Type 1} → statement M
+udalopek-post-entry-spec =
+    tie.close
+    (tie.spec
+    pair-of-requires
+    pair-words-requires
+    slice-aggregate-same
+    same-requires
+    same-length
+    returns
+    post-entry-requires
+    pair-words-requires-2
+    slice-aggregate-put
+    put-requires
+    number-requires
+    same-length-2
+    returns-2)

@@ -1,0 +1,62 @@
+use mathlib.Core.Path.{sym, ap, _∙_}
+use mathlib.Core.Bool.{not}
+use lib.Dec.{eqb}
+use borrow.Author.Tests.{eq-eqb, ne-eqb}
+use Rattle.pair.specs.Answer.{statusNumber, executed}
+use Rattle.abi_spec.specs.Pair.{pairWords, strange}
+use Rattle.abi_spec.proofs.Laws.{put-many}
+use Rattle.udalopek_spec.proofs.Steps.{second, first, thirty-four}
+use Rattle.udalopek_spec.specs.Host.{setUpNumber, setUpWords, setUpTable, otherLength}
+use lib.Dec.{eqb}
+use lib.Dec.{eqb}
+use lib.Dec.{eqb}
+use lib.Dec.{eqb}
+use lib.Dec.{eqb}
+use borrow.Author.Needs.{needs}
+use Rattle.udalopek.proofs.host_calls.udalopek_set_up.Statement.{statement}
+use Rattle.udalopek.proofs.host_calls.udalopek_set_up.Tie as tie
+
+returns : tie.Need-returns
+unfolding setUpNumber setUpWords setUpTable otherLength executed
+returns c = let t = ap not (ne-eqb _ _ (c .if1 .taken)) in (first _ 34 _ t, (first _ _ _ t, (first _ _ _ t, λ z. absurd (thirty-four z))))
+
+set-up-requires : tie.Need-set-up-requires
+set-up-requires c κs = search needs
+
+number-requires : tie.Need-number-requires
+number-requires c κs = search needs
+
+returns-2 : tie.Need-returns-2
+unfolding setUpNumber setUpWords setUpTable otherLength executed
+returns-2 c =
+    let t = ap not (eq-eqb _ _ (c .before .before .before .before .if1 .left)) in
+    let n = c .before .number .ensures ∙ ap (λ o. statusNumber (o .status)) (c .before .before .set-up .ensures .0) in
+    let x = ap (λ m. eqb m 0) (sym n) ∙ ne-eqb _ _ (c .if2 .taken) in
+    (n ∙ second _ 34 _ t, (second _ _ _ x ∙ second _ _ _ t, (c .before .before .set-up .ensures .1 ∙ second _ _ _ t, λ z. absurd (c .if2 .taken z))))
+
+leave-requires : tie.Need-leave-requires
+leave-requires c κs = search needs
+
+same-length : tie.Need-same-length
+same-length c = search needs
+
+returns-3 : tie.Need-returns-3
+unfolding setUpNumber setUpWords setUpTable otherLength executed
+returns-3 c =
+    let t = ap not (eq-eqb _ _ (c .before .before .before .before .before .before .before .before .before .if1 .left)) in
+    let e = c .before .before .before .before .before .before .before .set-up .ensures .0 in
+    let n = c .before .before .before .before .before .before .number .ensures ∙ ap (λ o. statusNumber (o .status)) e in
+    let x = ap (λ m. eqb m 0) (sym n) ∙ eq-eqb _ _ (c .before .before .before .before .before .if2 .left) in
+    (c .before .before .leave .ensures .0 ∙ ap (λ o. statusNumber (o .status)) e ∙ second _ 34 _ t, (c .before .before .leave .ensures .1 .0 ∙ put-many _ _ (c .before .before .before .before .before .before .before .before .before .if1 .left) ∙ ap (λ o. pairWords (o .pair)) e ∙ first _ _ _ x ∙ second _ _ _ t, (c .before .before .before .before .before .before .before .set-up .ensures .1 ∙ second _ _ _ t, λ z. ap strange (c .before .before .leave .ensures .1 .0 ∙ put-many _ _ (c .before .before .before .before .before .before .before .before .before .if1 .left)) ∙ c .before .before .leave .ensures .1 .1)))
+
+pub udalopek-set-up-spec : {M : Type 1} → statement M
+udalopek-set-up-spec =
+    tie.close
+    (tie.spec
+    returns
+    set-up-requires
+    number-requires
+    returns-2
+    leave-requires
+    same-length
+    returns-3)

@@ -1,0 +1,52 @@
+use borrow.Author.Tests.{le-leb, le-ltb, lt-leb, lt-ltb}
+use Rattle.udalopek_spec.specs.Cutting.{cutNumber, cutOutput, cutWords}
+use borrow.Author.Needs.{needs}
+use Rattle.udalopek.proofs.messages.udalopek_cut.Statement.{statement}
+use Rattle.udalopek.proofs.messages.udalopek_cut.Tie as tie
+
+returns : tie.Need-returns
+unfolding cutNumber cutOutput cutWords
+returns c = (simp (lt-leb _ _ (c .before .if1 .taken), lt-ltb _ _ (c .before .if1 .taken)), (simp (lt-leb _ _ (c .before .if1 .taken), lt-ltb _ _ (c .before .if1 .taken)), simp (lt-leb _ _ (c .before .if1 .taken), lt-ltb _ _ (c .before .if1 .taken))))
+
+request-of-requires : tie.Need-request-of-requires
+request-of-requires c κs = search needs
+
+next-psn-requires : tie.Need-next-psn-requires
+next-psn-requires c κs = search needs
+
+cut-requires : tie.Need-cut-requires
+cut-requires c κs = search needs
+
+refusal-told-requires : tie.Need-refusal-told-requires
+refusal-told-requires c κs = search needs
+
+bytes-told-requires : tie.Need-bytes-told-requires
+bytes-told-requires c κs = search needs
+
+following-psn-requires : tie.Need-following-psn-requires
+following-psn-requires c κs = search needs
+
+cut-told-requires : tie.Need-cut-told-requires
+cut-told-requires c κs = search needs
+
+same-length : tie.Need-same-length
+same-length c = search needs
+
+returns-2 : tie.Need-returns-2
+unfolding cutNumber cutOutput cutWords
+returns-2 c = (simp (le-ltb _ _ (c .before .before .before .before .before .before .before .before .before .before .if1 .left), le-leb _ _ (c .before .before .before .before .before .before .before .before .before .before .if1 .left), ← c .before .before .before .before .before .before .before .before .before .request-of .ensures, ← c .before .before .before .before .before .before .before .before .next-psn .ensures, ← c .before .before .before .before .before .before .cut .ensures .1, ← c .before .before .before .before .before .before .cut .ensures .0, ← c .before .before .before .refusal-told .ensures, ← c .before .before .bytes-told .ensures, ← c .before .following-psn .ensures, ← c .cut-told .ensures), (simp (le-ltb _ _ (c .before .before .before .before .before .before .before .before .before .before .if1 .left), le-leb _ _ (c .before .before .before .before .before .before .before .before .before .before .if1 .left), ← c .before .before .before .before .before .before .before .before .before .request-of .ensures, ← c .before .before .before .before .before .before .before .before .next-psn .ensures, ← c .before .before .before .before .before .before .cut .ensures .1, ← c .before .before .before .before .before .before .cut .ensures .0, ← c .before .before .before .refusal-told .ensures, ← c .before .before .bytes-told .ensures, ← c .before .following-psn .ensures, ← c .cut-told .ensures), simp (le-ltb _ _ (c .before .before .before .before .before .before .before .before .before .before .if1 .left), le-leb _ _ (c .before .before .before .before .before .before .before .before .before .before .if1 .left), ← c .before .before .before .before .before .before .before .before .before .request-of .ensures, ← c .before .before .before .before .before .before .before .before .next-psn .ensures, ← c .before .before .before .before .before .before .cut .ensures .1, ← c .before .before .before .before .before .before .cut .ensures .0, ← c .before .before .before .refusal-told .ensures, ← c .before .before .bytes-told .ensures, ← c .before .following-psn .ensures, ← c .cut-told .ensures)))
+
+pub udalopek-cut-spec : {M : Type 1} → statement M
+udalopek-cut-spec =
+    tie.close
+    (tie.spec
+    returns
+    request-of-requires
+    next-psn-requires
+    cut-requires
+    refusal-told-requires
+    bytes-told-requires
+    following-psn-requires
+    cut-told-requires
+    same-length
+    returns-2)

@@ -1,0 +1,211 @@
+// The calls of a host, on words that are lent.
+use crate::number::wide;
+use pair::Pair;
+use pair::Setup;
+use pair::Status;
+use sequence::Psn;
+use table::Entry;
+use table::Region;
+ghost use mathlib.Core.Path.{_≡_};
+ghost use Rattle.pair.specs.Answer.{statusNumber};
+ghost use Rattle.abi_spec.specs.Words.{put};
+ghost use mathlib.Core.Bool.{false};
+ghost use Rattle.abi_spec.specs.Pair.{pairWords, strange};
+ghost use Rattle.udalopek_spec.specs.Host.{setUpNumber, setUpWords, setUpTable, resetNumber, resetWords, resetTable, readyNumber, readyWords, addNumber, addTable, removeNumber, removeTable, postNumber, postWords, postTable};
+
+// Writes a pair over its words, and answers a number.
+pub(crate) fn leave(pair: &mut [u64], q: Pair, status: Status) -> u8
+    ensures { λ r. ⌜ r ≡ statusNumber status ⌝ }
+    ensures { λ r. ⌜ now (pair .exit) ≡ put (now (pair .entry)) (pairWords q) ⌝ }
+    ensures { λ r. ⌜ strange (pairWords q) ≡ false ⌝ }
+{
+    let next = abi::pair_words(q);
+    abi::put(pair, &next);
+    status.number()
+}
+
+// Takes the numbers of a new pair, whatever the words and the table had.
+#[no_mangle]
+pub extern "C" fn udalopek_set_up(
+    pair: &mut [u64],
+    regions: &mut [[u64; 7]; 16],
+    service: u8,
+    pmtu: usize,
+    ours: u32,
+    theirs: u32,
+    pkey: u16,
+    start: u32,
+    timer: u8,
+    send: bool,
+    write: bool,
+    read: bool,
+    atomic: bool,
+    memory: usize,
+) -> u8
+    ensures { λ r. ⌜ r ≡ setUpNumber (now (pair .entry)) (record { pmtu = pmtu; memory = memory; ours = ours; theirs = theirs; start = record { 0 = start }; pkey = pkey; service = service; timer = timer; send = send; write = write; read = read; atomic = atomic }) ⌝ }
+    ensures { λ r. ⌜ now (pair .exit) ≡ setUpWords (now (pair .entry)) (record { pmtu = pmtu; memory = memory; ours = ours; theirs = theirs; start = record { 0 = start }; pkey = pkey; service = service; timer = timer; send = send; write = write; read = read; atomic = atomic }) ⌝ }
+    ensures { λ r. ⌜ now (regions .exit) ≡ setUpTable (now (pair .entry)) (now (regions .entry)) (record { pmtu = pmtu; memory = memory; ours = ours; theirs = theirs; start = record { 0 = start }; pkey = pkey; service = service; timer = timer; send = send; write = write; read = read; atomic = atomic }) ⌝ }
+    ensures { λ r. ⌜ (r ≡ 0 → strange (now (pair .exit)) ≡ false) ⌝ }
+{
+    if pair.len() != 30 {
+        return 34;
+    }
+    let first = Psn(start);
+    let setup = Setup {
+        pmtu,
+        memory,
+        ours,
+        theirs,
+        start: first,
+        pkey,
+        service,
+        timer,
+        send,
+        write,
+        read,
+        atomic,
+    };
+    let made = host_calls::set_up(setup, regions);
+    let status = made.status;
+    let number = status.number();
+    if number != 0 {
+        return number;
+    }
+    let q = made.pair;
+    leave(pair, q, status)
+}
+
+// Starts afresh with the numbers of the set-up.
+#[no_mangle]
+pub extern "C" fn udalopek_reset(pair: &mut [u64], regions: &mut [[u64; 7]; 16]) -> u8
+    ensures { λ r. ⌜ r ≡ resetNumber (now (pair .entry)) ⌝ }
+    ensures { λ r. ⌜ now (pair .exit) ≡ resetWords (now (pair .entry)) ⌝ }
+    ensures { λ r. ⌜ now (regions .exit) ≡ resetTable (now (pair .entry)) (now (regions .entry)) ⌝ }
+    ensures { λ r. ⌜ strange (now (pair .exit)) ≡ strange (now (pair .entry)) ⌝ }
+{
+    let bad = abi::strange(pair);
+    if bad {
+        return 34;
+    }
+    let q = abi::pair_of(pair);
+    let unsound = host_calls::sound::unsound(q);
+    if unsound {
+        return 34;
+    }
+    let left = host_calls::reset(q, regions);
+    let q = left.pair;
+    let status = left.status;
+    leave(pair, q, status)
+}
+
+// Lets packets in.
+#[no_mangle]
+pub extern "C" fn udalopek_make_ready(pair: &mut [u64]) -> u8
+    ensures { λ r. ⌜ r ≡ readyNumber (now (pair .entry)) ⌝ }
+    ensures { λ r. ⌜ now (pair .exit) ≡ readyWords (now (pair .entry)) ⌝ }
+    ensures { λ r. ⌜ strange (now (pair .exit)) ≡ strange (now (pair .entry)) ⌝ }
+{
+    let bad = abi::strange(pair);
+    if bad {
+        return 34;
+    }
+    let q = abi::pair_of(pair);
+    let left = host_calls::make_ready(q);
+    let q = left.pair;
+    let status = left.status;
+    leave(pair, q, status)
+}
+
+// Lets peers name a part of memory by a key.
+#[no_mangle]
+pub extern "C" fn udalopek_add_region(
+    pair: &[u64],
+    regions: &mut [[u64; 7]; 16],
+    key: u32,
+    address: u64,
+    length: u64,
+    offset: u64,
+    write: bool,
+    read: bool,
+    atomic: bool,
+) -> u8
+    ensures { λ r. ⌜ r ≡ addNumber (now (pair .entry)) (now (regions .entry)) (record { key = key; address = address; length = length; offset = offset; write = write; read = read; atomic = atomic }) ⌝ }
+    ensures { λ r. ⌜ now (regions .exit) ≡ addTable (now (pair .entry)) (now (regions .entry)) (record { key = key; address = address; length = length; offset = offset; write = write; read = read; atomic = atomic }) ⌝ }
+{
+    let bad = abi::strange(pair);
+    if bad {
+        return 34;
+    }
+    let q = abi::pair_of(pair);
+    let odd = abi::regions_strange(regions, wide(q.setup.memory));
+    if odd {
+        return 34;
+    }
+    let region = Region {
+        key,
+        address,
+        length,
+        offset,
+        write,
+        read,
+        atomic,
+    };
+    let status = host_calls::add_region(q, regions, region);
+    status.number()
+}
+
+// Takes a key back.
+#[no_mangle]
+pub extern "C" fn udalopek_remove_region(pair: &[u64], regions: &mut [[u64; 7]; 16], key: u32) -> u8
+    ensures { λ r. ⌜ r ≡ removeNumber (now (pair .entry)) (now (regions .entry)) key ⌝ }
+    ensures { λ r. ⌜ now (regions .exit) ≡ removeTable (now (pair .entry)) (now (regions .entry)) key ⌝ }
+{
+    let bad = abi::strange(pair);
+    if bad {
+        return 34;
+    }
+    let q = abi::pair_of(pair);
+    let unsound = host_calls::sound::unsound(q);
+    if unsound {
+        return 34;
+    }
+    let odd = abi::regions_strange(regions, wide(q.setup.memory));
+    if odd {
+        return 34;
+    }
+    let status = host_calls::remove_region(regions, key);
+    status.number()
+}
+
+// Gives memory for a message that a peer will send.
+#[no_mangle]
+pub extern "C" fn udalopek_post_entry(
+    pair: &mut [u64],
+    entries: &mut [[u64; 3]; 16],
+    number: u64,
+    offset: u64,
+    length: u64,
+) -> u8
+    ensures { λ r. ⌜ r ≡ postNumber (now (pair .entry)) (record { number = number; offset = offset; length = length }) ⌝ }
+    ensures { λ r. ⌜ now (pair .exit) ≡ postWords (now (pair .entry)) (record { number = number; offset = offset; length = length }) ⌝ }
+    ensures { λ r. ⌜ now (entries .exit) ≡ postTable (now (pair .entry)) (now (entries .entry)) (record { number = number; offset = offset; length = length }) ⌝ }
+    ensures { λ r. ⌜ strange (now (pair .exit)) ≡ strange (now (pair .entry)) ⌝ }
+{
+    let q = abi::pair_of(pair);
+    let own = abi::pair_words(q);
+    let said = abi::same(pair, &own);
+    if !said {
+        return 34;
+    }
+    let entry = Entry {
+        number,
+        offset,
+        length,
+    };
+    let left = host_calls::post_entry(q, entries, entry);
+    let after = left.pair;
+    let status = left.status;
+    let next = abi::pair_words(after);
+    abi::put(pair, &next);
+    status.number()
+}

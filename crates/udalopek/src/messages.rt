@@ -1,0 +1,121 @@
+// A message cut into packets, one a call.
+use crate::headers::bytes_told;
+use crate::headers::refusal_told;
+use crate::number::wide32;
+use header::AtomicEth;
+use header::Reth;
+use cut_spec::Connection;
+use cut_spec::Following;
+use cut_spec::Request;
+use cut_spec::Target;
+use sequence::Psn;
+ghost use mathlib.Core.Path.{_≡_};
+ghost use Rattle.udalopek_spec.specs.Cutting.{requestOf, followingPsn, cutTold, cutNumber, cutOutput, cutWords};
+
+// The request of a kind, from the numbers that it has.
+fn request_of(
+    kind: u8,
+    address: u64,
+    key: u32,
+    length: u32,
+    swap: u64,
+    compare: u64,
+    immediate: u32,
+) -> Request
+    ensures { λ r. ⌜ r ≡ requestOf kind address key length swap compare immediate ⌝ }
+{
+    let target = Target { address, key };
+    if kind == 0 {
+        return Request::Send;
+    }
+    if kind == 1 {
+        return Request::SendImmediate(immediate);
+    }
+    if kind == 2 {
+        return Request::Write(target);
+    }
+    if kind == 3 {
+        return Request::WriteImmediate(target, immediate);
+    }
+    if kind == 4 {
+        let reth = Reth {
+            address,
+            key,
+            length,
+        };
+        return Request::Read(reth);
+    }
+    if kind == 5 {
+        let atomic = AtomicEth {
+            address,
+            key,
+            swap,
+            compare,
+        };
+        return Request::CmpSwap(atomic);
+    }
+    Request::FetchAdd(target, swap)
+}
+
+fn following_psn(f: Following) -> u64
+    ensures { λ r. ⌜ r ≡ followingPsn f ⌝ }
+{
+    match f {
+        Following::Next(psn) => wide32(psn.0),
+        Following::Refused(_) => 0,
+    }
+}
+
+// Nothing is told of a cut that is refused.
+fn cut_told(number: u8, n: u64, psn: u64) -> [u64; 2]
+    ensures { λ r. ⌜ r ≡ cutTold number n psn ⌝ }
+{
+    if number != 0 {
+        return [0; 2];
+    }
+    [n, psn]
+}
+
+// Writes packet index of a message.
+#[no_mangle]
+pub extern "C" fn udalopek_cut(
+    service: u8,
+    pmtu: usize,
+    pkey: u16,
+    dest: u32,
+    psn: u32,
+    index: usize,
+    kind: u8,
+    address: u64,
+    key: u32,
+    length: u32,
+    swap: u64,
+    compare: u64,
+    immediate: u32,
+    message: &[u8],
+    out: &mut [u8],
+    told: &mut [u64; 2],
+) -> u8
+    ensures { λ r. ⌜ r ≡ cutNumber kind (record { service = service; pmtu = pmtu; pkey = pkey; dest = dest }) (requestOf kind address key length swap compare immediate) (now (message .entry)) (record { 0 = psn }) index (now (out .entry)) ⌝ }
+    ensures { λ r. ⌜ now (out .exit) ≡ cutOutput kind (record { service = service; pmtu = pmtu; pkey = pkey; dest = dest }) (requestOf kind address key length swap compare immediate) (now (message .entry)) (record { 0 = psn }) index (now (out .entry)) ⌝ }
+    ensures { λ r. ⌜ now (told .exit) ≡ cutWords kind (record { service = service; pmtu = pmtu; pkey = pkey; dest = dest }) (requestOf kind address key length swap compare immediate) (now (message .entry)) (record { 0 = psn }) index (now (out .entry)) ⌝ }
+{
+    if 6 < kind {
+        *told = [0; 2];
+        return 39;
+    }
+    let request = request_of(kind, address, key, length, swap, compare, immediate);
+    let connection = Connection {
+        service,
+        pmtu,
+        pkey,
+        dest,
+    };
+    let first = Psn(psn);
+    let next = cut::next_psn(request, message.len(), pmtu, first);
+    let answer = cut::cut(connection, request, message, first, index, out);
+    let number = refusal_told(answer);
+    let n = bytes_told(answer);
+    *told = cut_told(number, n, following_psn(next));
+    number
+}

@@ -1,0 +1,114 @@
+// The calls of a responder, on words that are lent.
+use crate::number::bit;
+use crate::number::wide;
+use crate::number::wide32;
+use responder_spec::Completion;
+ghost use mathlib.Core.Path.{_≡_};
+ghost use Rattle.abi_spec.specs.Pair.{strange};
+ghost use Rattle.udalopek_spec.specs.Packets.{names, oddFor, inboundNumber, inboundWords, inboundRows, inboundBytes, inboundOutput, inboundTold, toldWords, nextNumber, nextWords, nextOutput, nextTold};
+
+// Whether a packet may name a region: all opcodes but those of SEND.
+fn names(packet: &[u8]) -> bool
+    ensures { λ r. ⌜ r ≡ names (now (packet .entry)) ⌝ }
+{
+    if packet.len() == 0 {
+        return false;
+    }
+    6 <= packet[0] % 32
+}
+
+// Whether a packet may name a region, and the table has a row that no call wrote.
+fn odd_for(regions: &[[u64; 7]; 16], memory: u64, packet: &[u8]) -> bool
+    ensures { λ r. ⌜ r ≡ oddFor (now (regions .entry)) memory (now (packet .entry)) ⌝ }
+{
+    let keyed = names(packet);
+    if keyed {
+        return abi::regions_strange(regions, memory);
+    }
+    false
+}
+
+// What the host is told: bytes to send, and the completion.
+fn told_words(sent: usize, c: Completion) -> [u64; 6]
+    ensures { λ r. ⌜ r ≡ toldWords sent c ⌝ }
+{
+    let s = wide(sent);
+    let some = bit(c.some);
+    let n = wide(c.length);
+    let i = bit(c.immediate);
+    let v = wide32(c.value);
+    [s, some, c.number, n, i, v]
+}
+
+// Takes a packet. Here, in next response and in post entry the words are read, tested and written in the function itself: a call
+// with the pair would write it to memory for every packet.
+#[no_mangle]
+pub extern "C" fn udalopek_inbound(
+    pair: &mut [u64],
+    regions: &[[u64; 7]; 16],
+    entries: &[[u64; 3]; 16],
+    saved: &mut [[u64; 2]; 16],
+    mem: &mut [u8],
+    packet: &[u8],
+    out: &mut [u8],
+    told: &mut [u64; 6],
+) -> u8
+    ensures { λ r. ⌜ r ≡ inboundNumber (now (pair .entry)) (now (regions .entry)) (now (entries .entry)) (now (saved .entry)) (now (mem .entry)) (now (packet .entry)) (now (out .entry)) ⌝ }
+    ensures { λ r. ⌜ now (pair .exit) ≡ inboundWords (now (pair .entry)) (now (regions .entry)) (now (entries .entry)) (now (saved .entry)) (now (mem .entry)) (now (packet .entry)) (now (out .entry)) ⌝ }
+    ensures { λ r. ⌜ now (saved .exit) ≡ inboundRows (now (pair .entry)) (now (regions .entry)) (now (entries .entry)) (now (saved .entry)) (now (mem .entry)) (now (packet .entry)) (now (out .entry)) ⌝ }
+    ensures { λ r. ⌜ now (mem .exit) ≡ inboundBytes (now (pair .entry)) (now (regions .entry)) (now (entries .entry)) (now (saved .entry)) (now (mem .entry)) (now (packet .entry)) (now (out .entry)) ⌝ }
+    ensures { λ r. ⌜ now (out .exit) ≡ inboundOutput (now (pair .entry)) (now (regions .entry)) (now (entries .entry)) (now (saved .entry)) (now (mem .entry)) (now (packet .entry)) (now (out .entry)) ⌝ }
+    ensures { λ r. ⌜ now (told .exit) ≡ inboundTold (now (pair .entry)) (now (regions .entry)) (now (entries .entry)) (now (saved .entry)) (now (mem .entry)) (now (packet .entry)) (now (out .entry)) ⌝ }
+    ensures { λ r. ⌜ strange (now (pair .exit)) ≡ strange (now (pair .entry)) ⌝ }
+{
+    let q = abi::pair_of(pair);
+    let own = abi::pair_words(q);
+    let said = abi::same(pair, &own);
+    if !said {
+        *told = [0; 6];
+        return 34;
+    }
+    let odd = odd_for(regions, wide(q.setup.memory), packet);
+    if odd {
+        *told = [0; 6];
+        return 34;
+    }
+    let got = responder::inbound(q, regions, entries, saved, mem, packet, out);
+    let completion = got.completion;
+    *told = told_words(got.sent, completion);
+    let left = got.pair;
+    let status = got.status;
+    let next = abi::pair_words(left);
+    abi::put(pair, &next);
+    status.number()
+}
+
+// Writes the next response of a READ.
+#[no_mangle]
+pub extern "C" fn udalopek_next_response(
+    pair: &mut [u64],
+    mem: &[u8],
+    out: &mut [u8],
+    told: &mut [u64; 1],
+) -> u8
+    ensures { λ r. ⌜ r ≡ nextNumber (now (pair .entry)) (now (mem .entry)) (now (out .entry)) ⌝ }
+    ensures { λ r. ⌜ now (pair .exit) ≡ nextWords (now (pair .entry)) (now (mem .entry)) (now (out .entry)) ⌝ }
+    ensures { λ r. ⌜ now (out .exit) ≡ nextOutput (now (pair .entry)) (now (mem .entry)) (now (out .entry)) ⌝ }
+    ensures { λ r. ⌜ now (told .exit) ≡ nextTold (now (pair .entry)) (now (mem .entry)) (now (out .entry)) ⌝ }
+    ensures { λ r. ⌜ strange (now (pair .exit)) ≡ strange (now (pair .entry)) ⌝ }
+{
+    let q = abi::pair_of(pair);
+    let own = abi::pair_words(q);
+    let said = abi::same(pair, &own);
+    if !said {
+        *told = [0; 1];
+        return 34;
+    }
+    let got = responder::next_response(q, mem, out);
+    *told = [wide(got.sent)];
+    let after = got.pair;
+    let status = got.status;
+    let next = abi::pair_words(after);
+    abi::put(pair, &next);
+    status.number()
+}

@@ -1,0 +1,94 @@
+-- A call that is refused leaves all that it was lent.
+use Prim.Native.Nat.{ℕ, _≤_}
+use mathlib.Core.Path.{_≡_, refl, sym, ap, _∙_}
+use mathlib.Core.Bool.{Bool, true, false, cond}
+use mathlib.Core.List.{List, [], _∷_}
+use lib.Dec.{eqb}
+use native.Mathlib.Omega.{arith}
+use borrow.Author.Tests.{ne-eqb}
+use Rattle.pair.specs.declared.Status.{Status}
+use Rattle.pair.specs.declared.Pair.{Pair}
+use Rattle.pair.specs.Answer.{statusNumber, executed}
+use Rattle.pair.specs.Host.{setUp, setUpStatus, setUpRegions, resetTo, resetStatus, resetRegions, madeReady, readyStatus, addStatus, addRegions, removeStatus, removeRegions, posted, postStatus, postEntries}
+use Rattle.responder_spec.specs.Response.{nextResponse, nextStatus, nextOut}
+use Rattle.abi_spec.specs.Pair.{pairOf, pairWords, strange}
+use Rattle.abi_spec.proofs.Laws.{let-in, others-strange}
+use Rattle.udalopek_spec.specs.Packets.{nextNumber, nextWords, nextOutput, nextTold}
+use Rattle.udalopek_spec.specs.Host.{otherLength, unmade, oddRegions, setUpNumber, setUpWords, setUpTable, resetNumber, resetWords, resetTable, readyNumber, readyWords, addNumber, addTable, removeNumber, removeTable, postNumber, postWords, postTable}
+use Rattle.udalopek_spec.specs.Claims.{NextKeeps, SetUpKeeps, ResetKeeps, ReadyKeeps, AddKeeps, RemoveKeeps, PostKeeps, OthersRefused}
+use Rattle.udalopek_spec.proofs.Steps.{first}
+
+-- a number from 32 on is not that of a call that is done
+not-done : (s : Status) → 32 ≤ statusNumber s → executed s ≡ false
+unfolding executed
+not-done s h = ne-eqb (statusNumber s) 0 (λ e. omega arith)
+
+-- behind a test that refuses: what is kept there is kept
+behind : {A : Type 0} (b : Bool) (n : ℕ) (x y : A) → (b ≡ false → 32 ≤ n → y ≡ x) → 32 ≤ cond b 34 n → cond b x y ≡ x
+behind true n x y f h = refl
+behind false n x y f h = f refl h
+
+-- what is new only if the call is done
+kept : {A : Type 0} (s : Status) (x y : A) → 32 ≤ statusNumber s → cond (executed s) y x ≡ x
+kept s x y h = ap (λ b. cond b y x) (not-done s h)
+
+-- the words of the pair that words say, where it is as it was
+words-kept : (w : List ℕ) (s : Status) (q : Pair) → strange w ≡ false → 32 ≤ statusNumber s → pairWords (cond (executed s) q (pairOf w)) ≡ w
+words-kept w s q e h = ap pairWords (kept s (pairOf w) q h) ∙ sym (let-in w e)
+
+pub post-keeps : PostKeeps
+unfolding postNumber postWords postTable posted postEntries
+post-keeps w rows e h = (
+  behind (strange w) _ w _ (λ b g. words-kept w (postStatus (pairOf w) e) _ b g) h,
+  behind (strange w) _ rows _ (λ b g. kept (postStatus (pairOf w) e) rows _ g) h,
+)
+
+pub ready-keeps : ReadyKeeps
+unfolding readyNumber readyWords madeReady
+ready-keeps w h = behind (strange w) _ w _ (λ b g. words-kept w (readyStatus (pairOf w)) _ b g) h
+
+pub reset-keeps : ResetKeeps
+unfolding resetNumber resetWords resetTable resetTo resetRegions
+reset-keeps w rows h = (
+  behind (strange w) _ w _ (λ b g. behind (unmade w) _ w _ (λ c k. words-kept w (resetStatus (pairOf w)) _ b k) g) h,
+  behind (strange w) _ rows _ (λ b g. behind (unmade w) _ rows _ (λ c k. kept (resetStatus (pairOf w)) rows _ k) g) h,
+)
+
+pub add-keeps : AddKeeps
+unfolding addNumber addTable addRegions
+add-keeps w rows r h =
+    behind (strange w) _ rows _ (λ b g. behind (oddRegions w rows) _ rows _ (λ c k. kept (addStatus (pairOf w) rows r) rows _ k) g) h
+
+pub remove-keeps : RemoveKeeps
+unfolding removeNumber removeTable removeRegions
+remove-keeps w rows key h =
+    behind (strange w) _ rows _
+    (λ b g. behind (unmade w) _ rows _ (λ c k. behind (oddRegions w rows) _ rows _ (λ d l. kept (removeStatus rows key) rows _ l) k) g)
+    h
+
+pub set-up-keeps : SetUpKeeps
+unfolding setUpNumber setUpWords setUpTable setUp setUpRegions
+set-up-keeps w rows s h = (
+  behind (otherLength w) _ w _ (λ b g. kept (setUpStatus s) w _ g) h,
+  behind (otherLength w) _ rows _ (λ b g. kept (setUpStatus s) rows _ g) h,
+)
+
+pub next-keeps : NextKeeps
+unfolding nextNumber nextWords nextOutput nextTold nextResponse nextOut
+next-keeps w m out h = (
+  behind (strange w) _ w _ (λ b g. words-kept w _ _ b g) h,
+  behind (strange w) _ out _ (λ b g. kept _ out _ g) h,
+  behind (strange w) _ (0 ∷ []) _ (λ b g. ap (λ n. n ∷ []) (kept _ 0 _ g)) h,
+)
+
+pub others-refused : OthersRefused
+unfolding nextNumber resetNumber readyNumber addNumber removeNumber postNumber
+others-refused w m out rows r key e n =
+    let s = others-strange w n in (
+      sym (first (strange w) 34 _ s),
+      sym (first (strange w) 34 _ s),
+      sym (first (strange w) 34 _ s),
+      sym (first (strange w) 34 _ s),
+      sym (first (strange w) 34 _ s),
+      sym (first (strange w) 34 _ s),
+    )

@@ -1,0 +1,174 @@
+-- What is proved of the exported calls; the proofs stand in proofs/.
+use Prim.Native.Nat.{ℕ, _%_, _≤_, _<_, _^_}
+use mathlib.Core.Path.{_≡_}
+use mathlib.Core.Bool.{true, false}
+use mathlib.Core.List.{List, [], _∷_}
+use mathlib.Core.Logic.{_⊎_}
+use lib.ListN.{getD, replicate}
+use Rattle.table.specs.Claims.{RegionsSound, Free}
+use Rattle.table.specs.declared.Region.{Region}
+use Rattle.table.specs.declared.Entry.{Entry}
+use Rattle.pair.specs.declared.Setup.{Setup}
+use Rattle.pair.specs.declared.Pair.{Pair}
+use Rattle.pair.specs.Answer.{statusNumber}
+use Rattle.pair.specs.Claims.{Sound}
+use Rattle.pair.specs.Host.{resetTo, resetRegions, madeReady, addStatus, addRegions, removeStatus, removeRegions, posted, postEntries}
+use Rattle.responder_spec.specs.Inbound.{inbound, inboundMemory, inboundSaved, inboundOut}
+use Rattle.responder_spec.specs.Response.{nextResponse, nextOut}
+use Rattle.responder_spec.specs.declared.Completion.{Completion}
+use Rattle.cut_spec.specs.declared.Request.the-variants.{Send, SendImmediate, Write, WriteImmediate, Read, CmpSwap, FetchAdd}
+use Rattle.abi_spec.specs.Pair.{pairOf, pairWords}
+use Rattle.abi_spec.specs.Claims.{PairFields, RegionNumbers}
+use Rattle.udalopek_spec.specs.Packets.{names, inboundNumber, inboundWords, inboundRows, inboundBytes, inboundOutput, inboundTold, toldWords, nextNumber, nextWords, nextOutput, nextTold}
+use Rattle.udalopek_spec.specs.Cutting.{requestOf, cutTold}
+use Rattle.udalopek_spec.specs.Host.{setUpNumber, setUpWords, setUpTable, resetNumber, resetWords, resetTable, readyNumber, readyWords, addNumber, addTable, removeNumber, removeTable, postNumber, postWords, postTable}
+
+-- A packet dropped or a call refused leaves all words, rows and bytes as they were, and tells nothing.
+abbrev pub InboundKeeps : Type 0
+InboundKeeps =
+    (w : List ℕ) (regions entries saved : List (List ℕ)) (m p out : List ℕ)
+    → (inboundNumber w regions entries saved m p out ≡ 5) ⊎ (32 ≤ inboundNumber w regions entries saved m p out)
+    → (inboundWords w regions entries saved m p out ≡ w)
+    × (inboundRows w regions entries saved m p out ≡ saved)
+    × (inboundBytes w regions entries saved m p out ≡ m)
+    × (inboundOutput w regions entries saved m p out ≡ out)
+    × (inboundTold w regions entries saved m p out ≡ replicate 6 0)
+
+-- So does every other call that is refused. Numbers from 32 on are the refusals.
+abbrev pub NextKeeps : Type 0
+NextKeeps =
+    (w m out : List ℕ) → 32 ≤ nextNumber w m out
+    → (nextWords w m out ≡ w) × (nextOutput w m out ≡ out) × (nextTold w m out ≡ 0 ∷ [])
+
+abbrev pub SetUpKeeps : Type 0
+SetUpKeeps =
+    (w : List ℕ) (rows : List (List ℕ)) (s : Setup) → 32 ≤ setUpNumber w s → (setUpWords w s ≡ w) × (setUpTable w rows s ≡ rows)
+
+abbrev pub ResetKeeps : Type 0
+ResetKeeps = (w : List ℕ) (rows : List (List ℕ)) → 32 ≤ resetNumber w → (resetWords w ≡ w) × (resetTable w rows ≡ rows)
+
+abbrev pub ReadyKeeps : Type 0
+ReadyKeeps = (w : List ℕ) → 32 ≤ readyNumber w → readyWords w ≡ w
+
+abbrev pub AddKeeps : Type 0
+AddKeeps = (w : List ℕ) (rows : List (List ℕ)) (r : Region) → 32 ≤ addNumber w rows r → addTable w rows r ≡ rows
+
+abbrev pub RemoveKeeps : Type 0
+RemoveKeeps = (w : List ℕ) (rows : List (List ℕ)) (key : ℕ) → 32 ≤ removeNumber w rows key → removeTable w rows key ≡ rows
+
+abbrev pub PostKeeps : Type 0
+PostKeeps =
+    (w : List ℕ) (rows : List (List ℕ)) (e : Entry) → 32 ≤ postNumber w e → (postWords w e ≡ w) × (postTable w rows e ≡ rows)
+
+-- Which packets may name a region, in plain numbers: all but those of SEND, whose opcodes are 0 to 5.
+abbrev pub NamesNone : Type 0
+NamesNone = (p : List ℕ) → (names p ≡ false → getD p 0 0 % 32 ≤ 5) × (getD p 0 0 % 32 ≤ 5 → names p ≡ false)
+
+-- Words that are not those of a pair are refused, and so is a row that is neither free nor a region's.
+abbrev pub WordsRefused : Type 0
+WordsRefused =
+    (w : List ℕ) (regions entries saved : List (List ℕ)) (m p out : List ℕ)
+    → ((q : Pair) → PairFields q → w ≡ pairWords q → ⊥)
+    → inboundNumber w regions entries saved m p out ≡ 34
+
+abbrev pub OthersRefused : Type 0
+OthersRefused =
+    (w m out : List ℕ) (rows : List (List ℕ)) (r : Region) (key : ℕ) (e : Entry)
+    → ((q : Pair) → PairFields q → w ≡ pairWords q → ⊥)
+    → (nextNumber w m out ≡ 34) × (resetNumber w ≡ 34) × (readyNumber w ≡ 34) × (addNumber w rows r ≡ 34)
+    × (removeNumber w rows key ≡ 34) × (postNumber w e ≡ 34)
+
+abbrev pub RowRefused : Type 0
+RowRefused =
+    (w : List ℕ) (regions entries saved : List (List ℕ)) (m p out : List ℕ) (i : ℕ) → i < 16 → 6 ≤ getD p 0 0 % 32
+    → (Free (getD regions i []) ⊎ RegionNumbers (pairOf w .setup .memory) (getD regions i []) → ⊥)
+    → inboundNumber w regions entries saved m p out ≡ 34
+
+-- A table of regions that calls made, with keys of 32 bits; a packet of a SEND looks at none.
+abbrev pub Keyed : List (List ℕ) → Type 0
+Keyed rows = (i : ℕ) → i < 16 → getD (getD rows i []) 0 0 < 2 ^ 32
+
+abbrev pub Readable : Pair → List (List ℕ) → List ℕ → Type 0
+Readable q regions p =
+    (names p ≡ false) ⊎ (RegionsSound (q .setup .memory) regions × Keyed regions)
+
+-- On the words of a pair the calls are those of the pair: whatever is proved of these holds of the exported ones.
+abbrev pub InboundIs : Type 0
+InboundIs =
+    (q : Pair) (regions entries saved : List (List ℕ)) (m p out : List ℕ) → PairFields q → Readable q regions p
+    → (inboundNumber (pairWords q) regions entries saved m p out ≡ statusNumber (inbound q regions entries saved m p out .status))
+    × (inboundWords (pairWords q) regions entries saved m p out ≡ pairWords (inbound q regions entries saved m p out .pair))
+    × (inboundRows (pairWords q) regions entries saved m p out ≡ inboundSaved q regions entries saved m p out)
+    × (inboundBytes (pairWords q) regions entries saved m p out ≡ inboundMemory q regions entries saved m p out)
+    × (inboundOutput (pairWords q) regions entries saved m p out ≡ inboundOut q regions entries saved m p out)
+    × (inboundTold (pairWords q) regions entries saved m p out
+    ≡ toldWords (inbound q regions entries saved m p out .sent) (inbound q regions entries saved m p out .completion))
+
+abbrev pub NextIs : Type 0
+NextIs =
+    (q : Pair) (m out : List ℕ) → PairFields q
+    → (nextNumber (pairWords q) m out ≡ statusNumber (nextResponse q m out .status))
+    × (nextWords (pairWords q) m out ≡ pairWords (nextResponse q m out .pair))
+    × (nextOutput (pairWords q) m out ≡ nextOut q m out)
+    × (nextTold (pairWords q) m out ≡ nextResponse q m out .sent ∷ [])
+
+abbrev pub PostIs : Type 0
+PostIs =
+    (q : Pair) (rows : List (List ℕ)) (e : Entry) → PairFields q
+    → (postNumber (pairWords q) e ≡ statusNumber (posted q e .status))
+    × (postWords (pairWords q) e ≡ pairWords (posted q e .pair))
+    × (postTable (pairWords q) rows e ≡ postEntries q rows e)
+
+abbrev pub ReadyIs : Type 0
+ReadyIs =
+    (q : Pair) → PairFields q
+    → (readyNumber (pairWords q) ≡ statusNumber (madeReady q .status))
+    × (readyWords (pairWords q) ≡ pairWords (madeReady q .pair))
+
+abbrev pub ResetIs : Type 0
+ResetIs =
+    (q : Pair) (rows : List (List ℕ)) → PairFields q → Sound q
+    → (resetNumber (pairWords q) ≡ statusNumber (resetTo q .status))
+    × (resetWords (pairWords q) ≡ pairWords (resetTo q .pair))
+    × (resetTable (pairWords q) rows ≡ resetRegions q rows)
+
+abbrev pub AddIs : Type 0
+AddIs =
+    (q : Pair) (rows : List (List ℕ)) (r : Region) → PairFields q → RegionsSound (q .setup .memory) rows → Keyed rows
+    → (addNumber (pairWords q) rows r ≡ statusNumber (addStatus q rows r))
+    × (addTable (pairWords q) rows r ≡ addRegions q rows r)
+
+abbrev pub RemoveIs : Type 0
+RemoveIs =
+    (q : Pair) (rows : List (List ℕ)) (key : ℕ) → PairFields q → Sound q → RegionsSound (q .setup .memory) rows → Keyed rows
+    → (removeNumber (pairWords q) rows key ≡ statusNumber (removeStatus rows key))
+    × (removeTable (pairWords q) rows key ≡ removeRegions rows key)
+
+-- What the host is told, word by word, listed here once more and not by the definition under test; so are the kinds of a cut and
+-- what a cut tells.
+pub record Tells (n : ℕ) (c : Completion) (t : List ℕ) : Type 0 where
+  pub sent : getD t 0 0 ≡ n
+  pub completes : c .some ≡ true → getD t 1 0 ≡ 1
+  pub nothing : c .some ≡ false → getD t 1 0 ≡ 0
+  pub entry : getD t 2 0 ≡ c .number
+  pub bytes : getD t 3 0 ≡ c .length
+  pub immediate : c .immediate ≡ true → getD t 4 0 ≡ 1
+  pub none : c .immediate ≡ false → getD t 4 0 ≡ 0
+  pub value : getD t 5 0 ≡ c .value
+
+abbrev pub ToldSays : Type 0
+ToldSays = (n : ℕ) (c : Completion) → Tells n c (toldWords n c)
+
+abbrev pub KindsAre : Type 0
+KindsAre =
+    (address key length swap compare immediate : ℕ)
+    → (requestOf 0 address key length swap compare immediate ≡ Send)
+    × (requestOf 1 address key length swap compare immediate ≡ SendImmediate immediate)
+    × (requestOf 2 address key length swap compare immediate ≡ Write (record { address = address; key = key }))
+    × (requestOf 3 address key length swap compare immediate ≡ WriteImmediate (record { address = address; key = key }) immediate)
+    × (requestOf 4 address key length swap compare immediate ≡ Read (record { address = address; key = key; length = length }))
+    × (requestOf 5 address key length swap compare immediate ≡ CmpSwap (record { address = address; key = key; swap = swap; compare = compare }))
+    × (requestOf 6 address key length swap compare immediate ≡ FetchAdd (record { address = address; key = key }) swap)
+
+abbrev pub CutTells : Type 0
+CutTells = (n psn : ℕ) → (cutTold 0 n psn ≡ n ∷ psn ∷ []) × ((k : ℕ) → (k ≡ 0 → ⊥) → cutTold k n psn ≡ 0 ∷ 0 ∷ [])

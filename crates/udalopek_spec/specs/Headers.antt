@@ -1,0 +1,51 @@
+-- Headers read and written, as words.
+use Prim.Native.Nat.{ℕ}
+use mathlib.Core.Bool.{Bool, false, cond}
+use mathlib.Core.List.{List, [], _∷_}
+use lib.ListN.{length}
+use Rattle.header.specs.declared.Header.{Header}
+use Rattle.header.specs.declared.HeaderRead.{HeaderRead}
+use Rattle.header.specs.declared.HeaderRead.the-variants.{Accepted, Dropped}
+use Rattle.header.specs.Read.{readHeader}
+use Rattle.header.specs.Write.{written, writtenOut, answerNumber, doneBytes}
+use Rattle.abi_spec.specs.Words.{eqWords}
+use Rattle.abi_spec.specs.Fields.{bthFrom, bthWords, extensionFrom, extensionWords}
+
+-- the check that failed, or 0; the words of what was read, or those that were there
+unfoldable pub readCheck : HeaderRead → ℕ
+readCheck (Accepted h) = 0
+readCheck (Dropped check) = check
+
+unfoldable pub toldBth : HeaderRead → List ℕ → List ℕ
+toldBth (Accepted h) old = bthWords (h .bth)
+toldBth (Dropped check) old = old
+
+unfoldable pub toldExtension : HeaderRead → List ℕ → List ℕ
+toldExtension (Accepted h) old = extensionWords (h .extension)
+toldExtension (Dropped check) old = old
+
+unfoldable pub readNumber : List ℕ → ℕ
+readNumber p = readCheck (readHeader p)
+
+unfoldable pub readBth : List ℕ → List ℕ → List ℕ
+readBth p old = toldBth (readHeader p) old
+
+unfoldable pub readExtension : List ℕ → List ℕ → List ℕ
+readExtension p old = toldExtension (readHeader p) old
+
+-- words are those of the header that they say: each fits its field, and a field that the headers lack is 0
+unfoldable pub ownWords : List ℕ → List ℕ → Bool
+ownWords b e = cond (eqWords b (bthWords (bthFrom b))) (eqWords e (extensionWords (extensionFrom e))) false
+
+abbrev pub headerFrom : List ℕ → List ℕ → Header
+headerFrom b e = record { bth = bthFrom b; extension = extensionFrom e }
+
+-- other words are a bad number, 39
+unfoldable pub writeNumber : List ℕ → List ℕ → List ℕ → ℕ
+writeNumber b e out = cond (ownWords b e) (answerNumber (written (headerFrom b e) (length out))) 39
+
+unfoldable pub writeOutput : List ℕ → List ℕ → List ℕ → List ℕ
+writeOutput b e out = cond (ownWords b e) (writtenOut (headerFrom b e) out) out
+
+unfoldable pub writeTold : List ℕ → List ℕ → List ℕ → List ℕ
+writeTold b e out = cond (ownWords b e) (doneBytes (written (headerFrom b e) (length out)) ∷ []) (0 ∷ [])

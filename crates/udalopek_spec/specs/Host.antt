@@ -1,0 +1,73 @@
+-- The calls of a host on lent words: those of the pair that the words say, and 34 for words that say none.
+use Prim.Native.Nat.{ℕ}
+use mathlib.Core.Bool.{Bool, cond, not}
+use mathlib.Core.List.{List}
+use lib.Dec.{eqb}
+use lib.ListN.{length}
+use Rattle.table.specs.declared.Region.{Region}
+use Rattle.table.specs.declared.Entry.{Entry}
+use Rattle.pair.specs.declared.Setup.{Setup}
+use Rattle.pair.specs.Answer.{statusNumber, executed}
+use Rattle.pair.specs.Host.{setUp, setUpRegions, resetTo, resetRegions, madeReady, addStatus, addRegions, removeStatus, removeRegions, posted, postEntries}
+use Rattle.pair.specs.Sound.{pairUnsound}
+use Rattle.abi_spec.specs.Pair.{pairOf, pairWords, strange}
+use Rattle.abi_spec.specs.Rows.{strangeFrom}
+
+-- words of another length are refused; what they are does not matter to a set-up
+unfoldable pub otherLength : List ℕ → Bool
+otherLength w = not (eqb (length w) 30)
+
+unfoldable pub setUpNumber : List ℕ → Setup → ℕ
+setUpNumber w s = cond (otherLength w) 34 (statusNumber (setUp s .status))
+
+unfoldable pub setUpWords : List ℕ → Setup → List ℕ
+setUpWords w s = cond (otherLength w) w (cond (executed (setUp s .status)) (pairWords (setUp s .pair)) w)
+
+unfoldable pub setUpTable : List ℕ → List (List ℕ) → Setup → List (List ℕ)
+setUpTable w rows s = cond (otherLength w) rows (setUpRegions s rows)
+
+-- reset and remove region test the whole pair here, since as calls of a pair they need not
+unfoldable pub unmade : List ℕ → Bool
+unmade w = pairUnsound (pairOf w)
+
+unfoldable pub resetNumber : List ℕ → ℕ
+resetNumber w = cond (strange w) 34 (cond (unmade w) 34 (statusNumber (resetTo (pairOf w) .status)))
+
+unfoldable pub resetWords : List ℕ → List ℕ
+resetWords w = cond (strange w) w (cond (unmade w) w (pairWords (resetTo (pairOf w) .pair)))
+
+unfoldable pub resetTable : List ℕ → List (List ℕ) → List (List ℕ)
+resetTable w rows = cond (strange w) rows (cond (unmade w) rows (resetRegions (pairOf w) rows))
+
+unfoldable pub readyNumber : List ℕ → ℕ
+readyNumber w = cond (strange w) 34 (statusNumber (madeReady (pairOf w) .status))
+
+unfoldable pub readyWords : List ℕ → List ℕ
+readyWords w = cond (strange w) w (pairWords (madeReady (pairOf w) .pair))
+
+-- a table of regions with a row that no call wrote is refused too
+unfoldable pub oddRegions : List ℕ → List (List ℕ) → Bool
+oddRegions w rows = strangeFrom rows (pairOf w .setup .memory) 0 16
+
+unfoldable pub addNumber : List ℕ → List (List ℕ) → Region → ℕ
+addNumber w rows r = cond (strange w) 34 (cond (oddRegions w rows) 34 (statusNumber (addStatus (pairOf w) rows r)))
+
+unfoldable pub addTable : List ℕ → List (List ℕ) → Region → List (List ℕ)
+addTable w rows r = cond (strange w) rows (cond (oddRegions w rows) rows (addRegions (pairOf w) rows r))
+
+unfoldable pub removeNumber : List ℕ → List (List ℕ) → ℕ → ℕ
+removeNumber w rows key =
+    cond (strange w) 34 (cond (unmade w) 34 (cond (oddRegions w rows) 34 (statusNumber (removeStatus rows key))))
+
+unfoldable pub removeTable : List ℕ → List (List ℕ) → ℕ → List (List ℕ)
+removeTable w rows key =
+    cond (strange w) rows (cond (unmade w) rows (cond (oddRegions w rows) rows (removeRegions rows key)))
+
+unfoldable pub postNumber : List ℕ → Entry → ℕ
+postNumber w e = cond (strange w) 34 (statusNumber (posted (pairOf w) e .status))
+
+unfoldable pub postWords : List ℕ → Entry → List ℕ
+postWords w e = cond (strange w) w (pairWords (posted (pairOf w) e .pair))
+
+unfoldable pub postTable : List ℕ → List (List ℕ) → Entry → List (List ℕ)
+postTable w rows e = cond (strange w) rows (postEntries (pairOf w) rows e)
