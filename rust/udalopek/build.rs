@@ -5,7 +5,7 @@ use std::path::PathBuf;
 fn main() {
     let here = PathBuf::from(env::var_os("CARGO_MANIFEST_DIR").expect("cargo sets it"));
     let folder = here.join("../../target/staticlib");
-    let archive = folder.join("libexport.a");
+    let archive = folder.join("libudalopek.a");
     println!("cargo:rerun-if-changed={}", archive.display());
     if !archive.is_file() {
         panic!(
@@ -14,5 +14,5 @@ fn main() {
         );
     }
     println!("cargo:rustc-link-search=native={}", folder.display());
-    println!("cargo:rustc-link-lib=static=export");
+    println!("cargo:rustc-link-lib=static=udalopek");
 }

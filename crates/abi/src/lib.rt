@@ -10,7 +10,7 @@ use pair::OpenMessage;
 use pair::Pair;
 use pair::ReadAnswer;
 use pair::Setup;
-pub use rows::regions_strange;
+pub use rows::regions_malformed;
 use sequence::Msn;
 use sequence::Psn;
 use table::Ring;
@@ -19,8 +19,8 @@ ghost use mathlib.Core.Bool.{not, false, cond};
 ghost use Prim.Native.Nat.{_%_, _^_, _≤_};
 ghost use lib.Dec.{eqb};
 ghost use lib.ListN.{length};
-ghost use Rattle.abi_spec.specs.Words.{flag, eqWords, put};
-ghost use Rattle.abi_spec.specs.Pair.{setupOf, messageOf, readOf, pairOf, pairWords, strange};
+ghost use Rattle.abi_spec.specs.Words.{flag, eqWords, overwriteWords};
+ghost use Rattle.abi_spec.specs.Pair.{setupOf, messageOf, readOf, pairOf, pairWords, malformed};
 
 // How many words a pair has.
 pub const PAIR: usize = 30;
@@ -50,7 +50,7 @@ pub(crate) fn flag(x: u64) -> bool
 }
 
 // What is left of `same` so far, after one word more.
-fn still(ok: bool, x: u64, y: u64) -> bool
+fn same_so_far(ok: bool, x: u64, y: u64) -> bool
     ensures { λ r. ⌜ r ≡ cond (eqb x y) ok false ⌝ }
 {
     if x != y {
@@ -70,15 +70,15 @@ pub fn same(a: &[u64], b: &[u64]) -> bool
     let mut ok = true;
     let mut i = 0;
     while i < b.len() {
-        ok = still(ok, a[i], b[i]);
+        ok = same_so_far(ok, a[i], b[i]);
         i += 1;
     }
     ok
 }
 
 // Writes new over words of the same length; else nothing changes.
-pub fn put(words: &mut [u64], new: &[u64])
-    ensures { λ _. ⌜ now (words .exit) ≡ put (now (words .entry)) (now (new .entry)) ⌝ }
+pub fn overwrite_words(words: &mut [u64], new: &[u64])
+    ensures { λ _. ⌜ now (words .exit) ≡ overwriteWords (now (words .entry)) (now (new .entry)) ⌝ }
 {
     if words.len() != new.len() {
         return;
@@ -117,7 +117,7 @@ fn message_of(w: &[u64]) -> OpenMessage
 {
     OpenMessage {
         kind: low8(w[12]),
-        placed: w[13] as usize,
+        stored: w[13] as usize,
         address: w[14],
         key: low32(w[15]),
         length: w[16] as usize,
@@ -168,14 +168,14 @@ pub fn pair_of(w: &[u64]) -> Pair
         expected,
         msn,
         state: low8(w[28]),
-        mark: flag(w[29]),
+        nakmark: flag(w[29]),
     }
 }
 
 // The words of a pair. As every number fits its field, they are not strange.
 pub fn pair_words(q: Pair) -> [u64; 30]
     ensures { λ r. ⌜ r ≡ pairWords q ⌝ }
-    ensures { λ r. ⌜ strange r ≡ false ⌝ }
+    ensures { λ r. ⌜ malformed r ≡ false ⌝ }
 {
     let s = q.setup;
     let m = q.message;
@@ -201,7 +201,7 @@ pub fn pair_words(q: Pair) -> [u64; 30]
         s.read as u64,
         s.atomic as u64,
         m.kind as u64,
-        m.placed as u64,
+        m.stored as u64,
         m.address,
         m.key as u64,
         m.length as u64,
@@ -217,13 +217,13 @@ pub fn pair_words(q: Pair) -> [u64; 30]
         expected.0 as u64,
         msn.0 as u64,
         q.state as u64,
-        q.mark as u64,
+        q.nakmark as u64,
     ]
 }
 
 // Whether words are not those of any pair: too few or too many, or one that does not fit its field.
-pub fn strange(w: &[u64]) -> bool
-    ensures { λ r. ⌜ r ≡ strange (now (w .entry)) ⌝ }
+pub fn malformed(w: &[u64]) -> bool
+    ensures { λ r. ⌜ r ≡ malformed (now (w .entry)) ⌝ }
 {
     let q = pair_of(w);
     let own = pair_words(q);

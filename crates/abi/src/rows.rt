@@ -1,10 +1,10 @@
 // Rows of the table of regions whose numbers are out of range.
 ghost use mathlib.Core.Path.{_≡_};
-ghost use Rattle.abi_spec.specs.Rows.{rowStrange, strangeFrom};
+ghost use Rattle.abi_spec.specs.Rows.{rowMalformed, malformedFrom};
 
 // Whether a row is neither free nor that of a region in memory.
-fn row_strange(row: [u64; 7], memory: u64) -> bool
-    ensures { λ r. ⌜ r ≡ rowStrange row memory ⌝ }
+fn row_malformed(row: [u64; 7], memory: u64) -> bool
+    ensures { λ r. ⌜ r ≡ rowMalformed row memory ⌝ }
 {
     if row[2] == 0 {
         return false;
@@ -25,13 +25,13 @@ fn row_strange(row: [u64; 7], memory: u64) -> bool
 }
 
 // Whether some row is.
-pub fn regions_strange(regions: &[[u64; 7]; 16], memory: u64) -> bool
-    ensures { λ r. ⌜ r ≡ strangeFrom (now (regions .entry)) memory 0 16 ⌝ }
+pub fn regions_malformed(regions: &[[u64; 7]; 16], memory: u64) -> bool
+    ensures { λ r. ⌜ r ≡ malformedFrom (now (regions .entry)) memory 0 16 ⌝ }
 {
     let mut i: usize = 0;
     while i < 16 {
         let row = regions[i];
-        let bad = row_strange(row, memory);
+        let bad = row_malformed(row, memory);
         if bad {
             return true;
         }

@@ -11,8 +11,8 @@ use borrow.Author.Tests.{eqb-true, eq-eqb}
 use Rattle.lemmas.proofs.Tests.{not-false}
 use Rattle.pair.specs.Pair.{freshPair, blankPair}
 use Rattle.pair.specs.declared.Pair.{Pair}
-use Rattle.abi_spec.specs.Words.{eqWords, put, flag, bit}
-use Rattle.abi_spec.specs.Pair.{narrowed, pairOf, pairWords, strange, setupOf, messageOf, readOf}
+use Rattle.abi_spec.specs.Words.{eqWords, overwriteWords, flag, bit}
+use Rattle.abi_spec.specs.Pair.{narrowed, pairOf, pairWords, malformed, setupOf, messageOf, readOf}
 use Rattle.abi_spec.specs.Claims.{SameIs, LetIn, PairBack, SaidFits, OthersStrange, SetupFields, PairFields}
 
 pub same-self : (a : List ℕ) → eqWords a a ≡ true
@@ -35,19 +35,19 @@ pub same-is : SameIs
 same-is a b = (same-only a b, λ e. ap (eqWords a) (sym e) ∙ same-self a)
 
 pub let-in : LetIn
-unfolding strange
-let-in w e = same-only w (pairWords (pairOf w)) (not-false (eqWords w (pairWords (pairOf w))) (strange w) refl e)
+unfolding malformed
+let-in w e = same-only w (pairWords (pairOf w)) (not-false (eqWords w (pairWords (pairOf w))) (malformed w) refl e)
 
 -- words that are let in are as many as those of any pair
-as-many : (w : List ℕ) → strange w ≡ false → length w ≡ 30
+as-many : (w : List ℕ) → malformed w ≡ false → length w ≡ 30
 unfolding pairWords
 as-many w e = ap length (let-in w e)
 
-pub put-many : (w : List ℕ) (q : Pair) → length w ≡ 30 → put w (pairWords q) ≡ pairWords q
-unfolding put pairWords
+pub put-many : (w : List ℕ) (q : Pair) → length w ≡ 30 → overwriteWords w (pairWords q) ≡ pairWords q
+unfolding overwriteWords pairWords
 put-many w q e = ap (λ b. cond b (pairWords q) w) (eq-eqb (length w) 30 e)
 
-pub put-pair : (w : List ℕ) (q : Pair) → strange w ≡ false → put w (pairWords q) ≡ pairWords q
+pub put-pair : (w : List ℕ) (q : Pair) → malformed w ≡ false → overwriteWords w (pairWords q) ≡ pairWords q
 put-pair w q e = put-many w q (as-many w e)
 
 pub flag-back : (b : Bool) → flag (bit b) ≡ b
@@ -81,7 +81,7 @@ back q f = λ i. record {
   setup = setup-back q (f .setup) i;
   message = record {
     kind = low-back _ (2 ^ 8) (f .kind) i;
-    placed = q .message .placed;
+    stored = q .message .stored;
     address = q .message .address;
     key = low-back _ (2 ^ 32) (f .key) i;
     length = q .message .length;
@@ -98,11 +98,11 @@ back q f = λ i. record {
   expected = record { 0 = low-back _ (2 ^ 32) (f .expected) i };
   msn = record { 0 = low-back _ (2 ^ 32) (f .msn) i };
   state = low-back _ (2 ^ 8) (f .state) i;
-  mark = flag-back (q .mark) i;
+  nakmark = flag-back (q .nakmark) i;
 }
 
 pub pair-back : PairBack
-unfolding strange
+unfolding malformed
 pair-back q f = (back q f, ap not (ap (λ p. eqWords (pairWords q) (pairWords p)) (back q f) ∙ same-self (pairWords q)))
 
 pub said-fits : SaidFits
@@ -132,8 +132,8 @@ said-fits w = go (ltb (length w) 30)
     }
 
 pub others-strange : OthersStrange
-others-strange w n = go (strange w) refl
+others-strange w n = go (malformed w) refl
   where
-    go : (b : Bool) → strange w ≡ b → strange w ≡ true
+    go : (b : Bool) → malformed w ≡ b → malformed w ≡ true
     go true e = e
     go false e = absurd (n (pairOf w) (said-fits w) (let-in w e))

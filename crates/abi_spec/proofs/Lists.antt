@@ -7,7 +7,7 @@ use lib.Dec.{eqb}
 use lib.ListN.{length, take, drop, getD, set}
 use native.Mathlib.Omega.{arith}
 use Rattle.abi_spec.specs.Words.{eqWords}
-use Rattle.abi_spec.specs.Rows.{rowStrange, strangeFrom}
+use Rattle.abi_spec.specs.Rows.{rowMalformed, malformedFrom}
 
 -- one word more of new over old
 pub put-one : (new old : List ℕ) (i : ℕ) → i < length new → i < length old → set (take i new ++ drop i old) i (getD new i 0) ≡ take (suc i) new ++ drop (suc i) old
@@ -61,16 +61,16 @@ module _ (rows : List (List ℕ)) (memory i n : ℕ) (h : i < n) where
   add-one : i + 1 ≡ suc i
   add-one = omega arith
 
-  pub strange-here : rowStrange (getD rows i []) memory ≡ true → strangeFrom rows memory i (n - i) ≡ true
-  unfolding strangeFrom
+  pub strange-here : rowMalformed (getD rows i []) memory ≡ true → malformedFrom rows memory i (n - i) ≡ true
+  unfolding malformedFrom
   strange-here e = rw (one-more, e)
 
-  pub strange-next : rowStrange (getD rows i []) memory ≡ false → strangeFrom rows memory i (n - i) ≡ strangeFrom rows memory (i + 1) (n - (i + 1))
-  unfolding strangeFrom
+  pub strange-next : rowMalformed (getD rows i []) memory ≡ false → malformedFrom rows memory i (n - i) ≡ malformedFrom rows memory (i + 1) (n - (i + 1))
+  unfolding malformedFrom
   strange-next e = rw (one-more, e) (rw add-one)
 
-pub strange-end : (rows : List (List ℕ)) (memory i n : ℕ) → n ≤ i → strangeFrom rows memory i (n - i) ≡ false
-unfolding strangeFrom
+pub strange-end : (rows : List (List ℕ)) (memory i n : ℕ) → n ≤ i → malformedFrom rows memory i (n - i) ≡ false
+unfolding malformedFrom
 strange-end rows memory i n h = let e : n - i ≡ 0 = omega arith in rw e
 
 -- one word more of the test: equal so far, and here

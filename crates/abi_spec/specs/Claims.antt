@@ -14,8 +14,8 @@ use Rattle.table.specs.Claims.{RegionsSound, Free}
 use Rattle.pair.specs.declared.Setup.{Setup}
 use Rattle.pair.specs.declared.Pair.{Pair}
 use Rattle.abi_spec.specs.Words.{eqWords}
-use Rattle.abi_spec.specs.Pair.{pairOf, pairWords, strange}
-use Rattle.abi_spec.specs.Rows.{strangeFrom}
+use Rattle.abi_spec.specs.Pair.{pairOf, pairWords, malformed}
+use Rattle.abi_spec.specs.Rows.{malformedFrom}
 use Rattle.abi_spec.specs.Fields.{bthFrom, bthWords, extensionFrom, extensionWords}
 
 -- The test of two lists is equality.
@@ -24,7 +24,7 @@ SameIs = (a b : List ℕ) → (eqWords a b ≡ true → a ≡ b) × (a ≡ b →
 
 -- Words that are let in are the words of the pair that they say: what a call does to that pair is all that it does to them.
 abbrev pub LetIn : Type 0
-LetIn = (w : List ℕ) → strange w ≡ false → w ≡ pairWords (pairOf w)
+LetIn = (w : List ℕ) → malformed w ≡ false → w ≡ pairWords (pairOf w)
 
 -- Numbers of a pair that fit its fields.
 pub record SetupFields (s : Setup) : Type 0 where
@@ -50,18 +50,18 @@ abbrev pub SaidFits : Type 0
 SaidFits = (w : List ℕ) → PairFields (pairOf w)
 
 abbrev pub OthersStrange : Type 0
-OthersStrange = (w : List ℕ) → ((q : Pair) → PairFields q → w ≡ pairWords q → ⊥) → strange w ≡ true
+OthersStrange = (w : List ℕ) → ((q : Pair) → PairFields q → w ≡ pairWords q → ⊥) → malformed w ≡ true
 
 -- The words of a pair say that pair, and are let in.
 abbrev pub PairBack : Type 0
-PairBack = (q : Pair) → PairFields q → (pairOf (pairWords q) ≡ q) × (strange (pairWords q) ≡ false)
+PairBack = (q : Pair) → PairFields q → (pairOf (pairWords q) ≡ q) × (malformed (pairWords q) ≡ false)
 
 -- A table of regions that calls made, with keys of 32 bits, has no strange row; and each row of a table that has none is free
 -- or has the numbers of a region in memory.
 abbrev pub RegionsLetIn : Type 0
 RegionsLetIn =
     (memory : ℕ) (rows : List (List ℕ)) → RegionsSound memory rows → ((i : ℕ) → i < 16 → getD (getD rows i []) 0 0 < 2 ^ 32)
-    → strangeFrom rows memory 0 16 ≡ false
+    → malformedFrom rows memory 0 16 ≡ false
 
 pub record RegionNumbers (memory : ℕ) (row : List ℕ) : Type 0 where
   pub key : getD row 0 0 < 2 ^ 32
@@ -73,14 +73,14 @@ pub record RegionNumbers (memory : ℕ) (row : List ℕ) : Type 0 where
 
 abbrev pub RowsKnown : Type 0
 RowsKnown =
-    (memory : ℕ) (rows : List (List ℕ)) → strangeFrom rows memory 0 16 ≡ false
+    (memory : ℕ) (rows : List (List ℕ)) → malformedFrom rows memory 0 16 ≡ false
     → (i : ℕ) → i < 16 → Free (getD rows i []) ⊎ RegionNumbers memory (getD rows i [])
 
 -- So one row that is neither makes the table strange.
 abbrev pub RowStrange : Type 0
 RowStrange =
     (memory : ℕ) (rows : List (List ℕ)) (i : ℕ) → i < 16 → (Free (getD rows i []) ⊎ RegionNumbers memory (getD rows i []) → ⊥)
-    → strangeFrom rows memory 0 16 ≡ true
+    → malformedFrom rows memory 0 16 ≡ true
 
 -- Headers whose numbers fit their fields.
 pub record BthFields (b : Bth) : Type 0 where

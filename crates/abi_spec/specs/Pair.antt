@@ -29,7 +29,7 @@ setupOf w =
     }
 
 unfoldable pub messageOf : List ℕ → OpenMessage
-messageOf w = record { kind = low 8 w 12; placed = word w 13; address = word w 14; key = low 32 w 15; length = word w 16 }
+messageOf w = record { kind = low 8 w 12; stored = word w 13; address = word w 14; key = low 32 w 15; length = word w 16 }
 
 unfoldable pub readOf : List ℕ → ReadAnswer
 readOf w =
@@ -52,7 +52,7 @@ narrowed w =
       expected = record { 0 = low 32 w 26 };
       msn = record { 0 = low 32 w 27 };
       state = low 8 w 28;
-      mark = flag (word w 29);
+      nakmark = flag (word w 29);
     }
 
 -- the pair that words say, each cut to the width of its field; the blank pair where they are too few
@@ -63,12 +63,12 @@ unfoldable pub pairWords : Pair → List ℕ
 pairWords q =
     q .setup .pmtu ∷ q .setup .memory ∷ q .setup .ours ∷ q .setup .theirs ∷ q .setup .start .0 ∷ q .setup .pkey ∷ q .setup .service
     ∷ q .setup .timer ∷ bit (q .setup .send) ∷ bit (q .setup .write) ∷ bit (q .setup .read) ∷ bit (q .setup .atomic)
-    ∷ q .message .kind ∷ q .message .placed ∷ q .message .address ∷ q .message .key ∷ q .message .length
+    ∷ q .message .kind ∷ q .message .stored ∷ q .message .address ∷ q .message .key ∷ q .message .length
     ∷ q .entries .head ∷ q .entries .count
     ∷ q .read .remaining ∷ q .read .offset ∷ q .read .length ∷ q .read .psn .0 ∷ q .read .msn .0
     ∷ q .saved .head ∷ q .saved .count
-    ∷ q .expected .0 ∷ q .msn .0 ∷ q .state ∷ bit (q .mark) ∷ []
+    ∷ q .expected .0 ∷ q .msn .0 ∷ q .state ∷ bit (q .nakmark) ∷ []
 
 -- words that are not those of a pair: not 30, or one does not fit its field
-unfoldable pub strange : List ℕ → Bool
-strange w = not (eqWords w (pairWords (pairOf w)))
+unfoldable pub malformed : List ℕ → Bool
+malformed w = not (eqWords w (pairWords (pairOf w)))

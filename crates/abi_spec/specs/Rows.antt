@@ -14,10 +14,10 @@ noRegionsRow row memory =
     || (ltb 1 (word row 4) || (ltb 1 (word row 5) || (ltb 1 (word row 6) || regionOutside (word row 1) (word row 2) (word row 3) memory)))
 
 -- a row of length 0 is free; any other is a region's
-unfoldable pub rowStrange : List ℕ → ℕ → Bool
-rowStrange row memory = cond (eqb (word row 2) 0) false (noRegionsRow row memory)
+unfoldable pub rowMalformed : List ℕ → ℕ → Bool
+rowMalformed row memory = cond (eqb (word row 2) 0) false (noRegionsRow row memory)
 
 -- one of the n rows from row i on is neither
-unfoldable pub strangeFrom : List (List ℕ) → ℕ → ℕ → ℕ → Bool
-strangeFrom rows memory i zero = false
-strangeFrom rows memory i (suc n) = cond (rowStrange (getD rows i []) memory) true (strangeFrom rows memory (suc i) n)
+unfoldable pub malformedFrom : List (List ℕ) → ℕ → ℕ → ℕ → Bool
+malformedFrom rows memory i zero = false
+malformedFrom rows memory i (suc n) = cond (rowMalformed (getD rows i []) memory) true (malformedFrom rows memory (suc i) n)

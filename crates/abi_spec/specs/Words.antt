@@ -28,5 +28,5 @@ eqWords (x ∷ xs) [] = false
 eqWords (x ∷ xs) (y ∷ ys) = cond (eqb x y) (eqWords xs ys) false
 
 -- new words over as many old ones
-unfoldable pub put : List ℕ → List ℕ → List ℕ
-put old new = cond (eqb (length old) (length new)) new old
+unfoldable pub overwriteWords : List ℕ → List ℕ → List ℕ
+overwriteWords old new = cond (eqb (length old) (length new)) new old

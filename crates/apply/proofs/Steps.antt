@@ -8,7 +8,7 @@ use lib.Dec.{leb}
 use lib.ListN.{length, take, drop, length-append, length-drop}
 use lib.Seq.{take-all}
 use Rattle.lemmas.proofs.Auto.{tests}
-use Rattle.memory.specs.Memory.{placed}
+use Rattle.memory.specs.Memory.{store}
 use Rattle.memory.proofs.Put.{placed-put, placed-placed, put-start}
 use Rattle.responder_spec.specs.Reply.{over}
 
@@ -43,31 +43,31 @@ part-cut p start end stop from es ef =
 
 -- bytes at the start of an output, and more behind them
 behind : (out d e : List ℕ) (n : ℕ) → length d ≡ n → n + length e ≤ length out
-    → placed (placed out 0 d) n e ≡ placed out 0 (d ++ e)
+    → store (store out 0 d) n e ≡ store out 0 (d ++ e)
 behind out d e n l h =
     let at : 0 + length d ≡ n = omega arith in
-    subst (λ k. placed (placed out 0 d) k e ≡ placed out 0 (d ++ e)) at (placed-placed out 0 d e (omega arith))
+    subst (λ k. store (store out 0 d) k e ≡ store out 0 (d ++ e)) at (placed-placed out 0 d e (omega arith))
 
 -- the packet at the start, and what the output had past it
-at-start : (out d : List ℕ) → length d ≤ length out → placed out 0 d ≡ over d out
+at-start : (out d : List ℕ) → length d ≤ length out → store out 0 d ≡ over d out
 unfolding over
 at-start out d h = placed-put out 0 d (omega arith) ∙ put-start out d
 
 -- a BTH's bytes b and an AETH's bytes a: the output is m after the first, w after both
-module _ (out b a m w : List ℕ) (lb : length b ≡ 12) (la : length a ≡ 4) (q : m ≡ placed out 0 b) (r : w ≡ placed m 12 a) where
+module _ (out b a m w : List ℕ) (lb : length b ≡ 12) (la : length a ≡ 4) (q : m ≡ store out 0 b) (r : w ≡ store m 12 a) where
   size : length (b ++ a) ≡ 16
   size = omega (arith, length-append b a)
 
-  both : 16 ≤ length out → w ≡ placed out 0 (b ++ a)
-  both h = r ∙ (ap (λ z. placed z 12 a) q ∙ behind out b a 12 lb (omega arith))
+  both : 16 ≤ length out → w ≡ store out 0 (b ++ a)
+  both h = r ∙ (ap (λ z. store z 12 a) q ∙ behind out b a 12 lb (omega arith))
 
   pub in-two : (x : List ℕ) → x ≡ b ++ a → 16 ≤ length out → w ≡ over x out
   in-two x e h = both h ∙ (at-start out (b ++ a) (omega (arith, size)) ∙ ap (λ z. over z out) (sym e))
 
   -- and the 8 bytes v of a value: the output is y after all three
-  pub in-three : (v y x : List ℕ) → length v ≡ 8 → y ≡ placed w 16 v → x ≡ b ++ (a ++ v) → 24 ≤ length out → y ≡ over x out
+  pub in-three : (v y x : List ℕ) → length v ≡ 8 → y ≡ store w 16 v → x ≡ b ++ (a ++ v) → 24 ≤ length out → y ≡ over x out
   in-three v y x lv t e h =
       let room : length ((b ++ a) ++ v) ≤ length out = omega (arith, size, length-append (b ++ a) v) in
-      t ∙ (ap (λ z. placed z 16 v) (both (omega arith))
+      t ∙ (ap (λ z. store z 16 v) (both (omega arith))
       ∙ (behind out (b ++ a) v 16 size (omega arith)
       ∙ (at-start out ((b ++ a) ++ v) room ∙ ap (λ z. over z out) (append-assoc b a v ∙ sym e))))

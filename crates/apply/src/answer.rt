@@ -39,10 +39,10 @@ fn write_ack(out: &mut [u8], s: Setup, psn: Psn, syndrome: u8, msn: Msn)
 {
     let bth = reply_bth(s, opcode::ACKNOWLEDGE, 0, psn);
     let b = wire::bth_bytes(bth);
-    memory::place(out, 0, &b);
+    memory::store(out, 0, &b);
     let aeth = Aeth { syndrome, msn };
     let a = wire::aeth_bytes(aeth);
-    memory::place(out, 12, &a);
+    memory::store(out, 12, &a);
 }
 
 // An Atomic Acknowledge.
@@ -52,12 +52,12 @@ fn write_value(out: &mut [u8], s: Setup, psn: Psn, syndrome: u8, msn: Msn, value
 {
     let bth = reply_bth(s, opcode::ATOMIC_ACKNOWLEDGE, 0, psn);
     let b = wire::bth_bytes(bth);
-    memory::place(out, 0, &b);
+    memory::store(out, 0, &b);
     let aeth = Aeth { syndrome, msn };
     let a = wire::aeth_bytes(aeth);
-    memory::place(out, 12, &a);
+    memory::store(out, 12, &a);
     let v = wire::value_bytes(value);
-    memory::place(out, 16, &v);
+    memory::store(out, 16, &v);
 }
 
 // Writes the packet of a decision at the start of an output of at least 24 bytes; a shorter one stays as it is.
@@ -67,11 +67,11 @@ pub fn reply(out: &mut [u8], s: Setup, d: Decision, msn: Msn, value: u64)
     if out.len() < 24 {
         return;
     }
-    if d.sent == 16 {
+    if d.outgoing == 16 {
         write_ack(out, s, d.psn, d.syndrome, msn);
         return;
     }
-    if d.sent == 24 {
+    if d.outgoing == 24 {
         write_value(out, s, d.psn, d.syndrome, msn, value);
     }
 }

@@ -14,7 +14,7 @@ ghost use mathlib.Core.Path.{_≡_};
 ghost use mathlib.Core.Bool.{cond};
 ghost use Prim.Native.Nat.{_-_, min};
 ghost use lib.ListN.{take, drop};
-ghost use Rattle.memory.specs.Memory.{placed};
+ghost use Rattle.memory.specs.Memory.{store};
 ghost use Rattle.table.specs.View.{savedRows};
 ghost use Rattle.responder_spec.specs.Apply.{memoryBy, actsAtomic};
 ghost use Rattle.responder_spec.specs.Reply.{valueBy};
@@ -30,12 +30,12 @@ fn least(a: usize, b: usize) -> usize
 }
 
 // Places the packet's bytes from start to end, as far as it has them, in memory from at on.
-fn place_part(mem: &mut [u8], at: usize, packet: &[u8], start: usize, end: usize)
-    ensures { λ _. ⌜ now (mem .exit) ≡ placed (now (mem .entry)) at (take (end - start) (drop start (now (packet .entry)))) ⌝ }
+fn store_part(mem: &mut [u8], at: usize, packet: &[u8], start: usize, end: usize)
+    ensures { λ _. ⌜ now (mem .exit) ≡ store (now (mem .entry)) at (take (end - start) (drop start (now (packet .entry)))) ⌝ }
 {
     let stop = least(end, packet.len());
     let from = least(start, stop);
-    memory::place(mem, at, &packet[from..stop]);
+    memory::store(mem, at, &packet[from..stop]);
 }
 
 // Changes memory, and answers the value that an atomic sends.
@@ -44,7 +44,7 @@ pub fn change(mem: &mut [u8], packet: &[u8], d: Decision) -> u64
     ensures { λ r. ⌜ now (mem .exit) ≡ memoryBy d (now (mem .entry)) (now (packet .entry)) ⌝ }
 {
     if d.act == 1 {
-        place_part(mem, d.at, packet, d.start, d.end);
+        store_part(mem, d.at, packet, d.start, d.end);
         return d.value;
     }
     if d.act == 2 {

@@ -78,7 +78,7 @@ pub fn psn_after(psn: Psn, n: usize) -> Psn
 fn executed_pair(pair: Pair, d: Decision) -> Pair
     ensures { λ r. ⌜ r ≡ executedPair pair d ⌝ }
 {
-    let expected = psn_after(pair.expected, d.numbers);
+    let expected = psn_after(pair.expected, d.psns);
     let msn = msn_by(d.ends, pair.msn);
     let held = pair.entries;
     let entries = entries_by(d.completion.some, held);
@@ -90,7 +90,7 @@ fn executed_pair(pair: Pair, d: Decision) -> Pair
     let mut next = pair;
     next.expected = expected;
     next.msn = msn;
-    next.mark = false;
+    next.nakmark = false;
     next.message = message;
     next.entries = entries;
     next.read = read;
@@ -119,7 +119,7 @@ fn closing(pair: Pair) -> Pair
         expected,
         msn,
         state: pair.state,
-        mark: pair.mark,
+        nakmark: pair.nakmark,
     }
 }
 
@@ -137,11 +137,11 @@ fn after(pair: Pair, d: Decision, number: u8) -> Pair
         return next;
     }
     if number == 16 {
-        next.mark = true;
+        next.nakmark = true;
         return next;
     }
     if number == 19 {
-        next.mark = true;
+        next.nakmark = true;
         return next;
     }
     if number == 17 {

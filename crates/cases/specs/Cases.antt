@@ -129,7 +129,7 @@ completionNumbers c = bit (c .some) ∷ c .number ∷ c .length ∷ bit (c .imme
 -- an outcome: number, expected PSN, MSN, which are the replay's line; bytes sent; completion
 unfoldable pub outcomeNumbers : Outcome → List ℕ
 outcomeNumbers o =
-    statusNumber (o .status) ∷ o .pair .expected .0 ∷ o .pair .msn .0 ∷ o .sent ∷ completionNumbers (o .completion)
+    statusNumber (o .status) ∷ o .pair .expected .0 ∷ o .pair .msn .0 ∷ o .outgoing ∷ completionNumbers (o .completion)
 
 -- the packet given to a pair, which has this memory: the memory that it leaves; outcome, output and that memory
 unfoldable pub left : Whole → List ℕ → List ℕ

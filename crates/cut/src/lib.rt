@@ -1,11 +1,11 @@
 // Messages cut into packets: one call writes one packet, straight from the lent message.
 mod shape;
 
-use header::Answer;
-use header::Header;
 use cut_spec::Connection;
 use cut_spec::Following;
 use cut_spec::Request;
+use header::Answer;
+use header::Header;
 use sequence::Psn;
 ghost use mathlib.Core.Path.{_≡_};
 ghost use lib.ListN.{length};
@@ -171,9 +171,9 @@ fn header_at(connection: Connection, request: Request, n: usize, first: Psn, ind
     let bytes = carried_length(request, n);
     let count = pmtu::count(bytes, connection.pmtu);
     let place = pmtu::place(count, index);
-    let span = pmtu::part(bytes, connection.pmtu, index);
+    let part = pmtu::part(bytes, connection.pmtu, index);
     let low = shape::low_for(request, place);
-    let bth = shape::bth_at(connection, low, first, index, count, span.end - span.start);
+    let bth = shape::bth_at(connection, low, first, index, count, part.end - part.start);
     let whole = message_length(request, n);
     let extension = shape::extension_for(request, whole as u32, place);
     Header { bth, extension }
@@ -198,8 +198,8 @@ pub fn cut(
     }
     let h = header_at(connection, request, message.len(), first, index);
     let carried = carried_length(request, message.len());
-    let span = pmtu::part(carried, connection.pmtu, index);
-    let start = span.start;
-    let end = span.end;
+    let part = pmtu::part(carried, connection.pmtu, index);
+    let start = part.start;
+    let end = part.end;
     packet::write(h, &message[start..end], out)
 }

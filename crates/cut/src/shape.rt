@@ -1,11 +1,11 @@
 // The shape of a request's packets: opcode and headers, by the packet's place in the message.
+use cut_spec::Connection;
+use cut_spec::Request;
+use cut_spec::Target;
 use header::AtomicEth;
 use header::Bth;
 use header::Extension;
 use header::Reth;
-use cut_spec::Connection;
-use cut_spec::Request;
-use cut_spec::Target;
 use sequence::Psn;
 ghost use mathlib.Core.Path.{_≡_};
 ghost use Prim.Native.Nat.{_≤_, _<_};

@@ -20,7 +20,7 @@ use Rattle.header.specs.declared.Answer.{Answer}
 use Rattle.header.specs.declared.Answer.the-variants.{Refused}
 use Rattle.packet.specs.Packet.{packetWritten, packetOut}
 use Rattle.pmtu.specs.Pieces.{pmtuFits, pieces, placeAt, pieceAt, partAt}
-use Rattle.pmtu.specs.declared.Span.{Span}
+use Rattle.pmtu.specs.declared.Part.{Part}
 use Rattle.pmtu.proofs.Counting.{pmtus}
 use Rattle.pmtu.proofs.Cuts.{parts, parts-within}
 use Rattle.cut_spec.specs.Message.{carries, carried, carriedLength, messageLength, messageLimit, packetsOf, lengthRefusal}
@@ -69,13 +69,13 @@ module _ (c : Connection) (r : Request) (n : ℕ) (first : Psn) (i : ℕ) (e : c
   pub length-small : (whole : ℕ) → whole ≡ messageLength r n → whole ≤ messageLimit
   length-small whole q = subst (λ x. x ≤ messageLimit) (sym q) (P .1)
 
-pub header-is : (c : Connection) (r : Request) (n : ℕ) (first : Psn) (i bytes count place low whole : ℕ) (span : Span) (bth : Bth) (x : Extension)
-    → bytes ≡ carriedLength r n → count ≡ pieces bytes (c .pmtu) → place ≡ placeAt count i → span ≡ partAt bytes (c .pmtu) i
-    → low ≡ lowFor r place → bth ≡ bthAt c low first i count (span .end - span .start) → whole ≡ messageLength r n
+pub header-is : (c : Connection) (r : Request) (n : ℕ) (first : Psn) (i bytes count place low whole : ℕ) (part : Part) (bth : Bth) (x : Extension)
+    → bytes ≡ carriedLength r n → count ≡ pieces bytes (c .pmtu) → place ≡ placeAt count i → part ≡ partAt bytes (c .pmtu) i
+    → low ≡ lowFor r place → bth ≡ bthAt c low first i count (part .end - part .start) → whole ≡ messageLength r n
     → x ≡ extensionFor r whole place
     → record { bth = bth; extension = x } ≡ headerAt c r n first i
 unfolding headerAt sizeAt packetsOf
-header-is c r n first i bytes count place low whole span bth x o k p s l b w y =
+header-is c r n first i bytes count place low whole part bth x o k p s l b w y =
     simp (y, w, b, l, s, p, k, o)
 
 -- the packet: part `span` of the message, written under the header h
@@ -94,7 +94,7 @@ length-carried r d = go (carries r)
     go false = refl
 
 -- the part of the lent bytes is the piece of what is carried
-abbrev partOf : List ℕ → Span → List ℕ
+abbrev partOf : List ℕ → Part → List ℕ
 partOf d s = take (s .end - s .start) (drop (s .start) d)
 
 none : (d : List ℕ) (pmtu i : ℕ) → partOf d (partAt 0 pmtu i) ≡ pieceAt [] pmtu i
@@ -112,26 +112,26 @@ part-carried r d pmtu i = go (carries r)
     go true = parts d pmtu i
     go false = none d pmtu i
 
-pub span-inside : (r : Request) (n carried pmtu i : ℕ) (span : Span) → carried ≡ carriedLength r n → span ≡ partAt carried pmtu i
-    → (span .start ≤ span .end) × (span .end ≤ n)
+pub span-inside : (r : Request) (n carried pmtu i : ℕ) (part : Part) → carried ≡ carriedLength r n → part ≡ partAt carried pmtu i
+    → (part .start ≤ part .end) × (part .end ≤ n)
 unfolding carriedLength
-span-inside r n carried pmtu i span o s =
+span-inside r n carried pmtu i part o s =
     let f : carried ≤ n = subst (λ x. x ≤ n) (sym o) (cond-le (carries r) (omega arith) (omega arith)) in
     let W = parts-within carried pmtu i in (
       subst (λ x. x .start ≤ x .end) (sym s) (W .0),
       subst (λ x. x .end ≤ n) (sym s) (omega (arith, W .1)),
     )
 
-pub whole : (c : Connection) (r : Request) (d out : List ℕ) (first : Psn) (i code bytes : ℕ) (h : Header) (span : Span) (a : Answer)
+pub whole : (c : Connection) (r : Request) (d out : List ℕ) (first : Psn) (i code bytes : ℕ) (h : Header) (part : Part) (a : Answer)
     (w : List ℕ) → code ≡ cutRefusal c r (length d) (first .0) i → code ≡ 0 → h ≡ headerAt c r (length d) first i
     → bytes ≡ carriedLength r (length d)
-    → span ≡ partAt bytes (c .pmtu) i
-    → a ≡ packetWritten h (length (partOf d span)) (length out)
-    → w ≡ packetOut h (partOf d span) out
+    → part ≡ partAt bytes (c .pmtu) i
+    → a ≡ packetWritten h (length (partOf d part)) (length out)
+    → w ≡ packetOut h (partOf d part) out
     → (a ≡ cutWritten c r d first i (length out)) × (w ≡ cutOut c r d first i out)
 unfolding cutWritten cutOut cutAnswer cutBytes payloadAt packetWritten packetOut
-whole c r d out first i code bytes h span a w e z k o s x y =
-    let p : partOf d span ≡ pieceAt (carried r d) (c .pmtu) i =
+whole c r d out first i code bytes h part a w e z k o s x y =
+    let p : partOf d part ≡ pieceAt (carried r d) (c .pmtu) i =
     ap (partOf d) (s ∙ ap (λ n. partAt n (c .pmtu) i) o) ∙ part-carried r d (c .pmtu) i in
     let q : cutRefusal c r (length d) (first .0) i ≡ 0 = sym e ∙ z in
     (simp (x, k, p, q), simp (y, k, p, q))

@@ -18,54 +18,54 @@ use Rattle.pmtu.specs.Pieces.{starts}
 use Rattle.table.specs.Table.{outside, pastTop, addresses}
 use Rattle.pair.specs.declared.OpenMessage.{OpenMessage}
 use Rattle.pair.specs.declared.Setup.{Setup}
-use Rattle.request_spec.specs.Verdict.{carrying, notEnabled, overLimit, keySpan, spot, keyFails, keyLacking, lacks, netOf, current, lengthsOff, expectedCode}
+use Rattle.request_spec.specs.Verdict.{carrying, notEnabled, overLimit, bytesToCome, memoryOffset, keyFails, keyLacking, lacks, payloadSize, current, lengthsOff, expectedCode}
 use Rattle.request_spec.specs.Packet.{packetOf}
 use Rattle.request_spec.specs.declared.Packet.{Packet}
-use Rattle.responder_spec.specs.Decide.{placeOf, againFails}
+use Rattle.responder_spec.specs.Decide.{targetOffset, duplicateReadFails}
 use Rattle.responder_spec.proofs.Codes.{Passed, passes, class-is}
 use Rattle.responder_spec.proofs.Codes.Bare.{reads, swaps, adds}
 use Rattle.responder_spec.proofs.Inside.{key-inside, own-inside, total, write-total, place-inside}
-use Rattle.decide.specs.Guard.{SpotFits, PlaceFits, Shaped, Executable}
+use Rattle.decide.specs.Guard.{OffsetFits, TargetFits, Shaped, Executable}
 
-module _ (kind : ℕ) (m : OpenMessage) (entry region : List ℕ) (k : kind ≡ 0 → ⊥) (span : ℕ) (s : span ≡ m .length - m .placed) where
+module _ (kind : ℕ) (m : OpenMessage) (entry region : List ℕ) (k : kind ≡ 0 → ⊥) (needed : ℕ) (s : needed ≡ m .length - m .stored) where
   -- a kind that goes to a region
-  elsewhere : placeOf kind m entry region ≡ spot region (m .address + m .placed) span
-  unfolding placeOf keySpan
+  elsewhere : targetOffset kind m entry region ≡ memoryOffset region (m .address + m .stored) needed
+  unfolding targetOffset bytesToCome
   elsewhere =
-      ap (λ b. cond b (getD entry 1 0 + m .placed) (spot region (m .address + m .placed) (m .length - m .placed))) (ne-eqb kind 0 k)
-      ∙ ap (spot region (m .address + m .placed)) (sym s)
+      ap (λ b. cond b (getD entry 1 0 + m .stored) (memoryOffset region (m .address + m .stored) (m .length - m .stored))) (ne-eqb kind 0 k)
+      ∙ ap (memoryOffset region (m .address + m .stored)) (sym s)
 
-  pub nowhere : span ≡ 0 → 0 ≡ placeOf kind m entry region
-  unfolding spot
+  pub nowhere : needed ≡ 0 → 0 ≡ targetOffset kind m entry region
+  unfolding memoryOffset
   nowhere e =
-      sym (elsewhere ∙ ap (λ b. cond b 0 (getD region 3 0 + (m .address + m .placed - getD region 1 0))) (eq-eqb span 0 e))
+      sym (elsewhere ∙ ap (λ b. cond b 0 (getD region 3 0 + (m .address + m .stored - getD region 1 0))) (eq-eqb needed 0 e))
 
-  pub at-spot : (placed : ℕ) → placed ≡ m .placed → (r : ℕ) → r ≡ spot region (m .address + placed) span → r ≡ placeOf kind m entry region
-  at-spot placed p r e = e ∙ (ap (λ x. spot region (m .address + x) span) p ∙ sym elsewhere)
+  pub at-spot : (stored : ℕ) → stored ≡ m .stored → (r : ℕ) → r ≡ memoryOffset region (m .address + stored) needed → r ≡ targetOffset kind m entry region
+  at-spot stored p r e = e ∙ (ap (λ x. memoryOffset region (m .address + x) needed) p ∙ sym elsewhere)
 
 -- the same span by other names
-pub same-spot : (region : List ℕ) (address placed length at span : ℕ) → at ≡ placed → span ≡ length - placed
-    → SpotFits region (address + placed) (keySpan length placed) → SpotFits region (address + at) span
-unfolding keySpan
-same-spot region address placed length at span p s f = λ some. omega (arith, f (omega arith))
+pub same-spot : (region : List ℕ) (address stored length at needed : ℕ) → at ≡ stored → needed ≡ length - stored
+    → OffsetFits region (address + stored) (bytesToCome length stored) → OffsetFits region (address + at) needed
+unfolding bytesToCome
+same-spot region address stored length at needed p s f = λ some. omega (arith, f (omega arith))
 
 -- the bytes of a key that holds them lie in memory, whose length has 64 bits
 pub own-spot : (kind memory : ℕ) (m : OpenMessage) (region : List ℕ) → memory < 2 ^ 64 → eqb kind 0 ≡ false
-    → keyFails memory kind m region ≡ false → m .placed ≡ 0 → SpotFits region (m .address) (m .length)
-unfolding spot
+    → keyFails memory kind m region ≡ false → m .stored ≡ 0 → OffsetFits region (m .address) (m .length)
+unfolding memoryOffset
 own-spot kind memory m region b k h z = λ some.
     let e : eqb (m .length) 0 ≡ false = ne-eqb (m .length) 0 (λ x. omega arith) in
     let i = own-inside kind memory m region k h z in
     omega (arith, rw e at i)
 
 -- a repeated READ that is answered has a good key
-pub again-key : (p : Packet) (s : Setup) (m : OpenMessage) (expected : Psn) (region : List ℕ) (t : Bool) → t ≡ againFails p s m expected region → t ≡ false
+pub again-key : (p : Packet) (s : Setup) (m : OpenMessage) (expected : Psn) (region : List ℕ) (t : Bool) → t ≡ duplicateReadFails p s m expected region → t ≡ false
     → keyFails (s .memory) 12 m region ≡ false
-unfolding againFails
+unfolding duplicateReadFails
 again-key p s m expected region t e f =
     let a = or-right (notEnabled s 12) _ (sym e ∙ f) in
     let b = or-right (overLimit (m .length)) _ a in
-    let c = or-right (not (eqb (p .raw) 0)) _ b in
+    let c = or-right (not (eqb (p .padded) 0)) _ b in
     let d = or-right (not (eqb (p .pad) 0)) _ c in
     or-left (keyFails (s .memory) 12 m region) _ d
 
@@ -80,23 +80,23 @@ held-below region right memory address n h =
     let d = or-right (ltb address (getD region 1 0)) _ c in
     omega (arith, t, ltb-false (getD region 1 0 + getD region 2 0) (address + n) d)
 
-key-below : (memory kind : ℕ) (m : OpenMessage) (region : List ℕ) → (kind ≡ 0 → ⊥) → 0 < keySpan (m .length) (m .placed)
-    → keyFails memory kind m region ≡ false → m .address + m .placed < 2 ^ 64
+key-below : (memory kind : ℕ) (m : OpenMessage) (region : List ℕ) → (kind ≡ 0 → ⊥) → 0 < bytesToCome (m .length) (m .stored)
+    → keyFails memory kind m region ≡ false → m .address + m .stored < 2 ^ 64
 unfolding keyFails keyLacking
 key-below memory kind m region k some h =
-    let z : eqb (keySpan (m .length) (m .placed)) 0 ≡ false = ne-eqb (keySpan (m .length) (m .placed)) 0 (λ x. omega arith) in
-    omega (arith, held-below region _ memory (m .address + m .placed) (keySpan (m .length) (m .placed)) (rw (ne-eqb kind 0 k, z) at h))
+    let z : eqb (bytesToCome (m .length) (m .stored)) 0 ≡ false = ne-eqb (bytesToCome (m .length) (m .stored)) 0 (λ x. omega arith) in
+    omega (arith, held-below region _ memory (m .address + m .stored) (bytesToCome (m .length) (m .stored)) (rw (ne-eqb kind 0 k, z) at h))
 
-spot-below : (region : List ℕ) (memory : ℕ) → memory < 2 ^ 64 → (address span : ℕ) → 0 < span → spot region address span + span ≤ memory
+spot-below : (region : List ℕ) (memory : ℕ) → memory < 2 ^ 64 → (address needed : ℕ) → 0 < needed → memoryOffset region address needed + needed ≤ memory
     → getD region 3 0 + (address - getD region 1 0) < 2 ^ 64
-unfolding spot
-spot-below region memory b address span some i =
-    let e : eqb span 0 ≡ false = ne-eqb span 0 (λ x. omega arith) in
+unfolding memoryOffset
+spot-below region memory b address needed some i =
+    let e : eqb needed 0 ≡ false = ne-eqb needed 0 (λ x. omega arith) in
     omega (arith, rw e at i)
 
-pub begun : (under : OpenMessage) (p : Packet) → starts (p .place) ≡ true → current under p .placed ≡ 0
+pub begun : (opened : OpenMessage) (p : Packet) → starts (p .place) ≡ true → current opened p .stored ≡ 0
 unfolding current
-begun under p h = rw h
+begun opened p h = rw h
 
 bare-high : (kind : ℕ) → carrying kind ≡ false → 12 ≤ kind
 unfolding carrying
@@ -117,41 +117,41 @@ served s kind h high = go (eqb kind 0) (eqb kind 6) (eqb kind 12) (eqb kind 19) 
     go false false false false true v w x y z t = inr (inr (eqb-true kind 20 z))
     go false false false false false v w x y z t = absurd (true≢false t)
 
-module _ (s : Setup) (under : OpenMessage) (p : Packet) (entry region : List ℕ) (P : Passed s under p entry region) (F : Shaped p)
-    (memory : s .memory < 2 ^ 64) (placed : current under p .placed < 2 ^ 64) (length : current under p .length < 2 ^ 64) where
+module _ (s : Setup) (opened : OpenMessage) (p : Packet) (entry region : List ℕ) (P : Passed s opened p entry region) (F : Shaped p)
+    (memory : s .memory < 2 ^ 64) (stored : current opened p .stored < 2 ^ 64) (length : current opened p .length < 2 ^ 64) where
   abbrev m : OpenMessage
-  m = current under p
+  m = current opened p
 
-  sent : p .kind ≡ 0 → placeOf (p .kind) m entry region ≡ getD entry 1 0 + m .placed
-  unfolding placeOf
-  sent e =
-      ap (λ b. cond b (getD entry 1 0 + m .placed) (spot region (m .address + m .placed) (keySpan (m .length) (m .placed)))) (eq-eqb (p .kind) 0 e)
+  outgoing : p .kind ≡ 0 → targetOffset (p .kind) m entry region ≡ getD entry 1 0 + m .stored
+  unfolding targetOffset
+  outgoing e =
+      ap (λ b. cond b (getD entry 1 0 + m .stored) (memoryOffset region (m .address + m .stored) (bytesToCome (m .length) (m .stored)))) (eq-eqb (p .kind) 0 e)
 
   -- a SEND's end lies in memory, a WRITE's bytes are no more than its length
-  sum : carrying (p .kind) ≡ true → m .placed + netOf p < 2 ^ 64
-  unfolding keySpan
+  sum : carrying (p .kind) ≡ true → m .stored + payloadSize p < 2 ^ 64
+  unfolding bytesToCome
   sum c = go (eqb (p .kind) 0) refl
     where
-      go : (b : Bool) → eqb (p .kind) 0 ≡ b → m .placed + netOf p < 2 ^ 64
-      go true e = omega (arith, sent (eqb-true (p .kind) 0 e), place-inside s under p entry region P c)
+      go : (b : Bool) → eqb (p .kind) 0 ≡ b → m .stored + payloadSize p < 2 ^ 64
+      go true e = omega (arith, outgoing (eqb-true (p .kind) 0 e), place-inside s opened p entry region P c)
       go false e =
-          omega (arith, write-total (p .kind) (p .place) (m .placed) (netOf p) (m .length) (getD entry 2 0) e (total p (s .pmtu) m (getD entry 2 0) c (P .lengths)))
+          omega (arith, write-total (p .kind) (p .place) (m .stored) (payloadSize p) (m .length) (getD entry 2 0) e (total p (s .pmtu) m (getD entry 2 0) c (P .lengths)))
 
   -- where bytes go is in memory
-  places : carrying (p .kind) ≡ true → PlaceFits (p .kind) m entry region
+  places : carrying (p .kind) ≡ true → TargetFits (p .kind) m entry region
   places c =
       record {
-        send = λ e. omega (arith, sent e, place-inside s under p entry region P c);
+        send = λ e. omega (arith, outgoing e, place-inside s opened p entry region P c);
         address = λ k some. key-below (s .memory) (p .kind) m region k some (P .key);
         spots = λ k some. reached k some;
       }
     where
-      reached : (p .kind ≡ 0 → ⊥) → 0 < keySpan (m .length) (m .placed) → getD region 3 0 + (m .address + m .placed - getD region 1 0) < 2 ^ 64
-      reached k some = spot-below region (s .memory) memory (m .address + m .placed) (keySpan (m .length) (m .placed)) some (key-inside (p .kind) (s .memory) m region (ne-eqb (p .kind) 0 k) (P .key))
+      reached : (p .kind ≡ 0 → ⊥) → 0 < bytesToCome (m .length) (m .stored) → getD region 3 0 + (m .address + m .stored - getD region 1 0) < 2 ^ 64
+      reached k some = spot-below region (s .memory) memory (m .address + m .stored) (bytesToCome (m .length) (m .stored)) some (key-inside (p .kind) (s .memory) m region (ne-eqb (p .kind) 0 k) (P .key))
 
   -- READs and atomics begin their message
-  alone : carrying (p .kind) ≡ false → SpotFits region (m .address) (m .length)
-  alone c = own-spot (p .kind) (s .memory) m region memory (ne-eqb (p .kind) 0 other) (P .key) (begun under p (F .one kinds))
+  alone : carrying (p .kind) ≡ false → OffsetFits region (m .address) (m .length)
+  alone c = own-spot (p .kind) (s .memory) m region memory (ne-eqb (p .kind) 0 other) (P .key) (begun opened p (F .one kinds))
     where
       high : 12 ≤ p .kind
       high = bare-high (p .kind) c
@@ -186,7 +186,7 @@ header-short h = go (eqb (Opcode.serviceOf (h .bth .opcode)) 0) (eqb (Opcode.ser
     go false false c = omega arith
 
 pub shaped : (h : Header) (n : ℕ) → n < 2 ^ 64 → Shaped (packetOf h n)
-unfolding packetOf netOf starts lowClass Opcode.placeOf
+unfolding packetOf payloadSize starts lowClass Opcode.targetOffset
 shaped h n b =
     record {
       end = omega (arith, header-short h);

@@ -1,53 +1,53 @@
 // Decisions on a repeated packet.
-use crate::execute::reading;
-use crate::execute::spot;
+use crate::execute::begin_read;
+use crate::execute::memory_offset;
 use idle::ACK;
 use idle::acknowledging;
-use idle::again_fails;
-use idle::atomic_again;
+use idle::duplicate_atomic;
+use idle::duplicate_read_fails;
 use idle::is_atomic;
+use idle::no_reply;
 use idle::psn_before;
-use idle::quietly;
 use idle::region_for;
 use pair::OpenMessage;
 use pair::Pair;
 use pair::Setup;
 use pair::Status;
-use responder_spec::Decision;
 use request_spec::Packet;
+use responder_spec::Decision;
 use sequence::Psn;
 ghost use mathlib.Core.Path.{_≡_};
 ghost use Rattle.request_spec.specs.Verdict.{current};
 ghost use Rattle.table.specs.View.{newestSaved};
 ghost use Rattle.decide.specs.Guard.{Shaped};
-ghost use Rattle.responder_spec.specs.Decide.{readAgain, duplicateDecision, regionFor};
+ghost use Rattle.responder_spec.specs.Decide.{duplicateRead, duplicateDecision, regionFor};
 
-fn read_again(p: Packet, s: Setup, m: OpenMessage, expected: Psn, region: [u64; 7]) -> Decision
-    requires { ⌜ m .placed ≡ 0 ⌝ }
-    ensures { λ r. ⌜ r ≡ readAgain p s m expected region ⌝ }
+fn duplicate_read(p: Packet, s: Setup, m: OpenMessage, expected: Psn, region: [u64; 7]) -> Decision
+    requires { ⌜ m .stored ≡ 0 ⌝ }
+    ensures { λ r. ⌜ r ≡ duplicateRead p s m expected region ⌝ }
 {
-    let fails = again_fails(p, s, m, expected, region);
+    let fails = duplicate_read_fails(p, s, m, expected, region);
     if fails {
         let status = Status::Dropped;
-        return quietly(status);
+        return no_reply(status);
     }
-    let at = spot(region, m.address, m.length);
+    let at = memory_offset(region, m.address, m.length);
     let count = pmtu::count(m.length, s.pmtu);
     let message = pair::no_message();
     let status = Status::DuplicateAnswered;
-    reading(status, message, at, m.length, 0, false, count, p.psn)
+    begin_read(status, message, at, m.length, 0, false, count, p.psn)
 }
 
 fn reread(p: Packet, pair: Pair, regions: &[[u64; 7]; 16]) -> Decision
     requires { ⌜ Shaped p ⌝ }
     requires { ⌜ p .kind ≡ 12 ⌝ }
-    ensures { λ r. ⌜ r ≡ readAgain p (pair .setup) (current (pair .message) p) (pair .expected) (regionFor (p .kind) (current (pair .message) p .key) (now (regions .entry))) ⌝ }
+    ensures { λ r. ⌜ r ≡ duplicateRead p (pair .setup) (current (pair .message) p) (pair .expected) (regionFor (p .kind) (current (pair .message) p .key) (now (regions .entry))) ⌝ }
 {
-    let under = pair.message;
-    let m = request_checks::current(under, p);
+    let opened = pair.message;
+    let m = request_checks::current(opened, p);
     let region = region_for(regions, p.kind, m.key);
     let setup = pair.setup;
-    read_again(p, setup, m, pair.expected, region)
+    duplicate_read(p, setup, m, pair.expected, region)
 }
 
 // By the kind of the repeated packet. Only a READ's key is looked up, and only an atomic's value.
@@ -73,8 +73,8 @@ pub(crate) fn duplicate(
     if atomic {
         let ring = pair.saved;
         let value = table::newest(saved, ring, p.psn);
-        return atomic_again(value, p.psn);
+        return duplicate_atomic(value, p.psn);
     }
     let status = Status::Dropped;
-    quietly(status)
+    no_reply(status)
 }

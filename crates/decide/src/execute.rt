@@ -3,18 +3,18 @@ use idle::ACK;
 use idle::no_completion;
 use pair::OpenMessage;
 use pair::Status;
+use request_spec::Packet;
 use responder_spec::Completion;
 use responder_spec::Decision;
-use request_spec::Packet;
 use sequence::Psn;
 ghost use mathlib.Core.Path.{_≡_};
 ghost use mathlib.Core.Bool.{cond};
 ghost use Prim.Native.Nat.{_+_, _-_, _<_, _^_};
 ghost use lib.Dec.{eqb};
-ghost use Rattle.request_spec.specs.Verdict.{spot, netOf};
-ghost use Rattle.responder_spec.specs.Decide.{completes, completionOf, grown, placeOf, placing, swapping, reading, accepting};
+ghost use Rattle.request_spec.specs.Verdict.{memoryOffset, payloadSize};
+ghost use Rattle.responder_spec.specs.Decide.{completes, completionOf, messageAfter, targetOffset, storePayload, runAtomic, beginRead, acceptRead};
 ghost use Rattle.decide.specs.Either.{answered, asksBy, numbersBy, finished};
-ghost use Rattle.decide.specs.Guard.{SpotFits, PlaceFits, Executable};
+ghost use Rattle.decide.specs.Guard.{OffsetFits, TargetFits, Executable};
 
 fn completes(kind: u8, place: u8, immediate: bool) -> bool
     ensures { λ r. ⌜ r ≡ completes kind place immediate ⌝ }
@@ -27,24 +27,24 @@ fn completes(kind: u8, place: u8, immediate: bool) -> bool
 }
 
 // The bytes of a message that ends: a SEND's are counted, a WRITE names its DMA length.
-fn counted(kind: u8, placed: usize, net: usize, length: usize) -> usize
-    requires { ⌜ placed + net < 2 ^ 64 ⌝ }
-    ensures { λ r. ⌜ r ≡ cond (eqb kind 0) (placed + net) length ⌝ }
+fn counted(kind: u8, stored: usize, size: usize, length: usize) -> usize
+    requires { ⌜ stored + size < 2 ^ 64 ⌝ }
+    ensures { λ r. ⌜ r ≡ cond (eqb kind 0) (stored + size) length ⌝ }
 {
     if kind == opcode::SEND {
-        return placed + net;
+        return stored + size;
     }
     length
 }
 
 fn completion_of(p: Packet, m: OpenMessage, number: u64) -> Completion
-    requires { ⌜ m .placed + netOf p < 2 ^ 64 ⌝ }
+    requires { ⌜ m .stored + payloadSize p < 2 ^ 64 ⌝ }
     ensures { λ r. ⌜ r ≡ completionOf p m number ⌝ }
 {
     let done = completes(p.kind, p.place, p.operands.immediate);
     if done {
-        let carried = request_checks::less(p.raw, p.pad);
-        let length = counted(p.kind, m.placed, carried, m.length);
+        let carried = request_checks::less(p.padded, p.pad);
+        let length = counted(p.kind, m.stored, carried, m.length);
         return Completion {
             some: true,
             number,
@@ -57,16 +57,16 @@ fn completion_of(p: Packet, m: OpenMessage, number: u64) -> Completion
 }
 
 // The message after a packet of it.
-fn grown(place: u8, m: OpenMessage, net: usize) -> OpenMessage
-    requires { ⌜ m .placed + net < 2 ^ 64 ⌝ }
-    ensures { λ r. ⌜ r ≡ grown place m net ⌝ }
+fn message_after(place: u8, m: OpenMessage, size: usize) -> OpenMessage
+    requires { ⌜ m .stored + size < 2 ^ 64 ⌝ }
+    ensures { λ r. ⌜ r ≡ messageAfter place m size ⌝ }
 {
     let last = pmtu::ends(place);
     if last {
         return pair::no_message();
     }
     let mut next = m;
-    next.placed = m.placed + net;
+    next.stored = m.stored + size;
     next
 }
 
@@ -87,11 +87,11 @@ fn above(a: u64, b: u64) -> u64
 }
 
 // Where an address of a region lies in memory.
-pub(crate) fn spot(region: [u64; 7], address: u64, span: usize) -> usize
-    requires { ⌜ SpotFits region address span ⌝ }
-    ensures { λ r. ⌜ r ≡ spot region address span ⌝ }
+pub(crate) fn memory_offset(region: [u64; 7], address: u64, needed: usize) -> usize
+    requires { ⌜ OffsetFits region address needed ⌝ }
+    ensures { λ r. ⌜ r ≡ memoryOffset region address needed ⌝ }
 {
-    if span == 0 {
+    if needed == 0 {
         return 0;
     }
     let skip = above(address, region[1]);
@@ -99,19 +99,19 @@ pub(crate) fn spot(region: [u64; 7], address: u64, span: usize) -> usize
 }
 
 // Where the next bytes of a message go.
-fn place_of(kind: u8, m: OpenMessage, entry: [u64; 3], region: [u64; 7]) -> usize
-    requires { ⌜ PlaceFits kind m entry region ⌝ }
-    ensures { λ r. ⌜ r ≡ placeOf kind m entry region ⌝ }
+fn target_offset(kind: u8, m: OpenMessage, entry: [u64; 3], region: [u64; 7]) -> usize
+    requires { ⌜ TargetFits kind m entry region ⌝ }
+    ensures { λ r. ⌜ r ≡ targetOffset kind m entry region ⌝ }
 {
-    let placed = wide(m.placed);
+    let stored = wide(m.stored);
     if kind == opcode::SEND {
-        return (entry[1] + placed) as usize;
+        return (entry[1] + stored) as usize;
     }
-    let span = request_checks::less(m.length, m.placed);
-    if span == 0 {
+    let needed = request_checks::less(m.length, m.stored);
+    if needed == 0 {
         return 0;
     }
-    spot(region, m.address + placed, span)
+    memory_offset(region, m.address + stored, needed)
 }
 
 fn answer(ackreq: bool) -> Status
@@ -134,42 +134,42 @@ fn ack_length(ackreq: bool) -> usize
 }
 
 // A SEND's or a WRITE's bytes are placed; whether it is acknowledged and how many PSNs are taken, its service says.
-fn placing(
+fn store_payload(
     p: Packet,
     asked: bool,
-    numbers: usize,
+    psns: usize,
     m: OpenMessage,
     entry: [u64; 3],
     region: [u64; 7],
 ) -> Decision
-    requires { ⌜ p .start + netOf p < 2 ^ 64 ⌝ }
-    requires { ⌜ m .placed + netOf p < 2 ^ 64 ⌝ }
-    requires { ⌜ PlaceFits (p .kind) m entry region ⌝ }
-    ensures { λ r. ⌜ r ≡ answered asked numbers (placing p m entry region) ⌝ }
+    requires { ⌜ p .start + payloadSize p < 2 ^ 64 ⌝ }
+    requires { ⌜ m .stored + payloadSize p < 2 ^ 64 ⌝ }
+    requires { ⌜ TargetFits (p .kind) m entry region ⌝ }
+    ensures { λ r. ⌜ r ≡ answered asked psns (storePayload p m entry region) ⌝ }
 {
-    let net = request_checks::less(p.raw, p.pad);
-    let at = place_of(p.kind, m, entry, region);
-    let message = grown(p.place, m, net);
+    let size = request_checks::less(p.padded, p.pad);
+    let at = target_offset(p.kind, m, entry, region);
+    let message = message_after(p.place, m, size);
     let completion = completion_of(p, m, entry[0]);
     let ends = pmtu::ends(p.place);
     let status = answer(asked);
-    let sent = ack_length(asked);
+    let outgoing = ack_length(asked);
     let psn = p.psn;
     Decision {
         status,
         act: 1,
         at,
         start: p.start,
-        end: p.start + net,
+        end: p.start + size,
         swap: 0,
         compare: 0,
         message,
-        numbers,
+        psns,
         ends,
         completion,
         responses: 0,
         length: 0,
-        sent,
+        outgoing,
         psn,
         syndrome: ACK,
         value: 0,
@@ -186,11 +186,11 @@ fn atomic_act(kind: u8) -> u8
 }
 
 // An atomic is run, and its old value sent.
-fn swapping(p: Packet, m: OpenMessage, under: OpenMessage, region: [u64; 7]) -> Decision
-    requires { ⌜ SpotFits region (m .address) (m .length) ⌝ }
-    ensures { λ r. ⌜ r ≡ swapping p m under region ⌝ }
+fn run_atomic(p: Packet, m: OpenMessage, opened: OpenMessage, region: [u64; 7]) -> Decision
+    requires { ⌜ OffsetFits region (m .address) (m .length) ⌝ }
+    ensures { λ r. ⌜ r ≡ runAtomic p m opened region ⌝ }
 {
-    let at = spot(region, m.address, m.length);
+    let at = memory_offset(region, m.address, m.length);
     let act = atomic_act(p.kind);
     let completion = no_completion();
     let status = Status::AtomicExecuted;
@@ -203,13 +203,13 @@ fn swapping(p: Packet, m: OpenMessage, under: OpenMessage, region: [u64; 7]) -> 
         end: 0,
         swap: p.operands.swap,
         compare: p.operands.compare,
-        message: under,
-        numbers: 1,
+        message: opened,
+        psns: 1,
         ends: true,
         completion,
         responses: 0,
         length: 0,
-        sent: 24,
+        outgoing: 24,
         psn,
         syndrome: ACK,
         value: 0,
@@ -217,17 +217,17 @@ fn swapping(p: Packet, m: OpenMessage, under: OpenMessage, region: [u64; 7]) -> 
 }
 
 // A READ begins to be answered.
-pub(crate) fn reading(
+pub(crate) fn begin_read(
     status: Status,
     message: OpenMessage,
     at: usize,
     length: usize,
-    numbers: usize,
+    psns: usize,
     ends: bool,
     responses: usize,
     psn: Psn,
 ) -> Decision
-    ensures { λ r. ⌜ r ≡ reading status message at length numbers ends responses psn ⌝ }
+    ensures { λ r. ⌜ r ≡ beginRead status message at length psns ends responses psn ⌝ }
 {
     let completion = no_completion();
     Decision {
@@ -239,32 +239,32 @@ pub(crate) fn reading(
         swap: 0,
         compare: 0,
         message,
-        numbers,
+        psns,
         ends,
         completion,
         responses,
         length,
-        sent: 0,
+        outgoing: 0,
         psn,
         syndrome: 0,
         value: 0,
     }
 }
 
-fn accepting(
+fn accept_read(
     p: Packet,
     m: OpenMessage,
-    under: OpenMessage,
+    opened: OpenMessage,
     region: [u64; 7],
     pmtu: usize,
 ) -> Decision
-    requires { ⌜ SpotFits region (m .address) (m .length) ⌝ }
-    ensures { λ r. ⌜ r ≡ accepting p m under region pmtu ⌝ }
+    requires { ⌜ OffsetFits region (m .address) (m .length) ⌝ }
+    ensures { λ r. ⌜ r ≡ acceptRead p m opened region pmtu ⌝ }
 {
-    let at = spot(region, m.address, m.length);
+    let at = memory_offset(region, m.address, m.length);
     let count = pmtu::count(m.length, pmtu);
     let status = Status::ReadAccepted;
-    reading(status, under, at, m.length, count, true, count, p.psn)
+    begin_read(status, opened, at, m.length, count, true, count, p.psn)
 }
 
 fn asks(uc: bool, ackreq: bool) -> bool
@@ -300,26 +300,26 @@ pub(crate) fn finished(
     p: Packet,
     expected: Psn,
     m: OpenMessage,
-    under: OpenMessage,
+    opened: OpenMessage,
     entry: [u64; 3],
     region: [u64; 7],
     pmtu: usize,
 ) -> Decision
     requires { ⌜ Executable p m entry region ⌝ }
-    ensures { λ r. ⌜ r ≡ finished uc p expected m under entry region pmtu ⌝ }
+    ensures { λ r. ⌜ r ≡ finished uc p expected m opened entry region pmtu ⌝ }
 {
     let carries = request_checks::carrying(p.kind);
     if carries {
         let asked = asks(uc, p.ackreq);
         let taken = numbers(uc, p.psn, expected);
-        return placing(p, asked, taken, m, entry, region);
+        return store_payload(p, asked, taken, m, entry, region);
     }
     if uc {
         let status = Status::Dropped;
-        return idle::quietly(status);
+        return idle::no_reply(status);
     }
     if p.kind == opcode::READ {
-        return accepting(p, m, under, region, pmtu);
+        return accept_read(p, m, opened, region, pmtu);
     }
-    swapping(p, m, under, region)
+    run_atomic(p, m, opened, region)
 }

@@ -8,8 +8,8 @@ use header::Header;
 use idle::region_for;
 use pair::Pair;
 use pair::Status;
-use responder_spec::Decision;
 use request_spec::Packet;
+use responder_spec::Decision;
 use sequence::Class;
 use sequence::Psn;
 ghost use mathlib.Core.Path.{_≡_};
@@ -39,16 +39,16 @@ fn failed(code: u8, psn: Psn, timer: u8) -> Decision
         return idle::acknowledging(status, psn, 0x20 + timer);
     }
     let status = Status::OutOfRange;
-    idle::quietly(status)
+    idle::no_reply(status)
 }
 
 // Refused by a check: a NAK, or the message abandoned.
-fn refused(uc: bool, code: u8, under: u8, psn: Psn, timer: u8) -> Decision
+fn refused(uc: bool, code: u8, opened: u8, psn: Psn, timer: u8) -> Decision
     requires { ⌜ timer ≤ 31 ⌝ }
-    ensures { λ r. ⌜ r ≡ refusedBy uc code under psn timer ⌝ }
+    ensures { λ r. ⌜ r ≡ refusedBy uc code opened psn timer ⌝ }
 {
     if uc {
-        return unreliable::abandoning(code, under);
+        return unreliable::abandoning(code, opened);
     }
     failed(code, psn, timer)
 }
@@ -61,23 +61,23 @@ fn settled(p: Packet, pair: Pair, entry: [u64; 3], region: [u64; 7], uc: bool) -
     ensures { λ r. ⌜ r ≡ eitherDecision uc p (pair .setup) (pair .expected) (pair .message) (pair .entries .count) entry region ⌝ }
 {
     let setup = pair.setup;
-    let under = pair.message;
-    let early = unreliable::early(uc, p, pair.expected, under.kind);
+    let opened = pair.message;
+    let early = unreliable::early(uc, p, pair.expected, opened.kind);
     if early == 5 {
         let status = Status::Dropped;
-        return idle::quietly(status);
+        return idle::no_reply(status);
     }
     if early == 6 {
         let status = Status::Abandoned;
-        return idle::quietly(status);
+        return idle::no_reply(status);
     }
-    let met = unreliable::met(uc, p.place, under);
+    let met = unreliable::met(uc, p.place, opened);
     let code = request_checks::expected_code(setup, met, p, pair.entries.count, entry, region);
     if code != 0 {
-        return refused(uc, code, under.kind, p.psn, setup.timer);
+        return refused(uc, code, opened.kind, p.psn, setup.timer);
     }
-    let m = request_checks::current(under, p);
-    execute::finished(uc, p, pair.expected, m, under, entry, region, setup.pmtu)
+    let m = request_checks::current(opened, p);
+    execute::finished(uc, p, pair.expected, m, opened, entry, region, setup.pmtu)
 }
 
 // The same, by the tables: the entry at the head of its ring, and the region of its key.
@@ -94,8 +94,8 @@ fn take(
 {
     let at = table::slot(pair.entries.head, 0);
     let entry = entries[at];
-    let under = pair.message;
-    let m = request_checks::current(under, p);
+    let opened = pair.message;
+    let m = request_checks::current(opened, p);
     let region = region_for(regions, p.kind, m.key);
     settled(p, pair, entry, region, uc)
 }
@@ -129,14 +129,14 @@ pub fn decision(
 {
     if 31 < pair.setup.timer {
         let status = Status::OutOfRange;
-        return idle::quietly(status);
+        return idle::no_reply(status);
     }
     let p = request_checks::packet_of(h, n);
     let uc = unreliable_service(pair.setup.service);
     let class = class_of(uc, p.psn, pair.expected);
     match class {
         Class::Expected => take(pair, regions, entries, p, uc),
-        Class::Ahead => idle::ahead(pair.mark, pair.expected),
+        Class::Ahead => idle::ahead(pair.nakmark, pair.expected),
         Class::Duplicate => again::duplicate(p, pair, regions, saved),
     }
 }

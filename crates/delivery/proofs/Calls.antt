@@ -22,7 +22,7 @@ use Rattle.pair.specs.declared.Status.the-variants as status
 use Rattle.pair.proofs.Known.{sound}
 use Rattle.request_spec.specs.Packet.{packetOf}
 use Rattle.responder_spec.specs.Kept.{Steady}
-use Rattle.responder_spec.specs.Decide.{quietly, readsFull, inboundRefusal, orDrop, packetDecision, decided}
+use Rattle.responder_spec.specs.Decide.{noReply, readsFull, inboundRefusal, orDrop, packetDecision, decided}
 use Rattle.responder_spec.specs.Apply.{memoryBy, actsAtomic, savedBy, pairBy, with}
 use Rattle.responder_spec.specs.Apply as apply
 use Rattle.responder_spec.specs.Inbound.{decision, outcomeBy, inbound, inboundMemory, inboundSaved}
@@ -30,7 +30,7 @@ use Rattle.responder_spec.specs.Response.{nextStatus, oneFewer, nextResponse}
 use Rattle.responder_spec.specs.Calls.{received, drained}
 use Rattle.responder_spec.specs.declared.Decision.{Decision}
 use Rattle.delivery.specs.Stream.{Message, Slot, slot, packetAt}
-use Rattle.delivery.specs.Plain.{Plain, sending, adding, delivered, account}
+use Rattle.delivery.specs.Plain.{Plain, withResponses, withWaiting, deliver, plainStep}
 use Rattle.delivery.specs.Plain.Call.{Hand, Next, Post}
 use Rattle.delivery.specs.Demand.{Run, step, LongEnough, AllLongEnough, Handed, Posted, entryOf}
 use Rattle.delivery.proofs.Chain.{Good}
@@ -62,17 +62,17 @@ module _ (ms : List Message) (S : List Slot) (p : Plain) (x : Run) (L : Link ms 
   hand-is j out = refl
 
   -- a refusal changes nothing
-  short : (b : List ℕ) → Link ms S p (stepBy x (quietly status.OutputShort) b)
-  unfolding quietly statusNumber pairBy apply.after savedBy memoryBy actsAtomic
-  short b = eases L (x .whole .pair .mark) (x .whole .pair .read) (p .r) (L .reads)
+  short : (b : List ℕ) → Link ms S p (stepBy x (noReply status.OutputShort) b)
+  unfolding noReply statusNumber pairBy apply.after savedBy memoryBy actsAtomic
+  short b = eases L (x .whole .pair .nakmark) (x .whole .pair .read) (p .r) (L .reads)
 
-  astray : (b : List ℕ) → Link ms S p (stepBy x (quietly status.OutOfRange) b)
-  unfolding quietly statusNumber pairBy apply.after savedBy memoryBy actsAtomic
-  astray b = eases L (x .whole .pair .mark) (x .whole .pair .read) (p .r) (L .reads)
+  astray : (b : List ℕ) → Link ms S p (stepBy x (noReply status.OutOfRange) b)
+  unfolding noReply statusNumber pairBy apply.after savedBy memoryBy actsAtomic
+  astray b = eases L (x .whole .pair .nakmark) (x .whole .pair .read) (p .r) (L .reads)
 
-  busy : (b : List ℕ) → Link ms S p (stepBy x (quietly status.ReadUnfinished) b)
-  unfolding quietly statusNumber pairBy apply.after savedBy memoryBy actsAtomic
-  busy b = eases L (x .whole .pair .mark) (x .whole .pair .read) (p .r) (L .reads)
+  busy : (b : List ℕ) → Link ms S p (stepBy x (noReply status.ReadUnfinished) b)
+  unfolding noReply statusNumber pairBy apply.after savedBy memoryBy actsAtomic
+  busy b = eases L (x .whole .pair .nakmark) (x .whole .pair .read) (p .r) (L .reads)
 
   -- the refusals are those of the plain run
   abbrev refusal : Bool → Bool → Bool → Status
@@ -96,15 +96,15 @@ module _ (ms : List Message) (S : List Slot) (p : Plain) (x : Run) (L : Link ms 
   let-in j i =
       let H = G .stands j i in
       let f = Y .pair .setup .0 in
-      rw (eq-eqb (x .whole .pair .state) 1 (L .ready), admits (x .whole .pair .setup) f (slot S j) (H .sent))
-      (ap (packetDecision (x .whole .pair) (x .whole .regions) (x .whole .entries) (x .whole .saved)) (is-packet (x .whole .pair .setup) f (slot S j) (H .sent)))
+      rw (eq-eqb (x .whole .pair .state) 1 (L .ready), admits (x .whole .pair .setup) f (slot S j) (H .outgoing))
+      (ap (packetDecision (x .whole .pair) (x .whole .regions) (x .whole .entries) (x .whole .saved)) (is-packet (x .whole .pair .setup) f (slot S j) (H .outgoing)))
 
   pub hand : x .whole .pair .setup .service ≡ 0 → (j : ℕ) (out : List ℕ) → Handed (x .whole .pair .setup) S p j out
-      → Link ms S (account (x .whole .pair .setup) (x .whole .regions) S p (Hand j out)) (step S x (Hand j out))
+      → Link ms S (plainStep (x .whole .pair .setup) (x .whole .regions) S p (Hand j out)) (step S x (Hand j out))
   unfolding decision decided executed statusNumber
   hand R j out D =
-      subst (λ y. Link ms S (account (x .whole .pair .setup) (x .whole .regions) S p (Hand j out)) y) (sym (hand-is j out))
-      (subst (λ r. Link ms S (account (x .whole .pair .setup) (x .whole .regions) S p (Hand j out)) (stepBy x (by r) (packetAt (slot S j)))) (sym (refusal-is out))
+      subst (λ y. Link ms S (plainStep (x .whole .pair .setup) (x .whole .regions) S p (Hand j out)) y) (sym (hand-is j out))
+      (subst (λ r. Link ms S (plainStep (x .whole .pair .setup) (x .whole .regions) S p (Hand j out)) (stepBy x (by r) (packetAt (slot S j)))) (sym (refusal-is out))
       (go (ltb (length out) 24) (eqb (length (p .memory)) (x .whole .pair .setup .memory)) (eqb (p .r) 0) refl refl refl))
     where
       by : Status → Decision
@@ -112,10 +112,10 @@ module _ (ms : List Message) (S : List Slot) (p : Plain) (x : Run) (L : Link ms 
           cond (executed r)
           (orDrop (admitted (x .whole .pair .setup .service) (x .whole .pair .setup .ours) (x .whole .pair .setup .pkey) (eqb (x .whole .pair .state) 1) (packetAt (slot S j)))
           (λ h. packetDecision (x .whole .pair) (x .whole .regions) (x .whole .entries) (x .whole .saved) (packetOf h (length (packetAt (slot S j))))))
-          (quietly r)
+          (noReply r)
 
       go : (a b c : Bool) → ltb (length out) 24 ≡ a → eqb (length (p .memory)) (x .whole .pair .setup .memory) ≡ b → eqb (p .r) 0 ≡ c
-          → Link ms S (cond a p (cond (not b) p (cond (not c) p (delivered (x .whole .regions) S p j)))) (stepBy x (by (refusal a b c)) (packetAt (slot S j)))
+          → Link ms S (cond a p (cond (not b) p (cond (not c) p (deliver (x .whole .regions) S p j)))) (stepBy x (by (refusal a b c)) (packetAt (slot S j)))
       go true b c e f g = short (packetAt (slot S j))
       go false false c e f g = astray (packetAt (slot S j))
       go false true false e f g = busy (packetAt (slot S j))
@@ -138,10 +138,10 @@ module _ (ms : List Message) (S : List Slot) (p : Plain) (x : Run) (L : Link ms 
       (cond (not (eqb (length (L .memory i)) (x .whole .pair .setup .memory))) status.OutOfRange
       (cond (unsound-no i) status.OutOfRange status.Executed)))
 
-  pub next : (out : List ℕ) → Link ms S (account (x .whole .pair .setup) (x .whole .regions) S p (Next out)) (step S x (Next out))
+  pub next : (out : List ℕ) → Link ms S (plainStep (x .whole .pair .setup) (x .whole .regions) S p (Next out)) (step S x (Next out))
   unfolding step drained nextResponse executed statusNumber
   next out =
-      subst (λ r. Link ms S (account (x .whole .pair .setup) (x .whole .regions) S p (Next out)) (by r)) (sym (next-is out))
+      subst (λ r. Link ms S (plainStep (x .whole .pair .setup) (x .whole .regions) S p (Next out)) (by r)) (sym (next-is out))
       (go (eqb (p .r) 0) (ltb (length out) (16 + x .whole .pair .setup .pmtu)) (eqb (length (p .memory)) (x .whole .pair .setup .memory)))
     where
       by : Status → Run
@@ -149,7 +149,7 @@ module _ (ms : List Message) (S : List Slot) (p : Plain) (x : Run) (L : Link ms 
           record {
             whole =
                 record {
-                  pair = cond (executed r) (with (x .whole .pair) (x .whole .pair .state) (x .whole .pair .mark) (oneFewer (x .whole .pair .read))) (x .whole .pair);
+                  pair = cond (executed r) (with (x .whole .pair) (x .whole .pair .state) (x .whole .pair .nakmark) (oneFewer (x .whole .pair .read))) (x .whole .pair);
                   regions = x .whole .regions;
                   entries = x .whole .entries;
                   saved = x .whole .saved;
@@ -158,17 +158,17 @@ module _ (ms : List Message) (S : List Slot) (p : Plain) (x : Run) (L : Link ms 
             completions = x .completions ++ [];
           }
 
-      same : Link ms S p (eased x (x .whole .pair .mark) (x .whole .pair .read) (x .completions ++ []))
-      same = eases L (x .whole .pair .mark) (x .whole .pair .read) (p .r) (L .reads)
+      same : Link ms S p (eased x (x .whole .pair .nakmark) (x .whole .pair .read) (x .completions ++ []))
+      same = eases L (x .whole .pair .nakmark) (x .whole .pair .read) (p .r) (L .reads)
 
       go : (a b c : Bool)
-          → Link ms S (cond a p (cond b p (cond (not c) p (sending p (p .r - 1)))))
+          → Link ms S (cond a p (cond b p (cond (not c) p (withResponses p (p .r - 1)))))
           (by (cond a status.WrongState (cond b status.OutputShort (cond (not c) status.OutOfRange status.Executed))))
       go true b c = same
       go false true c = same
       go false false false = same
       go false false true =
-          eases L (x .whole .pair .mark) (oneFewer (x .whole .pair .read)) (p .r - 1) (ap (λ n. n - 1) (L .reads))
+          eases L (x .whole .pair .nakmark) (oneFewer (x .whole .pair .read)) (p .r - 1) (ap (λ n. n - 1) (L .reads))
 
   -- post entry
   post-is : (e : Entry)
@@ -185,7 +185,7 @@ module _ (ms : List Message) (S : List Slot) (p : Plain) (x : Run) (L : Link ms 
       (cond (ltb (x .whole .pair .setup .memory) (e .offset + e .length)) status.OutOfRange (cond (leb 16 (n i)) status.TableFull status.Executed)))
 
   posts : (e : Entry) → length (p .held) + length (p .waiting) < 16 → LongEnough ms e
-      → Link ms S (adding p (p .waiting ++ (e ∷ [])))
+      → Link ms S (withWaiting p (p .waiting ++ (e ∷ [])))
       (record {
         whole =
             record {
@@ -214,13 +214,13 @@ module _ (ms : List Message) (S : List Slot) (p : Plain) (x : Run) (L : Link ms 
         within = L .within;
         number = L .number;
         long = long-last ms (p .waiting) e (L .long) l;
-        under = L .under;
+        opened = L .opened;
       }
 
-  pub post : (e : Entry) → Posted (x .whole .pair .setup) ms p e → Link ms S (account (x .whole .pair .setup) (x .whole .regions) S p (Post e)) (step S x (Post e))
+  pub post : (e : Entry) → Posted (x .whole .pair .setup) ms p e → Link ms S (plainStep (x .whole .pair .setup) (x .whole .regions) S p (Post e)) (step S x (Post e))
   unfolding step called posted postEntries executed statusNumber
   post e D =
-      subst (λ r. Link ms S (account (x .whole .pair .setup) (x .whole .regions) S p (Post e)) (by r)) (sym (post-is e))
+      subst (λ r. Link ms S (plainStep (x .whole .pair .setup) (x .whole .regions) S p (Post e)) (by r)) (sym (post-is e))
       (go (ltb (x .whole .pair .setup .memory) (e .offset + e .length)) (leb 16 (length (p .held) + length (p .waiting))) refl refl)
     where
       by : Status → Run
@@ -238,7 +238,7 @@ module _ (ms : List Message) (S : List Slot) (p : Plain) (x : Run) (L : Link ms 
           }
 
       go : (a b : Bool) → ltb (x .whole .pair .setup .memory) (e .offset + e .length) ≡ a → leb 16 (length (p .held) + length (p .waiting)) ≡ b
-          → Link ms S (cond a p (cond b p (adding p (p .waiting ++ (e ∷ []))))) (by (cond a status.OutOfRange (cond b status.TableFull status.Executed)))
+          → Link ms S (cond a p (cond b p (withWaiting p (p .waiting ++ (e ∷ []))))) (by (cond a status.OutOfRange (cond b status.TableFull status.Executed)))
       go true b f g = L
       go false true f g = L
       go false false f g =

@@ -19,7 +19,7 @@ use Rattle.cut_spec.specs.declared.Connection.{Connection}
 use Rattle.cut_spec.specs.declared.Request.{Request}
 use Rattle.cut_spec.specs.declared.Request.the-variants.{Send, SendImmediate, Write, WriteImmediate, Read, CmpSwap, FetchAdd}
 use Rattle.table.specs.declared.Entry.{Entry}
-use Rattle.delivery.specs.Stream.{Message, packetCount, Slot, slotsFrom, stream, slot, spanOf, span, along}
+use Rattle.delivery.specs.Stream.{Message, packetCount, Slot, slotsFrom, stream, slot, psnCountOf, psnCount, numberAlong}
 use Rattle.delivery.specs.Demand.{Allowed, Addressed, Permitted, AllPermitted, AtLeast, LongEnough}
 
 -- the service has the request: UC has SENDs and WRITEs only
@@ -43,7 +43,7 @@ pub record Sent (s : Setup) (t : Slot) : Type 0 where
 
 pub record Stands (s : Setup) (regions : List (List ℕ)) (t : Slot) : Type 0 where
   pub allowed : Allowed s regions (t .message .request) (length (t .message .bytes))
-  pub sent : Sent s t
+  pub outgoing : Sent s t
 
 abbrev pub further : Slot → Slot
 further t = record { message = t .message; first = t .first; index = suc (t .index) }
@@ -60,7 +60,7 @@ Walk s regions (t ∷ S) = Stands s regions t × Turn t (slot S 0) × Walk s reg
 -- from the number x on
 abbrev Numbered : ℕ → List Slot → Type 0
 Numbered x [] = Unit {0}
-Numbered x (t ∷ S) = (psnAfter (t .first) (t .index) .0 ≡ x % space) × Numbered (x + span t) S
+Numbered x (t ∷ S) = (psnAfter (t .first) (t .index) .0 ≡ x % space) × Numbered (x + psnCount t) S
 
 -- each SEND fits the entry
 abbrev Fits : Entry → List Slot → Type 0
@@ -91,7 +91,7 @@ module _ (s : Setup) (regions : List (List ℕ)) (m : Message) (first : Psn) (p 
   walk-slots i zero rest e o w = w
   walk-slots i (suc n) rest e o w =
       let f : suc (i + n) ≡ packetCount m = omega arith in
-      (record { allowed = p .allowed; sent = record { addressed = p .addressed; served = v; inside = omega arith; first = b } }, turn-slots i n rest f o, walk-slots (suc i) n rest (omega arith) o w)
+      (record { allowed = p .allowed; outgoing = record { addressed = p .addressed; served = v; inside = omega arith; first = b } }, turn-slots i n rest f o, walk-slots (suc i) n rest (omega arith) o w)
 
 stream-walk : (s : Setup) (regions : List (List ℕ)) (first : Psn) (ms : List Message) → first .0 < 2 ^ 24 → AllServed s ms
     → AllPermitted s regions ms
@@ -104,18 +104,18 @@ stream-walk s regions first (m ∷ ms) b v p =
     (stream-walk s regions next ms (omega arith) (v .1) (p .1))
 
 -- numbers
-numbered-slots : (m : Message) (first : Psn) (i n x : ℕ) (rest : List Slot) → spanOf (m .request) (m .connection .pmtu) ≡ 1
+numbered-slots : (m : Message) (first : Psn) (i n x : ℕ) (rest : List Slot) → psnCountOf (m .request) (m .connection .pmtu) ≡ 1
     → after (first .0) i ≡ x % space
     → Numbered (x + n) rest
     → Numbered x (slotsFrom m first i n ++ rest)
 unfolding slotsFrom
 numbered-slots m first i zero x rest q e h = let z : x + 0 ≡ x = omega arith in rw z at h
 numbered-slots m first i (suc n) x rest q e h =
-    let z : x + suc n ≡ x + spanOf (m .request) (m .connection .pmtu) + n = omega arith in
-    (e, numbered-slots m first (suc i) n (x + spanOf (m .request) (m .connection .pmtu)) rest q (omega arith) (rw z at h))
+    let z : x + suc n ≡ x + psnCountOf (m .request) (m .connection .pmtu) + n = omega arith in
+    (e, numbered-slots m first (suc i) n (x + psnCountOf (m .request) (m .connection .pmtu)) rest q (omega arith) (rw z at h))
 
 -- a message takes as many numbers as its packets span
-numbered-one : (m : Message) (first : Psn) (x n : ℕ) (rest : List Slot) → packetCount m ≡ 1 → spanOf (m .request) (m .connection .pmtu) ≡ n
+numbered-one : (m : Message) (first : Psn) (x n : ℕ) (rest : List Slot) → packetCount m ≡ 1 → psnCountOf (m .request) (m .connection .pmtu) ≡ n
     → after (first .0) 0 ≡ x % space → Numbered (x + n) rest → Numbered x (slotsFrom m first 0 (packetCount m) ++ rest)
 unfolding slotsFrom
 numbered-one m first x n rest c q e h =
@@ -170,11 +170,11 @@ turn-at s regions (t ∷ S) zero w h = w .1
 turn-at s regions (t ∷ S) (suc j) w h = turn-at s regions S j (w .2) (omega arith)
 
 number-at : (x : ℕ) (S : List Slot) (j : ℕ) → Numbered x S → j < length S
-    → psnAfter (slot S j .first) (slot S j .index) .0 ≡ after x (along S j)
-unfolding along
+    → psnAfter (slot S j .first) (slot S j .index) .0 ≡ after x (numberAlong S j)
+unfolding numberAlong
 number-at x [] j w h = absurd (omega arith)
 number-at x (t ∷ S) zero w h = w .0 ∙ omega arith
-number-at x (t ∷ S) (suc j) w h = number-at (x + span t) S j (w .1) (omega arith) ∙ omega arith
+number-at x (t ∷ S) (suc j) w h = number-at (x + psnCount t) S j (w .1) (omega arith) ∙ omega arith
 
 fits-at : (e : Entry) (S : List Slot) (j : ℕ) → Fits e S → j < length S
     → AtLeast (e .length) (slot S j .message .request) (length (slot S j .message .bytes))
@@ -183,28 +183,28 @@ fits-at e (t ∷ S) zero f h = f .0
 fits-at e (t ∷ S) (suc j) f h = fits-at e S j (f .1) (omega arith)
 
 -- along the stream
-pub along-suc : (S : List Slot) (j : ℕ) → j < length S → along S (suc j) ≡ along S j + span (slot S j)
-unfolding along
+pub along-suc : (S : List Slot) (j : ℕ) → j < length S → numberAlong S (suc j) ≡ numberAlong S j + psnCount (slot S j)
+unfolding numberAlong
 along-suc [] j h = absurd (omega arith)
 along-suc (t ∷ []) zero h = omega arith
 along-suc (t ∷ u ∷ S) zero h = omega arith
 along-suc (t ∷ S) (suc j) h = omega (arith, along-suc S j (omega arith))
 
-pub along-less : (S : List Slot) (j k : ℕ) → j < k → k ≤ length S → along S j + span (slot S j) ≤ along S k
-unfolding along
+pub along-less : (S : List Slot) (j k : ℕ) → j < k → k ≤ length S → numberAlong S j + psnCount (slot S j) ≤ numberAlong S k
+unfolding numberAlong
 along-less [] j k h l = absurd (omega arith)
 along-less (t ∷ S) zero zero h l = absurd (omega arith)
 along-less (t ∷ S) zero (suc k) h l = omega arith
 along-less (t ∷ S) (suc j) zero h l = absurd (omega arith)
 along-less (t ∷ S) (suc j) (suc k) h l = omega (arith, along-less S j k (omega arith) (omega arith))
 
-pub along-zero : (S : List Slot) → along S 0 ≡ 0
-unfolding along
+pub along-zero : (S : List Slot) → numberAlong S 0 ≡ 0
+unfolding numberAlong
 along-zero [] = refl
 along-zero (t ∷ S) = refl
 
 -- every packet takes a number
-span-some : (r : Request) (pmtu : ℕ) → 0 < pmtu → 1 ≤ spanOf r pmtu
+span-some : (r : Request) (pmtu : ℕ) → 0 < pmtu → 1 ≤ psnCountOf r pmtu
 span-some Send pmtu h = omega arith
 span-some (SendImmediate v) pmtu h = omega arith
 span-some (Write t) pmtu h = omega arith
@@ -217,9 +217,9 @@ pub record Good (s : Setup) (regions : List (List ℕ)) (ms : List Message) (S :
   pub opening : slot S 0 .index ≡ 0
   pub stands : (j : ℕ) → j < length S → Stands s regions (slot S j)
   pub turn : (j : ℕ) → j < length S → Turn (slot S j) (slot S (suc j))
-  pub number : (j : ℕ) → j < length S → psnAfter (slot S j .first) (slot S j .index) .0 ≡ after (s .start .0) (along S j)
+  pub number : (j : ℕ) → j < length S → psnAfter (slot S j .first) (slot S j .index) .0 ≡ after (s .start .0) (numberAlong S j)
   pub large : (e : Entry) → LongEnough ms e → (j : ℕ) → j < length S → AtLeast (e .length) (slot S j .message .request) (length (slot S j .message .bytes))
-  pub some : (j : ℕ) → j < length S → 1 ≤ span (slot S j)
+  pub some : (j : ℕ) → j < length S → 1 ≤ psnCount (slot S j)
 
 pub good : (s : Setup) (regions : List (List ℕ)) (ms : List Message) → SetupFit s → AllServed s ms → AllPermitted s regions ms
     → Good s regions ms (stream (s .start) ms)
@@ -233,7 +233,7 @@ good s regions ms f v p =
       number = λ j h. number-at (s .start .0) S j (numbered-stream (s .start) (s .start .0) ms (omega arith)) h;
       large = λ e l j h. fits-at e S j (fits-stream e (s .start) ms l) h;
       some = λ j h.
-          let q : slot S j .message .connection .pmtu ≡ s .pmtu = stands-at s regions S j w h .sent .addressed .pmtu in
+          let q : slot S j .message .connection .pmtu ≡ s .pmtu = stands-at s regions S j w h .outgoing .addressed .pmtu in
           let b : 256 ≤ s .pmtu = bounds (s .pmtu) (f .pmtu) .0 in
           span-some (slot S j .message .request) (slot S j .message .connection .pmtu) (omega arith);
     }

@@ -28,7 +28,7 @@ use Rattle.sequence.specs.declared.Psn.{Psn}
 use Rattle.request_spec.specs.Verdict.{outOfSequence, padEarly, entriesWaiting, noneWaiting, usesEntry, entryOutside, current}
 use Rattle.responder_spec.specs.Decide.{regionFor}
 use Rattle.delivery.specs.Stream.{packetCount, Slot}
-use Rattle.delivery.specs.Plain.{none, needing}
+use Rattle.delivery.specs.Plain.{none, needsEntry}
 use Rattle.delivery.proofs.Chain.{Stands}
 use Rattle.delivery.proofs.Places.{Sizes, starts-at, ends-at, size-fits, pad-late}
 use Rattle.delivery.proofs.Cutting.{netFor, placeFor, cutPacket, pmtu-is, sizes}
@@ -38,26 +38,26 @@ use Rattle.delivery.proofs.Verdicts.{Before, Behind}
 use Rattle.delivery.proofs.Fitting.{named-is, named-limit, enabled-is, and-false, needs-is, Room, key-good, Suits, net-total, lengths-good}
 
 -- a packet that needs an entry finds none held
-idle : (r : Request) (c : Connection) (d : List ℕ) (first : Psn) (i : ℕ) (under : OpenMessage) (held : List Entry)
-    → needing (record { message = record { connection = c; request = r; bytes = d }; first = first; index = i }) ≡ true
-    → Under (eqb i 0) (record { message = record { connection = c; request = r; bytes = d }; first = first; index = i }) under held
-    → (under .kind ≡ 0 → ⊥) × (held ≡ [])
-idle Send c d first i under held q u =
-    let v = subst (λ b. Under b (record { message = record { connection = c; request = Send; bytes = d }; first = first; index = i }) under held) q u in
+idle : (r : Request) (c : Connection) (d : List ℕ) (first : Psn) (i : ℕ) (opened : OpenMessage) (held : List Entry)
+    → needsEntry (record { message = record { connection = c; request = r; bytes = d }; first = first; index = i }) ≡ true
+    → Under (eqb i 0) (record { message = record { connection = c; request = r; bytes = d }; first = first; index = i }) opened held
+    → (opened .kind ≡ 0 → ⊥) × (held ≡ [])
+idle Send c d first i opened held q u =
+    let v = subst (λ b. Under b (record { message = record { connection = c; request = Send; bytes = d }; first = first; index = i }) opened held) q u in
     ((λ z. absurd (omega (arith, v .0))), v .1)
-idle (SendImmediate x) c d first i under held q u =
-    let v = subst (λ b. Under b (record { message = record { connection = c; request = SendImmediate x; bytes = d }; first = first; index = i }) under held) q u in
+idle (SendImmediate x) c d first i opened held q u =
+    let v = subst (λ b. Under b (record { message = record { connection = c; request = SendImmediate x; bytes = d }; first = first; index = i }) opened held) q u in
     ((λ z. absurd (omega (arith, v .0))), v .1)
-idle (Write y) c d first i under held q u = absurd (true≢false (sym q))
-idle (WriteImmediate y x) c d first i under held q u = go (eqb i 0) u
+idle (Write y) c d first i opened held q u = absurd (true≢false (sym q))
+idle (WriteImmediate y x) c d first i opened held q u = go (eqb i 0) u
   where
-    go : (b : Bool) → Under b (record { message = record { connection = c; request = WriteImmediate y x; bytes = d }; first = first; index = i }) under held
-        → (under .kind ≡ 0 → ⊥) × (held ≡ [])
+    go : (b : Bool) → Under b (record { message = record { connection = c; request = WriteImmediate y x; bytes = d }; first = first; index = i }) opened held
+        → (opened .kind ≡ 0 → ⊥) × (held ≡ [])
     go true v = ((λ z. absurd (omega (arith, v .0))), v .1)
     go false v = ((λ z. absurd (omega (arith, v .0 .kind))), v .1)
-idle (Read a) c d first i under held q u = absurd (true≢false (sym q))
-idle (CmpSwap a) c d first i under held q u = absurd (true≢false (sym q))
-idle (FetchAdd y x) c d first i under held q u = absurd (true≢false (sym q))
+idle (Read a) c d first i opened held q u = absurd (true≢false (sym q))
+idle (CmpSwap a) c d first i opened held q u = absurd (true≢false (sym q))
+idle (FetchAdd y x) c d first i opened held q u = absurd (true≢false (sym q))
 
 pub none-pad : padOf 0 ≡ 0
 unfolding padOf
@@ -72,14 +72,14 @@ none-is [] = refl
 none-is (e ∷ es) = ne-eqb (length (e ∷ es)) 0 (λ z. absurd (omega arith))
 
 -- the message of a packet: begun by the first, under way before all others
-module _ (s : Setup) (regions : List (List ℕ)) (f : SetupFit s) (t : Slot) (h : Stands s regions t) (under : OpenMessage) where
+module _ (s : Setup) (regions : List (List ℕ)) (f : SetupFit s) (t : Slot) (h : Stands s regions t) (opened : OpenMessage) where
   starts-is : starts (placeFor t) ≡ eqb (t .index) 0
-  starts-is = starts-at (packetCount (t .message)) (t .index) (h .sent .inside)
+  starts-is = starts-at (packetCount (t .message)) (t .index) (h .outgoing .inside)
 
   pub says : Said (t .message .request) (messageLength (t .message .request) (length (t .message .bytes))) (placeFor t) (cutPacket t .operands)
   says = said (t .message .request) (messageLength (t .message .request) (length (t .message .bytes))) (packetCount (t .message)) (t .index)
 
-  pub begun : eqb (t .index) 0 ≡ true → IsOf t (current under (cutPacket t))
+  pub begun : eqb (t .index) 0 ≡ true → IsOf t (current opened (cutPacket t))
   unfolding current
   begun z =
       let e = starts-is ∙ z in
@@ -87,91 +87,91 @@ module _ (s : Setup) (regions : List (List ℕ)) (f : SetupFit s) (t : Slot) (h 
       rw e
       (record {
         kind = refl;
-        placed = omega (arith, ap (λ k. k * t .message .connection .pmtu) (eqb-true (t .index) 0 z));
+        stored = omega (arith, ap (λ k. k * t .message .connection .pmtu) (eqb-true (t .index) 0 z));
         address = b .0;
         key = b .1;
         length = b .2 ∙ named-is (t .message .request) (length (t .message .bytes));
       })
 
-  going : eqb (t .index) 0 ≡ false → current under (cutPacket t) ≡ under
+  going : eqb (t .index) 0 ≡ false → current opened (cutPacket t) ≡ opened
   unfolding current
   going z = rw (starts-is ∙ z)
 
-module _ (s : Setup) (regions : List (List ℕ)) (f : SetupFit s) (t : Slot) (h : Stands s regions t) (under : OpenMessage) (held : List Entry)
-    (U : Under (eqb (t .index) 0) t under held) where
+module _ (s : Setup) (regions : List (List ℕ)) (f : SetupFit s) (t : Slot) (h : Stands s regions t) (opened : OpenMessage) (held : List Entry)
+    (U : Under (eqb (t .index) 0) t opened held) where
   pub ends-is : ends (placeFor t) ≡ eqb (suc (t .index)) (packetCount (t .message))
-  ends-is = ends-at (packetCount (t .message)) (t .index) (h .sent .inside)
+  ends-is = ends-at (packetCount (t .message)) (t .index) (h .outgoing .inside)
 
   -- the message that the packet is of
-  pub now : IsOf t (current under (cutPacket t))
+  pub now : IsOf t (current opened (cutPacket t))
   now = go (eqb (t .index) 0) refl U
     where
-      go : (b : Bool) → eqb (t .index) 0 ≡ b → Under b t under held → IsOf t (current under (cutPacket t))
-      go true z u = begun s regions f t h under z
-      go false z u = subst (IsOf t) (sym (going s regions f t h under z)) (u .0)
+      go : (b : Bool) → eqb (t .index) 0 ≡ b → Under b t opened held → IsOf t (current opened (cutPacket t))
+      go true z u = begun s regions f t h opened z
+      go false z u = subst (IsOf t) (sym (going s regions f t h opened z)) (u .0)
 
-  sequence-is : outOfSequence (under .kind) (kindNumber (t .message .request)) (placeFor t) ≡ false
+  sequence-is : outOfSequence (opened .kind) (kindNumber (t .message .request)) (placeFor t) ≡ false
   unfolding outOfSequence
-  sequence-is = rw (starts-is s regions f t h under) (go (eqb (t .index) 0) U)
+  sequence-is = rw (starts-is s regions f t h opened) (go (eqb (t .index) 0) U)
     where
-      go : (b : Bool) → Under b t under held
-          → cond b (not (eqb (under .kind) 255)) (not (eqb (under .kind) (kindNumber (t .message .request)))) ≡ false
-      go true u = ap not (eq-eqb (under .kind) 255 (u .0))
-      go false u = ap not (eq-eqb (under .kind) (kindNumber (t .message .request)) (u .0 .kind))
+      go : (b : Bool) → Under b t opened held
+          → cond b (not (eqb (opened .kind) 255)) (not (eqb (opened .kind) (kindNumber (t .message .request)))) ≡ false
+      go true u = ap not (eq-eqb (opened .kind) 255 (u .0))
+      go false u = ap not (eq-eqb (opened .kind) (kindNumber (t .message .request)) (u .0 .kind))
 
   -- a request that carries bytes, or none
   pad-is : (Carrier (t .message .request) ⊎ (Carrier (t .message .request) → ⊥)) → padEarly (placeFor t) (padOf (netFor t)) ≡ false
   unfolding padEarly padOf
   pad-is (inl c) =
-      pad-late (packetCount (t .message)) (t .index) (h .sent .inside) (netFor t) (t .message .connection .pmtu) (length (t .message .bytes)) (sizes s f t (h .sent) c)
-      (bounds (t .message .connection .pmtu) (pmtu-is s f t (h .sent)) .2)
+      pad-late (packetCount (t .message)) (t .index) (h .outgoing .inside) (netFor t) (t .message .connection .pmtu) (length (t .message .bytes)) (sizes s f t (h .outgoing) c)
+      (bounds (t .message .connection .pmtu) (pmtu-is s f t (h .outgoing)) .2)
   pad-is (inr c) =
       let z : padOf (netFor t) ≡ 0 = ap padOf (none-carried (t .message .connection) (t .message .request) (t .message .bytes) (t .index) c) in
       rw z (and-false (not (ends (placeFor t))))
 
-  pub before : Before s under (cutPacket t)
+  pub before : Before s opened (cutPacket t)
   before =
       record {
         sequence = sequence-is;
         enabled = enabled-is s regions (t .message .request) (length (t .message .bytes)) (h .allowed);
         pad = pad-is (decide (t .message .request));
-        limit = says s regions f t h under .limit (subst (λ n. n ≤ 1048576) (sym (named-is (t .message .request) (length (t .message .bytes)))) (named-limit (t .message .request) (length (t .message .bytes)) (h .sent .addressed .limit)));
+        limit = says s regions f t h opened .limit (subst (λ n. n ≤ 1048576) (sym (named-is (t .message .request) (length (t .message .bytes)))) (named-limit (t .message .request) (length (t .message .bytes)) (h .outgoing .addressed .limit)));
       }
 
   -- an entry is wanting exactly where the plain run says so
   pub waiting-is : (waiting : List Entry) (count : ℕ) → count ≡ length (held ++ waiting)
-      → noneWaiting (kindNumber (t .message .request)) (placeFor t) (cutPacket t .operands .immediate) (under .kind) count ≡ (needing t && none waiting)
+      → noneWaiting (kindNumber (t .message .request)) (placeFor t) (cutPacket t .operands .immediate) (opened .kind) count ≡ (needsEntry t && none waiting)
   unfolding noneWaiting
   waiting-is waiting count e =
-      rw (needs-is (t .message .request) (placeFor t) (t .index) (packetCount (t .message)) (cutPacket t .operands .immediate) (starts-is s regions f t h under) ends-is (says s regions f t h under .immediate))
-      (go (needing t) refl)
+      rw (needs-is (t .message .request) (placeFor t) (t .index) (packetCount (t .message)) (cutPacket t .operands .immediate) (starts-is s regions f t h opened) ends-is (says s regions f t h opened .immediate))
+      (go (needsEntry t) refl)
     where
-      go : (b : Bool) → needing t ≡ b → (b && eqb (entriesWaiting (under .kind) count) 0) ≡ (b && none waiting)
+      go : (b : Bool) → needsEntry t ≡ b → (b && eqb (entriesWaiting (opened .kind) count) 0) ≡ (b && none waiting)
       go false q = refl
       go true q =
-          let i = idle (t .message .request) (t .message .connection) (t .message .bytes) (t .first) (t .index) under held q U in
-          rw (count-waiting (under .kind) count (i .0)) (rw (e ∙ ap (λ x. length (x ++ waiting)) (i .1)) (none-is waiting))
+          let i = idle (t .message .request) (t .message .connection) (t .message .bytes) (t .first) (t .index) opened held q U in
+          rw (count-waiting (opened .kind) count (i .0)) (rw (e ∙ ap (λ x. length (x ++ waiting)) (i .1)) (none-is waiting))
 
   now-here : Is (kindNumber (t .message .request)) (t .index * s .pmtu) (addressOf (t .message .request)) (keyOf (t .message .request))
-      (namedOf (t .message .request) (length (t .message .bytes))) (current under (cutPacket t))
+      (namedOf (t .message .request) (length (t .message .bytes))) (current opened (cutPacket t))
   now-here =
       subst
-      (λ z. Is (kindNumber (t .message .request)) (t .index * z) (addressOf (t .message .request)) (keyOf (t .message .request)) (namedOf (t .message .request) (length (t .message .bytes))) (current under (cutPacket t)))
-      (h .sent .addressed .pmtu) now
+      (λ z. Is (kindNumber (t .message .request)) (t .index * z) (addressOf (t .message .request)) (keyOf (t .message .request)) (namedOf (t .message .request) (length (t .message .bytes))) (current opened (cutPacket t)))
+      (h .outgoing .addressed .pmtu) now
 
   sizes-here : Carrier (t .message .request) → Sizes (t .index) (packetCount (t .message)) (netFor t) (s .pmtu) (length (t .message .bytes))
   sizes-here c =
-      subst (λ z. Sizes (t .index) (packetCount (t .message)) (netFor t) z (length (t .message .bytes))) (h .sent .addressed .pmtu) (sizes s f t (h .sent) c)
+      subst (λ z. Sizes (t .index) (packetCount (t .message)) (netFor t) z (length (t .message .bytes))) (h .outgoing .addressed .pmtu) (sizes s f t (h .outgoing) c)
 
   room-is : Room (t .message .request) (t .index * s .pmtu) (length (t .message .bytes))
   room-is = go (t .message .request) refl
     where
       within : Carrier (t .message .request) → t .index * s .pmtu ≤ length (t .message .bytes)
-      within c = omega (arith, net-total (t .index) (packetCount (t .message)) (netFor t) (s .pmtu) (length (t .message .bytes)) (h .sent .inside) (sizes-here c))
+      within c = omega (arith, net-total (t .index) (packetCount (t .message)) (netFor t) (s .pmtu) (length (t .message .bytes)) (h .outgoing .inside) (sizes-here c))
 
       zeroth : packetCount (t .message) ≡ 1 → t .index * s .pmtu ≡ 0
       zeroth e =
-          let i : t .index ≡ 0 = omega (arith, h .sent .inside) in
+          let i : t .index ≡ 0 = omega (arith, h .outgoing .inside) in
           omega (arith, ap (λ k. k * s .pmtu) i)
 
       go : (x : Request) → t .message .request ≡ x → Room x (t .index * s .pmtu) (length (t .message .bytes))
@@ -186,16 +186,16 @@ module _ (s : Setup) (regions : List (List ℕ)) (f : SetupFit s) (t : Slot) (h 
   pub behind : (entry : List ℕ) → RegionsSound (s .memory) regions
       → (usesEntry (kindNumber (t .message .request)) (cutPacket t .operands .immediate) ≡ true → outside (getD entry 1 0) (getD entry 2 0) (s .memory) ≡ false)
       → Suits (t .message .request) (length (t .message .bytes)) (getD entry 2 0)
-      → Behind s under (cutPacket t) entry (regionFor (kindNumber (t .message .request)) (current under (cutPacket t) .key) regions)
+      → Behind s opened (cutPacket t) entry (regionFor (kindNumber (t .message .request)) (current opened (cutPacket t) .key) regions)
   unfolding entryOutside
   behind entry sound inside suits =
       record {
         entry-in = both (usesEntry (kindNumber (t .message .request)) (cutPacket t .operands .immediate)) (outside (getD entry 1 0) (getD entry 2 0) (s .memory)) inside;
-        key = key-good (t .message .request) s regions (length (t .message .bytes)) (t .index * s .pmtu) (current under (cutPacket t)) sound (h .allowed) now-here room-is;
+        key = key-good (t .message .request) s regions (length (t .message .bytes)) (t .index * s .pmtu) (current opened (cutPacket t)) sound (h .allowed) now-here room-is;
         lengths =
-            lengths-good (t .message .request) s regions (cutPacket t) (current under (cutPacket t)) (t .index) (packetCount (t .message)) (netFor t) (length (t .message .bytes)) (getD entry 2 0)
-            refl refl ends-is (h .sent .inside) (h .allowed) now-here
-            (λ c. (sizes-here c, size-fits (packetCount (t .message)) (t .index) (h .sent .inside) (netFor t) (s .pmtu) (length (t .message .bytes)) (sizes-here c)))
+            lengths-good (t .message .request) s regions (cutPacket t) (current opened (cutPacket t)) (t .index) (packetCount (t .message)) (netFor t) (length (t .message .bytes)) (getD entry 2 0)
+            refl refl ends-is (h .outgoing .inside) (h .allowed) now-here
+            (λ c. (sizes-here c, size-fits (packetCount (t .message)) (t .index) (h .outgoing .inside) (netFor t) (s .pmtu) (length (t .message .bytes)) (sizes-here c)))
             (λ c. let z = none-carried (t .message .connection) (t .message .request) (t .message .bytes) (t .index) c in (z, ap padOf z ∙ none-pad))
             suits;
       }

@@ -53,7 +53,7 @@ cutPacket t =
       pad = padOf (netFor t);
       psn = psnAfter (t .first) (t .index);
       start = headerLength (headerFor t);
-      raw = netFor t + padOf (netFor t);
+      padded = netFor t + padOf (netFor t);
       operands = operandsOf (extensionFor (t .message .request) (messageLength (t .message .request) (length (t .message .bytes))) (placeFor t));
     }
 
@@ -123,7 +123,7 @@ module _ (s : Setup) (f : SetupFit s) (t : Slot) (h : Sent s t) where
         pad = pad-is k;
         psn = psn-is k;
         start = headerLength (headerFor t);
-        raw = raw-is k;
+        padded = raw-is k;
         operands = operandsOf (extensionFor (t .message .request) (messageLength (t .message .request) (length (t .message .bytes))) (placeFor t));
       }
 

@@ -31,12 +31,12 @@ use Rattle.cut_spec.proofs.Fits.{none-carried}
 use Rattle.cut_spec.proofs.Shapes.{cut-one}
 use Rattle.request_spec.specs.Verdict.{carrying, notEnabled, overLimit, keyFails, current}
 use Rattle.responder_spec.specs.Kept.{Steady}
-use Rattle.responder_spec.specs.Decide.{ackSyndrome, quietly, acknowledging, reading, psnBefore, aheadDecision, againFails, readAgain, atomicAgain, isAtomic, duplicateDecision, headEntry, regionFor, expectedDecision, classed, rcDecision, packetDecision}
+use Rattle.responder_spec.specs.Decide.{ackSyndrome, noReply, acknowledging, beginRead, psnBefore, aheadDecision, duplicateReadFails, duplicateRead, duplicateAtomic, isAtomic, duplicateDecision, headEntry, regionFor, expectedDecision, decisionByClass, rcDecision, packetDecision}
 use Rattle.responder_spec.specs.Apply.{memoryBy, actsAtomic, savedBy, pairBy, readBy}
 use Rattle.responder_spec.specs.Apply as apply
 use Rattle.responder_spec.specs.declared.Decision.{Decision}
-use Rattle.delivery.specs.Stream.{Message, Slot, slot, span, along, packetAt}
-use Rattle.delivery.specs.Plain.{Plain, isRead, sending, reached, delivered}
+use Rattle.delivery.specs.Stream.{Message, Slot, slot, psnCount, numberAlong, packetAt}
+use Rattle.delivery.specs.Plain.{Plain, isRead, withResponses, executeNext, deliver}
 use Rattle.delivery.specs.Demand.{Run, Near}
 use Rattle.delivery.proofs.Chain.{Stands, Good, along-less}
 use Rattle.delivery.proofs.Cutting.{netFor, cutPacket}
@@ -64,9 +64,9 @@ module _ (ms : List Message) (S : List Slot) (p : Plain) (x : Run) (L : Link ms 
   fits = Y .pair .setup .0
 
   -- nothing is sent, an ACK or NAK is sent, a saved value is sent: no more than the mark changes
-  pub dropped : (b : List ℕ) → Link ms S p (stepBy x (quietly status.Dropped) b)
-  unfolding quietly statusNumber pairBy apply.after savedBy memoryBy actsAtomic
-  dropped b = eases L (x .whole .pair .mark) (x .whole .pair .read) (p .r) (L .reads)
+  pub dropped : (b : List ℕ) → Link ms S p (stepBy x (noReply status.Dropped) b)
+  unfolding noReply statusNumber pairBy apply.after savedBy memoryBy actsAtomic
+  dropped b = eases L (x .whole .pair .nakmark) (x .whole .pair .read) (p .r) (L .reads)
 
   nak : (b : List ℕ) → Link ms S p (stepBy x (acknowledging status.SequenceNak (x .whole .pair .expected) 96) b)
   unfolding acknowledging statusNumber pairBy apply.after savedBy memoryBy actsAtomic
@@ -74,33 +74,33 @@ module _ (ms : List Message) (S : List Slot) (p : Plain) (x : Run) (L : Link ms 
 
   acked : (psn : Psn) (n : ℕ) (b : List ℕ) → Link ms S p (stepBy x (acknowledging status.DuplicateAnswered psn n) b)
   unfolding acknowledging statusNumber pairBy apply.after savedBy memoryBy actsAtomic readBy
-  acked psn n b = eases L (x .whole .pair .mark) (x .whole .pair .read) (p .r) (L .reads)
+  acked psn n b = eases L (x .whole .pair .nakmark) (x .whole .pair .read) (p .r) (L .reads)
 
-  saved : (v : Saved) (psn : Psn) (b : List ℕ) → Link ms S p (stepBy x (atomicAgain v psn) b)
+  saved : (v : Saved) (psn : Psn) (b : List ℕ) → Link ms S p (stepBy x (duplicateAtomic v psn) b)
   unfolding statusNumber pairBy apply.after savedBy memoryBy actsAtomic readBy
-  saved (Value v) psn b = eases L (x .whole .pair .mark) (x .whole .pair .read) (p .r) (L .reads)
+  saved (Value v) psn b = eases L (x .whole .pair .nakmark) (x .whole .pair .read) (p .r) (L .reads)
   saved Nothing psn b = dropped b
 
   -- ahead: nothing, or the mark
-  early : (b : List ℕ) → Link ms S p (stepBy x (aheadDecision (x .whole .pair .mark) (x .whole .pair .expected)) b)
+  early : (b : List ℕ) → Link ms S p (stepBy x (aheadDecision (x .whole .pair .nakmark) (x .whole .pair .expected)) b)
   unfolding aheadDecision
-  early b = go (x .whole .pair .mark)
+  early b = go (x .whole .pair .nakmark)
     where
-      go : (k : Bool) → Link ms S p (stepBy x (cond k (quietly status.Dropped) (acknowledging status.SequenceNak (x .whole .pair .expected) 96)) b)
+      go : (k : Bool) → Link ms S p (stepBy x (cond k (noReply status.Dropped) (acknowledging status.SequenceNak (x .whole .pair .expected) 96)) b)
       go true = dropped b
       go false = nak b
 
   -- a READ's answer begins
   remaining-is : (at n r : ℕ) (psn : Psn) (len : ℕ) → 1 ≤ r → r ≡ n
-      → readBy (reading status.DuplicateAnswered noMessage at len 0 false r psn) (x .whole .pair .read) (x .whole .pair .msn) .remaining ≡ n
+      → readBy (beginRead status.DuplicateAnswered noMessage at len 0 false r psn) (x .whole .pair .read) (x .whole .pair .msn) .remaining ≡ n
   unfolding readBy
   remaining-is at n r psn len h e = rw (ne-eqb r 0 (λ z. absurd (omega arith))) e
 
   begins : (at n r : ℕ) (psn : Psn) (len : ℕ) (b : List ℕ) → 1 ≤ r → r ≡ n
-      → Link ms S (sending p n) (stepBy x (reading status.DuplicateAnswered noMessage at len 0 false r psn) b)
+      → Link ms S (withResponses p n) (stepBy x (beginRead status.DuplicateAnswered noMessage at len 0 false r psn) b)
   unfolding statusNumber pairBy apply.after savedBy memoryBy actsAtomic
   begins at n r psn len b h e =
-      eases L (x .whole .pair .mark) (readBy (reading status.DuplicateAnswered noMessage at len 0 false r psn) (x .whole .pair .read) (x .whole .pair .msn)) n (remaining-is at n r psn len h e)
+      eases L (x .whole .pair .nakmark) (readBy (beginRead status.DuplicateAnswered noMessage at len 0 false r psn) (x .whole .pair .read) (x .whole .pair .msn)) n (remaining-is at n r psn len h e)
 
   module _ (j : ℕ) (i : j < length S) where
     abbrev t : Slot
@@ -117,10 +117,10 @@ module _ (ms : List Message) (S : List Slot) (p : Plain) (x : Run) (L : Link ms 
 
     -- a READ that was executed before is answered again
     module _ (O : Single (t .message .request)) (R : Reads (t .message .request)) (a : Reth) (ea : t .message .request ≡ Read a)
-        (back : along S j + span t ≤ along S (p .k)) (near : along S (p .k) ≤ along S j + 8388607) where
+        (back : numberAlong S j + psnCount t ≤ numberAlong S (p .k)) (near : numberAlong S (p .k) ≤ numberAlong S j + 8388607) where
       zeroth : t .index ≡ 0
       zeroth =
-          omega (arith, cut-one (t .message .request) (length (t .message .bytes)) (t .message .connection .pmtu) (O .bare), H .sent .inside)
+          omega (arith, cut-one (t .message .request) (length (t .message .bytes)) (t .message .connection .pmtu) (O .bare), H .outgoing .inside)
 
       N : IsOf t M
       N = begun (x .whole .pair .setup) (x .whole .regions) fits t H (x .whole .pair .message) (eq-eqb (t .index) 0 zeroth)
@@ -137,35 +137,35 @@ module _ (ms : List Message) (S : List Slot) (p : Plain) (x : Run) (L : Link ms 
           (key-good (t .message .request) (x .whole .pair .setup) (x .whole .regions) (length (t .message .bytes)) (t .index * t .message .connection .pmtu) M (Y .regions) (H .allowed) N
           (subst (λ r. Room r (t .index * t .message .connection .pmtu) (length (t .message .bytes))) (sym ea) (omega (arith, ap (λ k. k * t .message .connection .pmtu) zeroth))))
 
-      count-is : pieces (M .length) (x .whole .pair .setup .pmtu) ≡ span t
-      count-is = (λ k. pieces (N .length k) (sym (H .sent .addressed .pmtu) k)) ∙ sym (R .span (length (t .message .bytes)) (t .message .connection .pmtu))
+      count-is : pieces (M .length) (x .whole .pair .setup .pmtu) ≡ psnCount t
+      count-is = (λ k. pieces (N .length k) (sym (H .outgoing .addressed .pmtu) k)) ∙ sym (R .psnCount (length (t .message .bytes)) (t .message .connection .pmtu))
 
-      far : distance (x .whole .pair .expected .0) (cutPacket t .psn .0) ≡ along S (p .k) - along S j
+      far : distance (x .whole .pair .expected .0) (cutPacket t .psn .0) ≡ numberAlong S (p .k) - numberAlong S j
       far =
           (λ k. distance ((ap (λ e. e .0) (L .expected) ∙ L .number) k) (G .number j i k))
-          ∙ distance-is (x .whole .pair .setup .start .0) (along S (p .k)) (along S j) (omega (arith, back)) near
+          ∙ distance-is (x .whole .pair .setup .start .0) (numberAlong S (p .k)) (numberAlong S j) (omega (arith, back)) near
 
-      again-passes : againFails (cutPacket t) (x .whole .pair .setup) M (x .whole .pair .expected) region ≡ false
-      unfolding againFails
+      again-passes : duplicateReadFails (cutPacket t) (x .whole .pair .setup) M (x .whole .pair .expected) region ≡ false
+      unfolding duplicateReadFails
       again-passes =
           let en : notEnabled (x .whole .pair .setup) 12 ≡ false =
           subst (λ k. notEnabled (x .whole .pair .setup) k ≡ false) (R .kind) (enabled-is (x .whole .pair .setup) (x .whole .regions) (t .message .request) (length (t .message .bytes)) (H .allowed)) in
           let lim : overLimit (M .length) ≡ false =
-          over-no (M .length) (subst (λ k. k ≤ 1048576) (sym (N .length)) (named-limit (t .message .request) (length (t .message .bytes)) (H .sent .addressed .limit))) in
+          over-no (M .length) (subst (λ k. k ≤ 1048576) (sym (N .length)) (named-limit (t .message .request) (length (t .message .bytes)) (H .outgoing .addressed .limit))) in
           let w : eqb (netFor t + padOf (netFor t)) 0 ≡ true = eq-eqb (netFor t + padOf (netFor t)) 0 raw-none in
           let z : eqb (padOf (netFor t)) 0 ≡ true = eq-eqb (padOf (netFor t)) 0 (omega (arith, raw-none)) in
           let all : ltb (distance (x .whole .pair .expected .0) (cutPacket t .psn .0)) (pieces (M .length) (x .whole .pair .setup .pmtu)) ≡ false =
           le-ltb (distance (x .whole .pair .expected .0) (cutPacket t .psn .0)) (pieces (M .length) (x .whole .pair .setup .pmtu)) (omega (arith, far, count-is, back)) in
           λ k. en k || (lim k || (not (w k) || (not (z k) || (key-holds k || all k))))
 
-      again : (b : List ℕ) → Link ms S (sending p (span t)) (stepBy x (readAgain (cutPacket t) (x .whole .pair .setup) M (x .whole .pair .expected) region) b)
-      unfolding readAgain
-      again b = rw again-passes (begins _ (span t) _ _ _ b (subst (λ k. 1 ≤ k) (sym count-is) (G .some j i)) count-is)
+      again : (b : List ℕ) → Link ms S (withResponses p (psnCount t)) (stepBy x (duplicateRead (cutPacket t) (x .whole .pair .setup) M (x .whole .pair .expected) region) b)
+      unfolding duplicateRead
+      again b = rw again-passes (begins _ (psnCount t) _ _ _ b (subst (λ k. 1 ≤ k) (sym count-is) (G .some j i)) count-is)
 
     -- a packet that was executed before: an ACK, a READ's answer, a saved value
     abbrev Late : Saved → List ℕ → Type 0
     Late v b =
-        Link ms S (cond (isRead (t .message .request)) (sending p (span t)) p)
+        Link ms S (cond (isRead (t .message .request)) (withResponses p (psnCount t)) p)
         (stepBy x (duplicateDecision (cutPacket t) (x .whole .pair .setup) (x .whole .pair .expected) M region v) b)
 
     late-carried : (v : Saved) (b : List ℕ) → carrying (kindNumber (t .message .request)) ≡ true → isRead (t .message .request) ≡ false → Late v b
@@ -178,18 +178,18 @@ module _ (ms : List Message) (S : List Slot) (p : Plain) (x : Run) (L : Link ms 
     late-atomic v b c k a r = rw (c, k, a, r) (saved v (cutPacket t .psn) b)
 
     late-read : (v : Saved) (b : List ℕ) (a : Reth) → t .message .request ≡ Read a
-        → along S j + span t ≤ along S (p .k)
-        → along S (p .k) ≤ along S j + 8388607
+        → numberAlong S j + psnCount t ≤ numberAlong S (p .k)
+        → numberAlong S (p .k) ≤ numberAlong S j + 8388607
         → Late v b
     unfolding duplicateDecision carrying
     late-read v b a e back near =
         let k : kindNumber (t .message .request) ≡ 12 = ap kindNumber e in
         let r : isRead (t .message .request) ≡ true = ap isRead e in
-        subst (λ z. Link ms S (cond z (sending p (span t)) p) (stepBy x (duplicateDecision (cutPacket t) (x .whole .pair .setup) (x .whole .pair .expected) M region v) b)) (sym r)
+        subst (λ z. Link ms S (cond z (withResponses p (psnCount t)) p) (stepBy x (duplicateDecision (cutPacket t) (x .whole .pair .setup) (x .whole .pair .expected) M region v) b)) (sym r)
         (rw (ap (λ z. ltb z 12) k, ap (λ z. eqb z 12) k)
         (again (subst Single (sym e) (read-single a)) (subst Reads (sym e) (reads-reads a)) a e back near b))
 
-    late : along S j + span t ≤ along S (p .k) → along S (p .k) ≤ along S j + 8388607 → (v : Saved) (b : List ℕ) → Late v b
+    late : numberAlong S j + psnCount t ≤ numberAlong S (p .k) → numberAlong S (p .k) ≤ numberAlong S j + 8388607 → (v : Saved) (b : List ℕ) → Late v b
     unfolding carrying isAtomic
     late back near v b = go (t .message .request) refl
       where
@@ -206,43 +206,43 @@ module _ (ms : List Message) (S : List Slot) (p : Plain) (x : Run) (L : Link ms 
     decides = packetDecision (x .whole .pair) (x .whole .regions) (x .whole .entries) (x .whole .saved) (cutPacket t)
 
     -- by the class of its number
-    class-is : Near (along S j) (along S (p .k)) → psnClass (cutPacket t .psn .0) (x .whole .pair .expected .0) ≡ order (along S j) (along S (p .k))
+    class-is : Near (numberAlong S j) (numberAlong S (p .k)) → psnClass (cutPacket t .psn .0) (x .whole .pair .expected .0) ≡ order (numberAlong S j) (numberAlong S (p .k))
     class-is D =
         (λ k. psnClass (G .number j i k) ((ap (λ e. e .0) (L .expected) ∙ L .number) k))
-        ∙ class-is-order (x .whole .pair .setup .start .0) (along S j) (along S (p .k)) (omega (arith, D .ahead)) (omega (arith, D .behind))
+        ∙ class-is-order (x .whole .pair .setup .start .0) (numberAlong S j) (numberAlong S (p .k)) (omega (arith, D .ahead)) (omega (arith, D .behind))
 
     abbrev v : Saved
     v = newestSaved (cutPacket t .psn .0) (x .whole .saved) (x .whole .pair .saved)
 
     abbrev by : Class → Decision
-    by c = classed c (x .whole .pair) (cutPacket t) (headEntry (x .whole .pair) (x .whole .entries)) region v
+    by c = decisionByClass c (x .whole .pair) (cutPacket t) (headEntry (x .whole .pair) (x .whole .entries)) region v
 
     -- the pair is a reliable one
     reliably : x .whole .pair .setup .service ≡ 0 → decides ≡ by (psnClass (cutPacket t .psn .0) (x .whole .pair .expected .0))
     unfolding packetDecision rcDecision
     reliably R = rw (ne-eqb (x .whole .pair .setup .service) 1 (λ z. absurd (omega (arith, R))))
 
-    pub arrives : x .whole .pair .setup .service ≡ 0 → length (p .memory) ≡ x .whole .pair .setup .memory → Near (along S j) (along S (p .k))
-        → Link ms S (delivered (x .whole .regions) S p j) (stepBy x decides (packetAt t))
+    pub arrives : x .whole .pair .setup .service ≡ 0 → length (p .memory) ≡ x .whole .pair .setup .memory → Near (numberAlong S j) (numberAlong S (p .k))
+        → Link ms S (deliver (x .whole .regions) S p j) (stepBy x decides (packetAt t))
     unfolding order
-    arrives R ml D = subst (λ d. Link ms S (delivered (x .whole .regions) S p j) (stepBy x d (packetAt t))) (sym (reliably R ∙ ap by (class-is D))) (go (eqb j (p .k)) (ltb j (p .k)) refl refl)
+    arrives R ml D = subst (λ d. Link ms S (deliver (x .whole .regions) S p j) (stepBy x d (packetAt t))) (sym (reliably R ∙ ap by (class-is D))) (go (eqb j (p .k)) (ltb j (p .k)) refl refl)
       where
         go : (a b : Bool) → eqb j (p .k) ≡ a → ltb j (p .k) ≡ b
-            → Link ms S (cond a (reached (x .whole .regions) p t) (cond (b && isRead (t .message .request)) (sending p (span t)) p)) (stepBy x (by (order (along S j) (along S (p .k)))) (packetAt t))
+            → Link ms S (cond a (executeNext (x .whole .regions) p t) (cond (b && isRead (t .message .request)) (withResponses p (psnCount t)) p)) (stepBy x (by (order (numberAlong S j) (numberAlong S (p .k)))) (packetAt t))
         go true b e f =
             let q : j ≡ p .k = eqb-true j (p .k) e in
-            rw (eq-eqb (along S j) (along S (p .k)) (ap (along S) q))
+            rw (eq-eqb (numberAlong S j) (numberAlong S (p .k)) (ap (numberAlong S) q))
             (subst
-            (λ n. Link ms S (reached (x .whole .regions) p (slot S n)) (stepBy x (expectedDecision (cutPacket (slot S n)) (x .whole .pair .setup) (x .whole .pair .message) (x .whole .pair .entries .count) (headEntry (x .whole .pair) (x .whole .entries)) (regionFor (kindNumber (slot S n .message .request)) (current (x .whole .pair .message) (cutPacket (slot S n)) .key) (x .whole .regions))) (packetAt (slot S n))))
+            (λ n. Link ms S (executeNext (x .whole .regions) p (slot S n)) (stepBy x (expectedDecision (cutPacket (slot S n)) (x .whole .pair .setup) (x .whole .pair .message) (x .whole .pair .entries .count) (headEntry (x .whole .pair) (x .whole .entries)) (regionFor (kindNumber (slot S n .message .request)) (current (x .whole .pair .message) (cutPacket (slot S n)) .key) (x .whole .regions))) (packetAt (slot S n))))
             (sym q) (here ms S p x L Y G (omega arith) ml))
         go false true e f =
             let l = along-less S j (p .k) (ltb-true j (p .k) f) (L .within) in
             let s = G .some j i in
-            rw (ne-eqb (along S j) (along S (p .k)) (λ z. absurd (omega arith)), le-ltb (along S (p .k)) (along S j) (omega arith))
+            rw (ne-eqb (numberAlong S j) (numberAlong S (p .k)) (λ z. absurd (omega arith)), le-ltb (numberAlong S (p .k)) (numberAlong S j) (omega arith))
             (late l (D .behind) v (packetAt t))
         go false false e f =
             let h : p .k < j = omega (arith, tests, eqb-false j (p .k) e) in
             let l = along-less S (p .k) j h (omega (arith, i)) in
             let s = G .some (p .k) (omega arith) in
-            rw (ne-eqb (along S j) (along S (p .k)) (λ z. absurd (omega arith)), lt-ltb (along S (p .k)) (along S j) (omega arith))
+            rw (ne-eqb (numberAlong S j) (numberAlong S (p .k)) (λ z. absurd (omega arith)), lt-ltb (numberAlong S (p .k)) (numberAlong S j) (omega arith))
             (early (packetAt t))

@@ -18,8 +18,8 @@ use Rattle.responder_spec.specs.Apply.{pairBy, executedPair, memoryBy, msnBy, r
 use Rattle.responder_spec.specs.Apply as apply
 use Rattle.responder_spec.specs.Calls.{reports}
 use Rattle.responder_spec.specs.declared.Decision.{Decision}
-use Rattle.delivery.specs.Stream.{Message, packetCount, Slot, slot, span, along}
-use Rattle.delivery.specs.Plain.{Plain, takes, completionFor, landed, isRead, heldNow, waitingNow, isLast, needing, perform}
+use Rattle.delivery.specs.Stream.{Message, packetCount, Slot, slot, psnCount, numberAlong}
+use Rattle.delivery.specs.Plain.{Plain, takesEntry, completionFor, memoryAfter, isRead, heldNow, waitingNow, isLast, needsEntry, executeWith}
 use Rattle.delivery.specs.Demand.{Run, AllLongEnough, entryOf}
 use Rattle.delivery.proofs.Chain.{Turn, further, along-suc}
 use Rattle.delivery.proofs.Rel.{IsOf, Holding, Under, Link, stepBy}
@@ -53,31 +53,31 @@ module _ (ms : List Message) (S : List Slot) (p : Plain) (x : Run) (d : Decision
   -- what the decision d has to do, the packet's bytes being b and its entry e
   pub record Does (e : Entry) : Type 0 where
     pub status : statusNumber (d .status) ≤ 3
-    pub numbers : d .numbers ≡ span (slot S (p .k))
+    pub psns : d .psns ≡ psnCount (slot S (p .k))
     pub ends : d .ends ≡ isLast (slot S (p .k))
-    pub reads : readBy d (x .whole .pair .read) (msnBy (d .ends) (x .whole .pair .msn)) .remaining ≡ cond (isRead (slot S (p .k) .message .request)) (span (slot S (p .k))) (p .r)
-    pub memory : memoryBy d (x .memory) b ≡ landed (slot S (p .k) .message .request) (x .whole .regions) (slot S (p .k) .message .connection .pmtu) (slot S (p .k) .message .bytes) (slot S (p .k) .index) e (p .memory)
-    pub completion : reports (d .completion) ≡ cond (isLast (slot S (p .k)) && takes (slot S (p .k) .message .request)) (completionFor (slot S (p .k) .message .request) e (length (slot S (p .k) .message .bytes)) ∷ []) []
+    pub reads : readBy d (x .whole .pair .read) (msnBy (d .ends) (x .whole .pair .msn)) .remaining ≡ cond (isRead (slot S (p .k) .message .request)) (psnCount (slot S (p .k))) (p .r)
+    pub memory : memoryBy d (x .memory) b ≡ memoryAfter (slot S (p .k) .message .request) (x .whole .regions) (slot S (p .k) .message .connection .pmtu) (slot S (p .k) .message .bytes) (slot S (p .k) .index) e (p .memory)
+    pub completion : reports (d .completion) ≡ cond (isLast (slot S (p .k)) && takesEntry (slot S (p .k) .message .request)) (completionFor (slot S (p .k) .message .request) e (length (slot S (p .k) .message .bytes)) ∷ []) []
     pub entries : map entryOf (inRing (x .whole .entries) (entriesBy (d .completion .some) (x .whole .pair .entries))) ≡ cond (isLast (slot S (p .k))) [] (heldNow p (slot S (p .k))) ++ waitingNow p (slot S (p .k))
-    pub under : Under (eqb (slot S (suc (p .k)) .index) 0) (slot S (suc (p .k))) (d .message) (cond (isLast (slot S (p .k))) [] (heldNow p (slot S (p .k))))
+    pub opened : Under (eqb (slot S (suc (p .k)) .index) 0) (slot S (suc (p .k))) (d .message) (cond (isLast (slot S (p .k))) [] (heldNow p (slot S (p .k))))
 
   module _ (L : Link ms S p x) (lt : p .k < length S) (e : Entry) (D : Does e) where
-    number-next : psnAfter (p .expected) (span (slot S (p .k))) .0 ≡ after (x .whole .pair .setup .start .0) (along S (suc (p .k)))
+    number-next : psnAfter (p .expected) (psnCount (slot S (p .k))) .0 ≡ after (x .whole .pair .setup .start .0) (numberAlong S (suc (p .k)))
     number-next = omega (arith, L .number, along-suc S (p .k) lt)
 
     waiting-long : (n : Bool) → AllLongEnough ms (cond n (drop 1 (p .waiting)) (p .waiting))
     waiting-long true = drop-long ms (p .waiting) (L .long)
     waiting-long false = L .long
 
-    pub executes : Link ms S (perform (x .whole .regions) p (slot S (p .k)) e) (stepBy x d b)
-    unfolding perform executedPair msnBy
+    pub executes : Link ms S (executeWith (x .whole .regions) p (slot S (p .k)) e) (stepBy x d b)
+    unfolding executeWith executedPair msnBy
     executes =
         subst
-        (λ q. Link ms S (perform (x .whole .regions) p (slot S (p .k)) e) (record { whole = record { pair = q; regions = x .whole .regions; entries = x .whole .entries; saved = stepBy x d b .whole .saved }; memory = stepBy x d b .memory; completions = stepBy x d b .completions }))
+        (λ q. Link ms S (executeWith (x .whole .regions) p (slot S (p .k)) e) (record { whole = record { pair = q; regions = x .whole .regions; entries = x .whole .entries; saved = stepBy x d b .whole .saved }; memory = stepBy x d b .memory; completions = stepBy x d b .completions }))
         (sym (executed-by (x .whole .pair) d (D .status)))
         (record {
           ready = L .ready;
-          expected = λ i. psnAfter (L .expected i) (D .numbers i);
+          expected = λ i. psnAfter (L .expected i) (D .psns i);
           msn = λ i. cond (D .ends i) (msnNext (L .msn i)) (L .msn i);
           entries = D .entries;
           reads = D .reads;
@@ -85,6 +85,6 @@ module _ (ms : List Message) (S : List Slot) (p : Plain) (x : Run) (d : Decision
           completions = λ i. L .completions i ++ D .completion i;
           within = lt;
           number = number-next;
-          long = waiting-long (needing (slot S (p .k)));
-          under = D .under;
+          long = waiting-long (needsEntry (slot S (p .k)));
+          opened = D .opened;
         })

@@ -20,7 +20,7 @@ use Rattle.cut_spec.specs.Claims.{Carrier, InLimit, kindNumber}
 use Rattle.cut_spec.specs.declared.Request.{Request}
 use Rattle.cut_spec.specs.declared.Request.the-variants.{Send, SendImmediate, Write, WriteImmediate, Read, CmpSwap, FetchAdd}
 use Rattle.request_spec.specs.declared.Packet.{Packet}
-use Rattle.request_spec.specs.Verdict.{carrying, notEnabled, needsEntry, keyFails, keyLacking, rightOf, sizeOff, totalOff, bareOff, netOf, lengthsOff}
+use Rattle.request_spec.specs.Verdict.{carrying, notEnabled, needsEntry, keyFails, keyLacking, rightOf, sizeOff, totalOff, bareOff, payloadSize, lengthsOff}
 use Rattle.responder_spec.specs.Decide.{regionFor}
 use Rattle.delivery.specs.Plain.{needs}
 use Rattle.delivery.specs.Demand.{Allowed}
@@ -109,33 +109,33 @@ unfolding keyFails keyLacking regionFor
 key-good Send s regions n off m z a e l = refl
 key-good (SendImmediate v) s regions n off m z a e l = refl
 key-good (Write t) s regions n off m z a e l =
-    rw (e .key) (key-passes (s .memory) 6 (t .key) (t .address) n off regions (λ r. r .write) m z write-right (e .address) (e .placed) (e .length) l (a .1))
+    rw (e .key) (key-passes (s .memory) 6 (t .key) (t .address) n off regions (λ r. r .write) m z write-right (e .address) (e .stored) (e .length) l (a .1))
 key-good (WriteImmediate t v) s regions n off m z a e l =
-    rw (e .key) (key-passes (s .memory) 6 (t .key) (t .address) n off regions (λ r. r .write) m z write-right (e .address) (e .placed) (e .length) l (a .1))
+    rw (e .key) (key-passes (s .memory) 6 (t .key) (t .address) n off regions (λ r. r .write) m z write-right (e .address) (e .stored) (e .length) l (a .1))
 key-good (Read b) s regions n off m z a e l =
-    rw (e .key) (key-passes (s .memory) 12 (b .key) (b .address) (b .length) off regions (λ r. r .read) m z read-right (e .address) (e .placed) (e .length) (omega arith) (a .1))
+    rw (e .key) (key-passes (s .memory) 12 (b .key) (b .address) (b .length) off regions (λ r. r .read) m z read-right (e .address) (e .stored) (e .length) (omega arith) (a .1))
 key-good (CmpSwap b) s regions n off m z a e l =
-    rw (e .key) (key-passes (s .memory) 19 (b .key) (b .address) 8 off regions (λ r. r .atomic) m z swap-right (e .address) (e .placed) (e .length) (omega arith) (a .1))
+    rw (e .key) (key-passes (s .memory) 19 (b .key) (b .address) 8 off regions (λ r. r .atomic) m z swap-right (e .address) (e .stored) (e .length) (omega arith) (a .1))
 key-good (FetchAdd t v) s regions n off m z a e l =
-    rw (e .key) (key-passes (s .memory) 20 (t .key) (t .address) 8 off regions (λ r. r .atomic) m z add-right (e .address) (e .placed) (e .length) (omega arith) (a .1))
+    rw (e .key) (key-passes (s .memory) 20 (t .key) (t .address) 8 off regions (λ r. r .atomic) m z add-right (e .address) (e .stored) (e .length) (omega arith) (a .1))
 
 -- lengths, of a packet that carries bytes and of one that does not
-pub lengths-carry : (p : Packet) (pmtu : ℕ) (m : OpenMessage) (most net : ℕ) → p .raw ≡ net + p .pad → carrying (p .kind) ≡ true
-    → sizeOff (p .place) pmtu net ≡ false
-    → totalOff (p .kind) (p .place) (m .placed) net (m .length) most ≡ false
+pub lengths-carry : (p : Packet) (pmtu : ℕ) (m : OpenMessage) (most size : ℕ) → p .padded ≡ size + p .pad → carrying (p .kind) ≡ true
+    → sizeOff (p .place) pmtu size ≡ false
+    → totalOff (p .kind) (p .place) (m .stored) size (m .length) most ≡ false
     → lengthsOff p pmtu m most ≡ false
-unfolding lengthsOff netOf
-lengths-carry p pmtu m most net e c a b =
-    let z : p .raw - p .pad ≡ net = omega arith in
-    let w : ltb (p .raw) (p .pad) ≡ false = le-ltb (p .raw) (p .pad) (omega arith) in
+unfolding lengthsOff payloadSize
+lengths-carry p pmtu m most size e c a b =
+    let z : p .padded - p .pad ≡ size = omega arith in
+    let w : ltb (p .padded) (p .pad) ≡ false = le-ltb (p .padded) (p .pad) (omega arith) in
     rw (w, c, z, a, b)
 
-pub lengths-bare : (p : Packet) (pmtu : ℕ) (m : OpenMessage) (most : ℕ) → p .raw ≡ 0 → p .pad ≡ 0 → carrying (p .kind) ≡ false
-    → bareOff (p .kind) (p .raw) (m .address) ≡ false
+pub lengths-bare : (p : Packet) (pmtu : ℕ) (m : OpenMessage) (most : ℕ) → p .padded ≡ 0 → p .pad ≡ 0 → carrying (p .kind) ≡ false
+    → bareOff (p .kind) (p .padded) (m .address) ≡ false
     → lengthsOff p pmtu m most ≡ false
 unfolding lengthsOff
 lengths-bare p pmtu m most e z c a =
-    let w : ltb (p .raw) (p .pad) ≡ false = le-ltb (p .raw) (p .pad) (omega arith) in
+    let w : ltb (p .padded) (p .pad) ≡ false = le-ltb (p .padded) (p .pad) (omega arith) in
     rw (w, c, a)
 
 -- the entry takes a SEND
@@ -149,74 +149,74 @@ Suits (CmpSwap a) n most = Unit {0}
 Suits (FetchAdd t v) n most = Unit {0}
 
 -- the packets of a message end it, and do not go past its end
-pub net-total : (i count net pmtu n : ℕ) → i < count → Sizes i count net pmtu n → i * pmtu + net ≤ n
-net-total i count net pmtu n h z = go (eqb (suc i) count) refl
+pub net-total : (i count size pmtu n : ℕ) → i < count → Sizes i count size pmtu n → i * pmtu + size ≤ n
+net-total i count size pmtu n h z = go (eqb (suc i) count) refl
   where
-    go : (b : Bool) → eqb (suc i) count ≡ b → i * pmtu + net ≤ n
+    go : (b : Bool) → eqb (suc i) count ≡ b → i * pmtu + size ≤ n
     go true e = omega (arith, z .last (eqb-true (suc i) count e) .2)
     go false e = let w = z .more (omega (arith, tests)) in omega (arith, w .0, w .1)
 
-pub send-total : (place placed net n most len i pmtu : ℕ) → placed ≡ i * pmtu → i * pmtu + net ≤ n → n ≤ most
-    → totalOff 0 place placed net len most ≡ false
+pub send-total : (place stored size n most len i pmtu : ℕ) → stored ≡ i * pmtu → i * pmtu + size ≤ n → n ≤ most
+    → totalOff 0 place stored size len most ≡ false
 unfolding totalOff
-send-total place placed net n most len i pmtu e l g = le-ltb most (placed + net) (omega arith)
+send-total place stored size n most len i pmtu e l g = le-ltb most (stored + size) (omega arith)
 
-pub write-total : (place placed net n most len i pmtu count : ℕ) → placed ≡ i * pmtu → len ≡ n → i < count → Sizes i count net pmtu n
+pub write-total : (place stored size n most len i pmtu count : ℕ) → stored ≡ i * pmtu → len ≡ n → i < count → Sizes i count size pmtu n
     → ends place ≡ eqb (suc i) count
-    → totalOff 6 place placed net len most ≡ false
+    → totalOff 6 place stored size len most ≡ false
 unfolding totalOff
-write-total place placed net n most len i pmtu count e l h z q = rw q (go (eqb (suc i) count) refl)
+write-total place stored size n most len i pmtu count e l h z q = rw q (go (eqb (suc i) count) refl)
   where
-    go : (b : Bool) → eqb (suc i) count ≡ b → cond b (not (eqb (placed + net) len)) (not (ltb (placed + net) len)) ≡ false
-    go true f = ap not (eq-eqb (placed + net) len (omega (arith, z .last (eqb-true (suc i) count f) .2)))
-    go false f = let w = z .more (omega (arith, tests)) in ap not (lt-ltb (placed + net) len (omega (arith, w .0, w .1)))
+    go : (b : Bool) → eqb (suc i) count ≡ b → cond b (not (eqb (stored + size) len)) (not (ltb (stored + size) len)) ≡ false
+    go true f = ap not (eq-eqb (stored + size) len (omega (arith, z .last (eqb-true (suc i) count f) .2)))
+    go false f = let w = z .more (omega (arith, tests)) in ap not (lt-ltb (stored + size) len (omega (arith, w .0, w .1)))
 
-pub read-bare : (raw address : ℕ) → raw ≡ 0 → bareOff 12 raw address ≡ false
+pub read-bare : (padded address : ℕ) → padded ≡ 0 → bareOff 12 padded address ≡ false
 unfolding bareOff
-read-bare raw address e = rw (eq-eqb raw 0 e)
+read-bare padded address e = rw (eq-eqb padded 0 e)
 
-pub swap-bare : (raw address : ℕ) → raw ≡ 0 → address % 8 ≡ 0 → bareOff 19 raw address ≡ false
+pub swap-bare : (padded address : ℕ) → padded ≡ 0 → address % 8 ≡ 0 → bareOff 19 padded address ≡ false
 unfolding bareOff
-swap-bare raw address e a = rw (eq-eqb raw 0 e, eq-eqb (address % 8) 0 a)
+swap-bare padded address e a = rw (eq-eqb padded 0 e, eq-eqb (address % 8) 0 a)
 
-pub add-bare : (raw address : ℕ) → raw ≡ 0 → address % 8 ≡ 0 → bareOff 20 raw address ≡ false
+pub add-bare : (padded address : ℕ) → padded ≡ 0 → address % 8 ≡ 0 → bareOff 20 padded address ≡ false
 unfolding bareOff
-add-bare raw address e a = rw (eq-eqb raw 0 e, eq-eqb (address % 8) 0 a)
+add-bare padded address e a = rw (eq-eqb padded 0 e, eq-eqb (address % 8) 0 a)
 
 -- by the kind: a packet p of index i of count, which carries net bytes
-pub lengths-good : (r : Request) (s : Setup) (regions : List (List ℕ)) (p : Packet) (m : OpenMessage) (i count net n most : ℕ)
+pub lengths-good : (r : Request) (s : Setup) (regions : List (List ℕ)) (p : Packet) (m : OpenMessage) (i count size n most : ℕ)
     → p .kind ≡ kindNumber r
-    → p .raw ≡ net + p .pad
+    → p .padded ≡ size + p .pad
     → ends (p .place) ≡ eqb (suc i) count
     → i < count
     → Allowed s regions r n
     → Is (kindNumber r) (i * s .pmtu) (addressOf r) (keyOf r) (namedOf r n) m
-    → (Carrier r → Sizes i count net (s .pmtu) n × (sizeOff (p .place) (s .pmtu) net ≡ false))
-    → ((Carrier r → ⊥) → (net ≡ 0) × (p .pad ≡ 0))
+    → (Carrier r → Sizes i count size (s .pmtu) n × (sizeOff (p .place) (s .pmtu) size ≡ false))
+    → ((Carrier r → ⊥) → (size ≡ 0) × (p .pad ≡ 0))
     → Suits r n most
     → lengthsOff p (s .pmtu) m most ≡ false
 unfolding carrying
-lengths-good Send s regions p m i count net n most k e q h a c z x l =
-    lengths-carry p (s .pmtu) m most net e (rw k) (z tt .1)
-    (rw k (send-total (p .place) (m .placed) net n most (m .length) i (s .pmtu) (c .placed) (net-total i count net (s .pmtu) n h (z tt .0)) l))
-lengths-good (SendImmediate v) s regions p m i count net n most k e q h a c z x l =
-    lengths-carry p (s .pmtu) m most net e (rw k) (z tt .1)
-    (rw k (send-total (p .place) (m .placed) net n most (m .length) i (s .pmtu) (c .placed) (net-total i count net (s .pmtu) n h (z tt .0)) l))
-lengths-good (Write t) s regions p m i count net n most k e q h a c z x l =
-    lengths-carry p (s .pmtu) m most net e (rw k) (z tt .1)
-    (rw k (write-total (p .place) (m .placed) net n most (m .length) i (s .pmtu) count (c .placed) (c .length) h (z tt .0) q))
-lengths-good (WriteImmediate t v) s regions p m i count net n most k e q h a c z x l =
-    lengths-carry p (s .pmtu) m most net e (rw k) (z tt .1)
-    (rw k (write-total (p .place) (m .placed) net n most (m .length) i (s .pmtu) count (c .placed) (c .length) h (z tt .0) q))
-lengths-good (Read b) s regions p m i count net n most k e q h a c z x l =
+lengths-good Send s regions p m i count size n most k e q h a c z x l =
+    lengths-carry p (s .pmtu) m most size e (rw k) (z tt .1)
+    (rw k (send-total (p .place) (m .stored) size n most (m .length) i (s .pmtu) (c .stored) (net-total i count size (s .pmtu) n h (z tt .0)) l))
+lengths-good (SendImmediate v) s regions p m i count size n most k e q h a c z x l =
+    lengths-carry p (s .pmtu) m most size e (rw k) (z tt .1)
+    (rw k (send-total (p .place) (m .stored) size n most (m .length) i (s .pmtu) (c .stored) (net-total i count size (s .pmtu) n h (z tt .0)) l))
+lengths-good (Write t) s regions p m i count size n most k e q h a c z x l =
+    lengths-carry p (s .pmtu) m most size e (rw k) (z tt .1)
+    (rw k (write-total (p .place) (m .stored) size n most (m .length) i (s .pmtu) count (c .stored) (c .length) h (z tt .0) q))
+lengths-good (WriteImmediate t v) s regions p m i count size n most k e q h a c z x l =
+    lengths-carry p (s .pmtu) m most size e (rw k) (z tt .1)
+    (rw k (write-total (p .place) (m .stored) size n most (m .length) i (s .pmtu) count (c .stored) (c .length) h (z tt .0) q))
+lengths-good (Read b) s regions p m i count size n most k e q h a c z x l =
     let y = x (λ w. w) in
-    let w : p .raw ≡ 0 = omega (arith, y .0, y .1) in
-    lengths-bare p (s .pmtu) m most w (y .1) (rw k) (rw k (read-bare (p .raw) (m .address) w))
-lengths-good (CmpSwap b) s regions p m i count net n most k e q h a c z x l =
+    let w : p .padded ≡ 0 = omega (arith, y .0, y .1) in
+    lengths-bare p (s .pmtu) m most w (y .1) (rw k) (rw k (read-bare (p .padded) (m .address) w))
+lengths-good (CmpSwap b) s regions p m i count size n most k e q h a c z x l =
     let y = x (λ w. w) in
-    let w : p .raw ≡ 0 = omega (arith, y .0, y .1) in
-    lengths-bare p (s .pmtu) m most w (y .1) (rw k) (rw k (swap-bare (p .raw) (m .address) w (ap (λ j. j % 8) (c .address) ∙ a .2)))
-lengths-good (FetchAdd t v) s regions p m i count net n most k e q h a c z x l =
+    let w : p .padded ≡ 0 = omega (arith, y .0, y .1) in
+    lengths-bare p (s .pmtu) m most w (y .1) (rw k) (rw k (swap-bare (p .padded) (m .address) w (ap (λ j. j % 8) (c .address) ∙ a .2)))
+lengths-good (FetchAdd t v) s regions p m i count size n most k e q h a c z x l =
     let y = x (λ w. w) in
-    let w : p .raw ≡ 0 = omega (arith, y .0, y .1) in
-    lengths-bare p (s .pmtu) m most w (y .1) (rw k) (rw k (add-bare (p .raw) (m .address) w (ap (λ j. j % 8) (c .address) ∙ a .2)))
+    let w : p .padded ≡ 0 = omega (arith, y .0, y .1) in
+    lengths-bare p (s .pmtu) m most w (y .1) (rw k) (rw k (add-bare (p .padded) (m .address) w (ap (λ j. j % 8) (c .address) ∙ a .2)))

@@ -15,12 +15,12 @@ use Rattle.cut_spec.specs.declared.Request.{Request}
 use Rattle.cut_spec.specs.declared.Request.the-variants.{Send, SendImmediate, Write, WriteImmediate, Read, CmpSwap, FetchAdd}
 use Rattle.request_spec.specs.Verdict.{carrying, noneWaiting, usesEntry, current, expectedCode}
 use Rattle.responder_spec.specs.Kept.{Steady}
-use Rattle.responder_spec.specs.Decide.{acknowledging, failed, headEntry, regionFor, placing, accepting, swapping, executing, settled, expectedDecision}
+use Rattle.responder_spec.specs.Decide.{acknowledging, failed, headEntry, regionFor, storePayload, acceptRead, runAtomic, execute, checkedDecision, expectedDecision}
 use Rattle.responder_spec.specs.Apply.{memoryBy, actsAtomic, savedBy, pairBy}
 use Rattle.responder_spec.specs.Apply as apply
 use Rattle.responder_spec.specs.declared.Decision.{Decision}
 use Rattle.delivery.specs.Stream.{Message, Slot, slot, packetAt}
-use Rattle.delivery.specs.Plain.{Plain, none, firstOf, needing, isLast, heldNow, perform, reached}
+use Rattle.delivery.specs.Plain.{Plain, none, firstOf, needsEntry, isLast, heldNow, executeWith, executeNext}
 use Rattle.delivery.specs.Demand.{Run}
 use Rattle.delivery.proofs.Chain.{Stands, Good}
 use Rattle.delivery.proofs.Cutting.{placeFor, cutPacket}
@@ -61,37 +61,37 @@ module _ (ms : List Message) (S : List Slot) (p : Plain) (x : Run) (L : Link ms 
   code = expectedCode (x .whole .pair .setup) (x .whole .pair .message) (cutPacket t) (x .whole .pair .entries .count) entry region
 
   passed : Before (x .whole .pair .setup) (x .whole .pair .message) (cutPacket t)
-  passed = before (x .whole .pair .setup) (x .whole .regions) fits t H (x .whole .pair .message) (p .held) (L .under)
+  passed = before (x .whole .pair .setup) (x .whole .regions) fits t H (x .whole .pair .message) (p .held) (L .opened)
 
-  wanting : noneWaiting (kindNumber (t .message .request)) (placeFor t) (cutPacket t .operands .immediate) (x .whole .pair .message .kind) (x .whole .pair .entries .count) ≡ (needing t && none (p .waiting))
+  wanting : noneWaiting (kindNumber (t .message .request)) (placeFor t) (cutPacket t .operands .immediate) (x .whole .pair .message .kind) (x .whole .pair .entries .count) ≡ (needsEntry t && none (p .waiting))
   wanting =
-      waiting-is (x .whole .pair .setup) (x .whole .regions) fits t H (x .whole .pair .message) (p .held) (L .under) (p .waiting) (x .whole .pair .entries .count)
+      waiting-is (x .whole .pair .setup) (x .whole .regions) fits t H (x .whole .pair .message) (p .held) (L .opened) (p .waiting) (x .whole .pair .entries .count)
       (count-is (x .whole .entries) (x .whole .pair .entries) (p .held ++ p .waiting) (L .entries))
 
   abbrev decides : Decision
   decides = expectedDecision (cutPacket t) (x .whole .pair .setup) (x .whole .pair .message) (x .whole .pair .entries .count) entry region
 
   -- no entry: 19, and the mark
-  waits : (needing t && none (p .waiting)) ≡ true → Link ms S p (stepBy x decides (packetAt t))
-  unfolding expectedDecision settled failed acknowledging statusNumber pairBy apply.after savedBy memoryBy actsAtomic
+  waits : (needsEntry t && none (p .waiting)) ≡ true → Link ms S p (stepBy x decides (packetAt t))
+  unfolding expectedDecision checkedDecision failed acknowledging statusNumber pairBy apply.after savedBy memoryBy actsAtomic
   waits e =
       subst
-      (λ c. Link ms S p (stepBy x (settled c (cutPacket t) (x .whole .pair .setup) (x .whole .pair .message) entry region) (packetAt t)))
+      (λ c. Link ms S p (stepBy x (checkedDecision c (cutPacket t) (x .whole .pair .setup) (x .whole .pair .message) entry region) (packetAt t)))
       (sym (unready (x .whole .pair .setup) (x .whole .pair .message) (cutPacket t) (x .whole .pair .entries .count) entry region passed (wanting ∙ e)))
       (eases L true (x .whole .pair .read) (p .r) (L .reads))
 
   -- the checks let it through: it does what d does
-  goes : (d : Decision) → (needing t && none (p .waiting)) ≡ false
+  goes : (d : Decision) → (needsEntry t && none (p .waiting)) ≡ false
       → Behind (x .whole .pair .setup) (x .whole .pair .message) (cutPacket t) entry region
-      → executing (cutPacket t) M (x .whole .pair .message) entry region (x .whole .pair .setup .pmtu) ≡ d
+      → execute (cutPacket t) M (x .whole .pair .message) entry region (x .whole .pair .setup .pmtu) ≡ d
       → Does ms S p x d (packetAt t) (firstOf (heldNow p t))
-      → Link ms S (perform (x .whole .regions) p t (firstOf (heldNow p t))) (stepBy x decides (packetAt t))
-  unfolding expectedDecision settled
+      → Link ms S (executeWith (x .whole .regions) p t (firstOf (heldNow p t))) (stepBy x decides (packetAt t))
+  unfolding expectedDecision checkedDecision
   goes d e b q D =
       subst
-      (λ c. Link ms S (perform (x .whole .regions) p t (firstOf (heldNow p t))) (stepBy x (settled c (cutPacket t) (x .whole .pair .setup) (x .whole .pair .message) entry region) (packetAt t)))
+      (λ c. Link ms S (executeWith (x .whole .regions) p t (firstOf (heldNow p t))) (stepBy x (checkedDecision c (cutPacket t) (x .whole .pair .setup) (x .whole .pair .message) entry region) (packetAt t)))
       (sym (passes (x .whole .pair .setup) (x .whole .pair .message) (cutPacket t) (x .whole .pair .entries .count) entry region passed (wanting ∙ e) b))
-      (subst (λ c. Link ms S (perform (x .whole .regions) p t (firstOf (heldNow p t))) (stepBy x c (packetAt t))) (sym q)
+      (subst (λ c. Link ms S (executeWith (x .whole .regions) p t (firstOf (heldNow p t))) (stepBy x c (packetAt t))) (sym q)
       (executes ms S p x d (packetAt t) L lt (firstOf (heldNow p t)) D))
 
   after-entry : (1 ≤ x .whole .pair .entries .count) → outside (getD entry 1 0) (getD entry 2 0) (x .whole .pair .setup .memory) ≡ false
@@ -101,21 +101,21 @@ module _ (ms : List Message) (S : List Slot) (p : Plain) (x : Run) (L : Link ms 
       → Suits (t .message .request) (length (t .message .bytes)) (getD entry 2 0)
       → Behind (x .whole .pair .setup) (x .whole .pair .message) (cutPacket t) entry region
   behinds u z =
-      behind (x .whole .pair .setup) (x .whole .regions) fits t H (x .whole .pair .message) (p .held) (L .under) entry (Y .regions) (λ e. after-entry (u e)) z
+      behind (x .whole .pair .setup) (x .whole .regions) fits t H (x .whole .pair .message) (p .held) (L .opened) entry (Y .regions) (λ e. after-entry (u e)) z
 
   immediate-is : cutPacket t .operands .immediate ≡ (isLast t && immediateOf (t .message .request))
   immediate-is =
       says (x .whole .pair .setup) (x .whole .regions) fits t H (x .whole .pair .message) .immediate
-      ∙ ap (λ b. b && immediateOf (t .message .request)) (ends-is (x .whole .pair .setup) (x .whole .regions) fits t H (x .whole .pair .message) (p .held) (L .under))
+      ∙ ap (λ b. b && immediateOf (t .message .request)) (ends-is (x .whole .pair .setup) (x .whole .regions) fits t H (x .whole .pair .message) (p .held) (L .opened))
 
   carries-here : carrying (kindNumber (t .message .request)) ≡ true
-      → executing (cutPacket t) M (x .whole .pair .message) entry region (x .whole .pair .setup .pmtu) ≡ placing (cutPacket t) M entry region
-  unfolding executing
+      → execute (cutPacket t) M (x .whole .pair .message) entry region (x .whole .pair .setup .pmtu) ≡ storePayload (cutPacket t) M entry region
+  unfolding execute
   carries-here e = rw e
 
-  module _ (free : (needing t && none (p .waiting)) ≡ false) where
+  module _ (free : (needsEntry t && none (p .waiting)) ≡ false) where
     abbrev Executed : Type 0
-    Executed = Link ms S (perform (x .whole .regions) p t (firstOf (heldNow p t))) (stepBy x decides (packetAt t))
+    Executed = Link ms S (executeWith (x .whole .regions) p t (firstOf (heldNow p t))) (stepBy x decides (packetAt t))
 
     send-here : Carries (t .message .request) → Sends (t .message .request) → Executed
     unfolding carrying
@@ -145,19 +145,19 @@ module _ (ms : List Message) (S : List Slot) (p : Plain) (x : Run) (L : Link ms 
         absurd (true≢false (sym u ∙ ((λ j. eqb (e j) 0 || i j) ∙ ap (λ b. b || false) z)))
 
     read-here : Single (t .message .request) → Reads (t .message .request) → Executed
-    unfolding executing carrying
+    unfolding execute carrying
     read-here O R =
-        goes (accepting (cutPacket t) M (x .whole .pair .message) region (x .whole .pair .setup .pmtu)) free
+        goes (acceptRead (cutPacket t) M (x .whole .pair .message) region (x .whole .pair .setup .pmtu)) free
         (behinds (unused 12 (R .kind) refl O) (O .suits (length (t .message .bytes)) (getD entry 2 0)))
-        (ap (λ k. cond (ltb k 12) (placing (cutPacket t) M entry region) (cond (eqb k 12) (accepting (cutPacket t) M (x .whole .pair .message) region (x .whole .pair .setup .pmtu)) (swapping (cutPacket t) M (x .whole .pair .message) region))) (R .kind))
+        (ap (λ k. cond (ltb k 12) (storePayload (cutPacket t) M entry region) (cond (eqb k 12) (acceptRead (cutPacket t) M (x .whole .pair .message) region (x .whole .pair .setup .pmtu)) (runAtomic (cutPacket t) M (x .whole .pair .message) region))) (R .kind))
         (reads ms S p x L Y G lt O R)
 
     swap-here : (k act : ℕ) (does : List ℕ → ℕ → ℕ → ℕ → List ℕ) → Single (t .message .request) → Swaps (t .message .request) k act does → eqb k 0 ≡ false → Executed
-    unfolding executing carrying
+    unfolding execute carrying
     swap-here k act does O W z =
-        goes (swapping (cutPacket t) M (x .whole .pair .message) region) free
+        goes (runAtomic (cutPacket t) M (x .whole .pair .message) region) free
         (behinds (unused k (W .kind) z O) (O .suits (length (t .message .bytes)) (getD entry 2 0)))
-        (ap (λ j. cond (ltb j 12) (placing (cutPacket t) M entry region) (cond (eqb j 12) (accepting (cutPacket t) M (x .whole .pair .message) region (x .whole .pair .setup .pmtu)) (swapping (cutPacket t) M (x .whole .pair .message) region))) (W .kind)
+        (ap (λ j. cond (ltb j 12) (storePayload (cutPacket t) M entry region) (cond (eqb j 12) (acceptRead (cutPacket t) M (x .whole .pair .message) region (x .whole .pair .setup .pmtu)) (runAtomic (cutPacket t) M (x .whole .pair .message) region))) (W .kind)
         ∙ rw (W .apart .0, W .apart .1))
         (swaps ms S p x L Y G lt O k act does W z)
 
@@ -170,10 +170,10 @@ module _ (ms : List Message) (S : List Slot) (p : Plain) (x : Run) (L : Link ms 
     by-request (CmpSwap a) e = swap-here 19 3 _ (subst Single (sym e) (swap-single a)) (subst (λ r. Swaps r 19 3 (λ m at c w. swapped m at c w)) (sym e) (swaps-swaps a)) refl
     by-request (FetchAdd y v) e = swap-here 20 2 _ (subst Single (sym e) (add-single y v)) (subst (λ r. Swaps r 20 2 (λ m at c w. fetchAdded m at w)) (sym e) (adds-swaps y v)) refl
 
-  pub here : Link ms S (reached (x .whole .regions) p t) (stepBy x decides (packetAt t))
-  here = go (needing t && none (p .waiting)) refl
+  pub here : Link ms S (executeNext (x .whole .regions) p t) (stepBy x decides (packetAt t))
+  here = go (needsEntry t && none (p .waiting)) refl
     where
-      go : (b : Bool) → (needing t && none (p .waiting)) ≡ b
-          → Link ms S (cond b p (perform (x .whole .regions) p t (firstOf (heldNow p t)))) (stepBy x decides (packetAt t))
+      go : (b : Bool) → (needsEntry t && none (p .waiting)) ≡ b
+          → Link ms S (cond b p (executeWith (x .whole .regions) p t (firstOf (heldNow p t)))) (stepBy x decides (packetAt t))
       go true e = waits e
       go false e = by-request e (t .message .request) refl

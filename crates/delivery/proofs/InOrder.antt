@@ -10,10 +10,10 @@ use borrow.Author.Tests.{eqb-true, eqb-false}
 use Rattle.sequence.specs.Sequence.{space, psnAfter, msnNext}
 use Rattle.table.specs.declared.Entry.{Entry}
 use Rattle.pair.specs.declared.Setup.{Setup}
-use Rattle.delivery.specs.Stream.{Message, Slot, slot, span, stream, along}
-use Rattle.delivery.specs.Plain.{Plain, Call, needing, none, firstOf, isRead, isLast, takes, completionFor, landed, sending, adding, perform, reached, account, plain, start}
+use Rattle.delivery.specs.Stream.{Message, Slot, slot, psnCount, stream, numberAlong}
+use Rattle.delivery.specs.Plain.{Plain, Call, needsEntry, none, firstOf, isRead, isLast, takesEntry, completionFor, memoryAfter, withResponses, withWaiting, executeWith, executeNext, plainStep, plain, start}
 use Rattle.delivery.specs.Plain.Call.{Hand, Next, Post}
-use Rattle.delivery.specs.Demand.{AllMeet, Meets, waitingAt}
+use Rattle.delivery.specs.Demand.{AllCallsPermitted, CallPermitted, waitingAt}
 use Rattle.delivery.specs.InOrder.{acceptedNow, accepted, executedNext, inOrder, supplied, InOrder, Counts, ExpectedAlong, Supplied, ExactlyOnce}
 use Rattle.delivery.proofs.Chain.{along-suc, along-zero}
 use Rattle.delivery.proofs.Whole.{delivery}
@@ -39,41 +39,41 @@ none-front false waiting rest e = refl
 module _ (regions : List (List ℕ)) (S : List Slot) where
   -- with entries still to be posted
   abbrev behind : Plain → List Entry → Plain
-  behind p rest = adding p (p .waiting ++ rest)
+  behind p rest = withWaiting p (p .waiting ++ rest)
 
   -- equal but for the responses
   abbrev Equal : Plain → Plain → Type 0
-  Equal p q = sending p 0 ≡ sending q 0
+  Equal p q = withResponses p 0 ≡ withResponses q 0
 
   next-equal : (p q : Plain) → Equal p q → Equal (executedNext regions S p) (executedNext regions S q)
-  unfolding perform
-  next-equal p q e = ap (λ x. sending (executedNext regions S x) 0) e
+  unfolding executeWith
+  next-equal p q e = ap (λ x. withResponses (executedNext regions S x) 0) e
 
   -- packet k executed, with its entry and those that wait then
   abbrev result : Plain → Slot → List Entry → List Entry → Plain
   result p t held waiting =
       record {
         k = suc (p .k);
-        memory = landed (t .message .request) regions (t .message .connection .pmtu) (t .message .bytes) (t .index) (firstOf held) (p .memory);
-        completions = p .completions ++ cond (isLast t && takes (t .message .request)) (completionFor (t .message .request) (firstOf held) (length (t .message .bytes)) ∷ []) [];
+        memory = memoryAfter (t .message .request) regions (t .message .connection .pmtu) (t .message .bytes) (t .index) (firstOf held) (p .memory);
+        completions = p .completions ++ cond (isLast t && takesEntry (t .message .request)) (completionFor (t .message .request) (firstOf held) (length (t .message .bytes)) ∷ []) [];
         msn = cond (isLast t) (msnNext (p .msn)) (p .msn);
-        expected = psnAfter (p .expected) (span t);
+        expected = psnAfter (p .expected) (psnCount t);
         held = cond (isLast t) [] held;
         waiting = waiting;
         r = 0;
       }
 
-  next-behind : (p : Plain) (rest : List Entry) → needing (slot S (p .k)) && none (p .waiting) ≡ false
+  next-behind : (p : Plain) (rest : List Entry) → needsEntry (slot S (p .k)) && none (p .waiting) ≡ false
       → Equal (behind (executedNext regions S p) rest) (executedNext regions S (behind p rest))
-  unfolding perform
+  unfolding executeWith
   next-behind p rest e =
       let t = slot S (p .k) in
-      λ i. result p t (held-front (needing t) (p .waiting) rest (p .held) e i) (waiting-front (needing t) (p .waiting) rest e i)
+      λ i. result p t (held-front (needsEntry t) (p .waiting) rest (p .held) e i) (waiting-front (needsEntry t) (p .waiting) rest e i)
 
   module _ (from : Plain) where
     -- packet n has the entry that it needs
     abbrev HasEntry : ℕ → Type 0
-    HasEntry n = needing (slot S n) && none (inOrder regions S from n .waiting) ≡ false
+    HasEntry n = needsEntry (slot S n) && none (inOrder regions S from n .waiting) ≡ false
 
     -- the plain run at p, with entries still to be posted, stands where its k packets in order stand, each of which had
     -- the entry that it needs
@@ -88,19 +88,19 @@ module _ (regions : List (List ℕ)) (S : List Slot) where
         go true e = subst HasEntry (sym (eqb-true n k e)) h
         go false e = f n (omega (arith, eqb-false n k e))
 
-    executes : (p : Plain) (rest : List Entry) → needing (slot S (p .k)) && none (p .waiting) ≡ false → Follows p rest
+    executes : (p : Plain) (rest : List Entry) → needsEntry (slot S (p .k)) && none (p .waiting) ≡ false → Follows p rest
         → Follows (executedNext regions S p) rest
-    unfolding perform inOrder
+    unfolding executeWith inOrder
     executes p rest e F =
         let h : HasEntry (p .k) =
-        subst (λ x. needing (slot S (p .k)) && none (x .waiting) ≡ false) (F .equal) (none-front (needing (slot S (p .k))) (p .waiting) rest e) in
+        subst (λ x. needsEntry (slot S (p .k)) && none (x .waiting) ≡ false) (F .equal) (none-front (needsEntry (slot S (p .k))) (p .waiting) rest e) in
         record {
           equal = next-behind p rest e ∙ next-equal (behind p rest) (inOrder regions S from (p .k)) (F .equal);
           entry = λ n b. up-to (p .k) n h (F .entry) b;
         }
 
     -- other responses to send
-    answers : (p : Plain) (rest : List Entry) (r : ℕ) → Follows p rest → Follows (sending p r) rest
+    answers : (p : Plain) (rest : List Entry) (r : ℕ) → Follows p rest → Follows (withResponses p r) rest
     answers p rest r F = record { equal = F .equal; entry = F .entry }
 
     either : {x y : Plain} {rest : List Entry} (b : Bool) → (b ≡ true → Follows x rest) → (b ≡ false → Follows y rest)
@@ -109,18 +109,18 @@ module _ (regions : List (List ℕ)) (S : List Slot) where
     either false f g = g refl
 
     hand : (s : Setup) (p : Plain) (rest : List Entry) (j : ℕ) (out : List ℕ) → Follows p rest
-        → Follows (account s regions S p (Hand j out)) rest
+        → Follows (plainStep s regions S p (Hand j out)) rest
     hand s p rest j out F =
         either (ltb (length out) 24) (λ a. F)
         (λ a. either (not (eqb (length (p .memory)) (s .memory))) (λ b. F)
         (λ b. either (not (eqb (p .r) 0)) (λ c. F)
         (λ c. either (eqb j (p .k))
-        (λ d. subst (λ n. Follows (reached regions p (slot S n)) rest) (sym (eqb-true j (p .k) d))
-        (either (needing (slot S (p .k)) && none (p .waiting)) (λ e. F) (λ e. executes p rest e F)))
-        (λ d. either (ltb j (p .k) && isRead (slot S j .message .request)) (λ e. answers p rest (span (slot S j)) F) (λ e. F)))))
+        (λ d. subst (λ n. Follows (executeNext regions p (slot S n)) rest) (sym (eqb-true j (p .k) d))
+        (either (needsEntry (slot S (p .k)) && none (p .waiting)) (λ e. F) (λ e. executes p rest e F)))
+        (λ d. either (ltb j (p .k) && isRead (slot S j .message .request)) (λ e. answers p rest (psnCount (slot S j)) F) (λ e. F)))))
 
     one : (s : Setup) (p : Plain) (c : Call) (rest : List Entry) → Follows p (acceptedNow s p c ++ rest)
-        → Follows (account s regions S p c) rest
+        → Follows (plainStep s regions S p c) rest
     one s p (Hand j out) rest F = hand s p rest j out F
     one s p (Next out) rest F =
         either (eqb (p .r) 0) (λ a. F)
@@ -129,12 +129,12 @@ module _ (regions : List (List ℕ)) (S : List Slot) where
     one s p (Post e) rest F = go (ltb (s .memory) (e .offset + e .length)) (leb 16 (length (p .held) + length (p .waiting))) F
       where
         go : (a b : Bool) → Follows p (cond a [] (cond b [] (e ∷ [])) ++ rest)
-            → Follows (cond a p (cond b p (adding p (p .waiting ++ (e ∷ []))))) rest
+            → Follows (cond a p (cond b p (withWaiting p (p .waiting ++ (e ∷ []))))) rest
         go true b G = G
         go false true G = G
         go false false G =
             record {
-              equal = ap (λ x. sending (adding p x) 0) (append-assoc (p .waiting) (e ∷ []) rest) ∙ G .equal;
+              equal = ap (λ x. withResponses (withWaiting p x) 0) (append-assoc (p .waiting) (e ∷ []) rest) ∙ G .equal;
               entry = G .entry;
             }
 
@@ -142,7 +142,7 @@ module _ (regions : List (List ℕ)) (S : List Slot) where
         → Follows (plain s regions S p calls) []
     unfolding plain accepted
     all s p [] F = F
-    all s p (c ∷ cs) F = all s (account s regions S p c) cs (one s p c (accepted s regions S (account s regions S p c) cs) F)
+    all s p (c ∷ cs) F = all s (plainStep s regions S p c) cs (one s p c (accepted s regions S (plainStep s regions S p c) cs) F)
 
 module _ (s : Setup) (regions : List (List ℕ)) (S : List Slot) (m : List ℕ) (waiting : List Entry) (calls : List Call) where
   follows : Follows regions S (supplied s regions S m waiting calls) (plain s regions S (start s m waiting) calls) []
@@ -168,27 +168,27 @@ pub has-entry : Supplied
 has-entry s regions S m waiting calls = follows s regions S m waiting calls .entry
 
 pub counts : Counts
-unfolding inOrder perform
+unfolding inOrder executeWith
 counts regions S p zero = omega arith
 counts regions S p (suc n) = omega (arith, counts regions S p n)
 
 pub expected-along : ExpectedAlong
-unfolding inOrder perform
+unfolding inOrder executeWith
 expected-along s regions S m waiting zero b h = λ i. record { 0 = number i }
   where
-    number : s .start .0 ≡ (s .start .0 + along S 0) % space
+    number : s .start .0 ≡ (s .start .0 + numberAlong S 0) % space
     number = omega (arith, along-zero S)
 expected-along s regions S m waiting (suc n) b h =
     go (inOrder regions S (start s m waiting) n) (counts regions S (start s m waiting) n) (expected-along s regions S m waiting n b (omega arith))
   where
-    go : (q : Plain) → q .k ≡ 0 + n → q .expected ≡ psnAfter (s .start) (along S n)
-        → executedNext regions S q .expected ≡ psnAfter (s .start) (along S (suc n))
+    go : (q : Plain) → q .k ≡ 0 + n → q .expected ≡ psnAfter (s .start) (numberAlong S n)
+        → executedNext regions S q .expected ≡ psnAfter (s .start) (numberAlong S (suc n))
     go q k e =
         let j : q .k ≡ n = omega arith in
-        let x : q .expected .0 ≡ (s .start .0 + along S n) % space = ap (λ z. z .0) e in
-        let a : along S (suc n) ≡ along S n + span (slot S n) = along-suc S n h in
-        let y : (q .expected .0 + span (slot S n)) % space ≡ (s .start .0 + along S (suc n)) % space = omega arith in
-        ap (λ z. psnAfter (q .expected) (span (slot S z))) j ∙ (λ i. record { 0 = y i })
+        let x : q .expected .0 ≡ (s .start .0 + numberAlong S n) % space = ap (λ z. z .0) e in
+        let a : numberAlong S (suc n) ≡ numberAlong S n + psnCount (slot S n) = along-suc S n h in
+        let y : (q .expected .0 + psnCount (slot S n)) % space ≡ (s .start .0 + numberAlong S (suc n)) % space = omega arith in
+        ap (λ z. psnAfter (q .expected) (psnCount (slot S z))) j ∙ (λ i. record { 0 = y i })
 
 -- no packet past the end is executed
 module _ (s : Setup) (regions : List (List ℕ)) (ms : List Message) (S : List Slot) where
@@ -199,14 +199,14 @@ module _ (s : Setup) (regions : List (List ℕ)) (ms : List Message) (S : List S
   within true f g = f refl
   within false f g = g refl
 
-  inside-one : (p : Plain) (c : Call) → Meets s ms S p c → Inside p → Inside (account s regions S p c)
-  unfolding perform
+  inside-one : (p : Plain) (c : Call) → CallPermitted s ms S p c → Inside p → Inside (plainStep s regions S p c)
+  unfolding executeWith
   inside-one p (Hand j out) h b =
       within (ltb (length out) 24) (λ _. b)
       (λ _. within (not (eqb (length (p .memory)) (s .memory))) (λ _. b)
       (λ _. within (not (eqb (p .r) 0)) (λ _. b)
       (λ _. within (eqb j (p .k))
-      (λ d. within (needing (slot S j) && none (p .waiting)) (λ _. b) (λ _. record { is = omega (arith, eqb-true j (p .k) d, h .inside) }))
+      (λ d. within (needsEntry (slot S j) && none (p .waiting)) (λ _. b) (λ _. record { is = omega (arith, eqb-true j (p .k) d, h .inside) }))
       (λ _. within (ltb j (p .k) && isRead (slot S j .message .request)) (λ _. record { is = b .is }) (λ _. b)))))
   inside-one p (Next out) h b =
       within (eqb (p .r) 0) (λ _. b)
@@ -214,10 +214,10 @@ module _ (s : Setup) (regions : List (List ℕ)) (ms : List Message) (S : List S
   inside-one p (Post e) h b =
       within (ltb (s .memory) (e .offset + e .length)) (λ _. b) (λ _. within (leb 16 (length (p .held) + length (p .waiting))) (λ _. b) (λ _. record { is = b .is }))
 
-  inside-all : (p : Plain) (calls : List Call) → AllMeet s regions ms S p calls → Inside p → Inside (plain s regions S p calls)
+  inside-all : (p : Plain) (calls : List Call) → AllCallsPermitted s regions ms S p calls → Inside p → Inside (plain s regions S p calls)
   unfolding plain
   inside-all p [] h b = b
-  inside-all p (c ∷ cs) h b = inside-all (account s regions S p c) cs (h .1) (inside-one p c (h .0) b)
+  inside-all p (c ∷ cs) h b = inside-all (plainStep s regions S p c) cs (h .1) (inside-one p c (h .0) b)
 
 pub exactly-once : ExactlyOnce
 exactly-once w ms m calls F p l h =

@@ -8,7 +8,7 @@ use lib.Dec.{eqb}
 use lib.ListN.{length, getD}
 use borrow.Author.Tests.{eqb-true, eqb-false}
 use Rattle.lemmas.proofs.Auto.{tests}
-use Rattle.memory.specs.Memory.{put, placed}
+use Rattle.memory.specs.Memory.{overwrite, store}
 use Rattle.memory.proofs.Put.{placed-put, put-none, placed-none}
 use Rattle.pmtu.specs.Pieces.{ends, pieceAt}
 use Rattle.table.specs.View.{regionOf}
@@ -18,12 +18,12 @@ use Rattle.pair.specs.Claims.{SetupFit}
 use Rattle.pair.specs.declared.Setup.{Setup}
 use Rattle.pair.specs.declared.OpenMessage.{OpenMessage}
 use Rattle.cut_spec.specs.Claims.{kindNumber}
-use Rattle.request_spec.specs.Verdict.{netOf, current}
-use Rattle.responder_spec.specs.Decide.{regionFor, completes, placeOf, placing}
+use Rattle.request_spec.specs.Verdict.{payloadSize, current}
+use Rattle.responder_spec.specs.Decide.{regionFor, completes, targetOffset, storePayload}
 use Rattle.responder_spec.specs.Apply.{memoryBy}
 use Rattle.delivery.specs.Stream.{packetCount, Slot, packetAt}
-use Rattle.delivery.specs.Plain.{lies, takes, isLast}
-use Rattle.delivery.specs.Demand.{Lies}
+use Rattle.delivery.specs.Plain.{regionOffset, takesEntry, isLast}
+use Rattle.delivery.specs.Demand.{InRegion}
 use Rattle.delivery.proofs.Chain.{Stands}
 use Rattle.delivery.proofs.Places.{Sizes}
 use Rattle.delivery.proofs.Cutting.{netFor, placeFor, cutPacket, sizes}
@@ -39,10 +39,10 @@ twice : (b c : Bool) → (b && (b && c)) ≡ (b && c)
 twice true c = refl
 twice false c = refl
 
-module _ (s : Setup) (regions : List (List ℕ)) (f : SetupFit s) (t : Slot) (H : Stands s regions t) (under : OpenMessage) (held : List Entry)
-    (U : Under (eqb (t .index) 0) t under held) (C : Carries (t .message .request)) (entry : List ℕ) where
+module _ (s : Setup) (regions : List (List ℕ)) (f : SetupFit s) (t : Slot) (H : Stands s regions t) (opened : OpenMessage) (held : List Entry)
+    (U : Under (eqb (t .index) 0) t opened held) (C : Carries (t .message .request)) (entry : List ℕ) where
   abbrev M : OpenMessage
-  M = current under (cutPacket t)
+  M = current opened (cutPacket t)
 
   abbrev region : List ℕ
   region = regionFor (kindNumber (t .message .request)) (M .key) regions
@@ -54,52 +54,52 @@ module _ (s : Setup) (regions : List (List ℕ)) (f : SetupFit s) (t : Slot) (H 
   off = t .index * t .message .connection .pmtu
 
   N : IsOf t M
-  N = now s regions f t H under held U
+  N = now s regions f t H opened held U
 
   last-is : ends (placeFor t) ≡ isLast t
-  last-is = ends-is s regions f t H under held U
+  last-is = ends-is s regions f t H opened held U
 
   sized : Sizes (t .index) (packetCount (t .message)) (netFor t) (t .message .connection .pmtu) (length (t .message .bytes))
-  sized = sizes s f t (H .sent) (C .carrier)
+  sized = sizes s f t (H .outgoing) (C .carrier)
 
   pub inside : t .index * t .message .connection .pmtu + netFor t ≤ length (t .message .bytes)
-  inside = net-total (t .index) (packetCount (t .message)) (netFor t) (t .message .connection .pmtu) (length (t .message .bytes)) (H .sent .inside) sized
+  inside = net-total (t .index) (packetCount (t .message)) (netFor t) (t .message .connection .pmtu) (length (t .message .bytes)) (H .outgoing .inside) sized
 
   piece-long : length piece ≡ netFor t
-  piece-long = length-piece s regions f t H under held U C entry region
+  piece-long = length-piece s regions f t H opened held U C entry region
 
-  bytes-are : (m : List ℕ) → memoryBy (placing (cutPacket t) M entry region) m (packetAt t) ≡ placed m (placeOf (kindNumber (t .message .request)) M entry region) piece
-  bytes-are m = placing-bytes s regions f t H under held U C entry region m
+  bytes-are : (m : List ℕ) → memoryBy (storePayload (cutPacket t) M entry region) m (packetAt t) ≡ store m (targetOffset (kindNumber (t .message .request)) M entry region) piece
+  bytes-are m = placing-bytes s regions f t H opened held U C entry region m
 
   module _ (Z : Sends (t .message .request)) where
     pub send-lands : (m : List ℕ) → getD entry 1 0 + getD entry 2 0 ≤ length m → length (t .message .bytes) ≤ getD entry 2 0
-        → memoryBy (placing (cutPacket t) M entry region) m (packetAt t) ≡ put m (getD entry 1 0 + off) piece
-    unfolding placeOf
+        → memoryBy (storePayload (cutPacket t) M entry region) m (packetAt t) ≡ overwrite m (getD entry 1 0 + off) piece
+    unfolding targetOffset
     send-lands m o large =
-        let a : getD entry 1 0 + M .placed ≡ getD entry 1 0 + off = omega (arith, N .placed) in
+        let a : getD entry 1 0 + M .stored ≡ getD entry 1 0 + off = omega (arith, N .stored) in
         bytes-are m
-        ∙ (ap (λ k. placed m (placeOf k M entry region) piece) (Z .kind)
-        ∙ (ap (λ k. placed m k piece) a ∙ placed-put m (getD entry 1 0 + off) piece (omega (arith, piece-long, inside, o, large))))
+        ∙ (ap (λ k. store m (targetOffset k M entry region) piece) (Z .kind)
+        ∙ (ap (λ k. store m k piece) a ∙ placed-put m (getD entry 1 0 + off) piece (omega (arith, piece-long, inside, o, large))))
 
-    pub send-completes : completes (kindNumber (t .message .request)) (placeFor t) (cutPacket t .operands .immediate) ≡ (isLast t && takes (t .message .request))
+    pub send-completes : completes (kindNumber (t .message .request)) (placeFor t) (cutPacket t .operands .immediate) ≡ (isLast t && takesEntry (t .message .request))
     unfolding completes
-    send-completes = rw (Z .kind, last-is, Z .takes)
+    send-completes = rw (Z .kind, last-is, Z .takesEntry)
 
-    pub send-long : isLast t ≡ true → cond (eqb (kindNumber (t .message .request)) 0) (M .placed + netOf (cutPacket t)) (M .length) ≡ length (t .message .bytes)
+    pub send-long : isLast t ≡ true → cond (eqb (kindNumber (t .message .request)) 0) (M .stored + payloadSize (cutPacket t)) (M .length) ≡ length (t .message .bytes)
     send-long e =
         let z = sized .last (eqb-true (suc (t .index)) (packetCount (t .message)) e) in
-        let n = net-is s regions f t H under held U C entry region in
-        ap (λ y. cond (eqb y 0) (M .placed + netOf (cutPacket t)) (M .length)) (Z .kind) ∙ omega (arith, N .placed, n, z .2)
+        let n = net-is s regions f t H opened held U C entry region in
+        ap (λ y. cond (eqb y 0) (M .stored + payloadSize (cutPacket t)) (M .length)) (Z .kind) ∙ omega (arith, N .stored, n, z .2)
 
   module _ (Z : Writes (t .message .request)) where
-    pub write-completes : completes (kindNumber (t .message .request)) (placeFor t) (cutPacket t .operands .immediate) ≡ (isLast t && takes (t .message .request))
+    pub write-completes : completes (kindNumber (t .message .request)) (placeFor t) (cutPacket t .operands .immediate) ≡ (isLast t && takesEntry (t .message .request))
     unfolding completes
     write-completes =
-        let m = says s regions f t H under .immediate in
-        (λ i. last-is i && (eqb (Z .kind i) 0 || (m ∙ λ j. last-is j && sym (Z .takes) j) i)) ∙ twice (isLast t) (takes (t .message .request))
+        let m = says s regions f t H opened .immediate in
+        (λ i. last-is i && (eqb (Z .kind i) 0 || (m ∙ λ j. last-is j && sym (Z .takesEntry) j) i)) ∙ twice (isLast t) (takesEntry (t .message .request))
 
-    pub write-long : cond (eqb (kindNumber (t .message .request)) 0) (M .placed + netOf (cutPacket t)) (M .length) ≡ length (t .message .bytes)
-    write-long = ap (λ y. cond (eqb y 0) (M .placed + netOf (cutPacket t)) (M .length)) (Z .kind) ∙ (N .length ∙ Z .named (length (t .message .bytes)))
+    pub write-long : cond (eqb (kindNumber (t .message .request)) 0) (M .stored + payloadSize (cutPacket t)) (M .length) ≡ length (t .message .bytes)
+    write-long = ap (λ y. cond (eqb y 0) (M .stored + payloadSize (cutPacket t)) (M .length)) (Z .kind) ∙ (N .length ∙ Z .named (length (t .message .bytes)))
 
     -- where bytes are to come, this packet has its place among them
     short : 0 < length (t .message .bytes) → off < length (t .message .bytes)
@@ -109,7 +109,7 @@ module _ (s : Setup) (regions : List (List ℕ)) (f : SetupFit s) (t : Slot) (H 
         zeroth i e = omega (arith, ap (λ k. k * t .message .connection .pmtu) e)
 
         go : (b : Bool) → isLast t ≡ b → off < length (t .message .bytes)
-        go false e = omega (arith, sized .more (omega (arith, tests, H .sent .inside)) .1)
+        go false e = omega (arith, sized .more (omega (arith, tests, H .outgoing .inside)) .1)
         go true e = first (eqb (t .index) 0) refl
           where
             first : (c : Bool) → eqb (t .index) 0 ≡ c → off < length (t .message .bytes)
@@ -120,7 +120,7 @@ module _ (s : Setup) (regions : List (List ℕ)) (f : SetupFit s) (t : Slot) (H 
                 omega (arith, l .2)
 
     abbrev to : ℕ
-    to = lies regions (keyOf (t .message .request)) (addressOf (t .message .request))
+    to = regionOffset regions (keyOf (t .message .request)) (addressOf (t .message .request))
 
     abbrev keyed : List ℕ
     keyed = regionOf (keyOf (t .message .request)) regions
@@ -130,25 +130,25 @@ module _ (s : Setup) (regions : List (List ℕ)) (f : SetupFit s) (t : Slot) (H 
     region-is = ap (λ k. regionFor k (M .key) regions) (Z .kind) ∙ ap (λ k. regionOf k regions) (N .key)
 
     -- what is named lies in the region
-    right : Lies regions (λ r. r .write) (keyOf (t .message .request)) (addressOf (t .message .request)) (length (t .message .bytes))
+    right : InRegion regions (λ r. r .write) (keyOf (t .message .request)) (addressOf (t .message .request)) (length (t .message .bytes))
     right = Z .right s regions (length (t .message .bytes)) (H .allowed)
 
     module _ (sound : RegionsSound (s .memory) regions) where
       pub in-place : 0 < length (t .message .bytes)
-          → (placeOf 6 M entry keyed ≡ to + off) × (to + length (t .message .bytes) ≤ s .memory)
-      unfolding placeOf
+          → (targetOffset 6 M entry keyed ≡ to + off) × (to + length (t .message .bytes) ≤ s .memory)
+      unfolding targetOffset
       in-place o =
           spot-is (s .memory) 6 (keyOf (t .message .request)) (addressOf (t .message .request)) (length (t .message .bytes)) off regions (λ r. r .write) M sound write-right
-          (N .address) (N .placed) (N .length ∙ Z .named (length (t .message .bytes))) (omega (arith, inside)) right (short o)
+          (N .address) (N .stored) (N .length ∙ Z .named (length (t .message .bytes))) (omega (arith, inside)) right (short o)
 
       pub write-lands : (m : List ℕ) → length m ≡ s .memory
-          → memoryBy (placing (cutPacket t) M entry region) m (packetAt t) ≡ put m (to + off) piece
+          → memoryBy (storePayload (cutPacket t) M entry region) m (packetAt t) ≡ overwrite m (to + off) piece
       write-lands m l =
           bytes-are m
-          ∙ ((λ i. placed m (placeOf (Z .kind i) M entry (region-is i)) piece) ∙ go (eqb (length (t .message .bytes)) 0) refl)
+          ∙ ((λ i. store m (targetOffset (Z .kind i) M entry (region-is i)) piece) ∙ go (eqb (length (t .message .bytes)) 0) refl)
         where
-          go : (b : Bool) → eqb (length (t .message .bytes)) 0 ≡ b → placed m (placeOf 6 M entry keyed) piece ≡ put m (to + off) piece
+          go : (b : Bool) → eqb (length (t .message .bytes)) 0 ≡ b → store m (targetOffset 6 M entry keyed) piece ≡ overwrite m (to + off) piece
           go true e = let z : length piece ≡ 0 = omega (arith, tests, piece-long, inside) in placed-none m _ piece z ∙ sym (put-none m (to + off) piece z)
           go false e =
               let w = in-place (omega (arith, eqb-false (length (t .message .bytes)) 0 e)) in
-              ap (λ k. placed m k piece) (w .0) ∙ placed-put m (to + off) piece (omega (arith, piece-long, w .1, inside, l))
+              ap (λ k. store m k piece) (w .0) ∙ placed-put m (to + off) piece (omega (arith, piece-long, w .1, inside, l))

@@ -26,7 +26,7 @@ pub record Idle (s : Setup) (q : Pair) : Type 0 where
   pub state : q .state ≤ 1
   pub expected : q .expected ≡ q .setup .start
   pub msn : q .msn .0 ≡ 0
-  pub mark : q .mark ≡ false
+  pub nakmark : q .nakmark ≡ false
   pub message : q .message .kind ≡ 255
   pub read : q .read .remaining ≡ 0
   pub saved : q .saved .count ≡ 0
@@ -37,11 +37,11 @@ either false Q R = R
 
 fresh-idle : (s t : Setup) → t ≡ s → Idle s (freshPair t)
 unfolding freshPair
-fresh-idle s t e = record { setup = e; state = omega arith; expected = refl; msn = refl; mark = refl; message = refl; read = refl; saved = refl }
+fresh-idle s t e = record { setup = e; state = omega arith; expected = refl; msn = refl; nakmark = refl; message = refl; read = refl; saved = refl }
 
 moved-idle : (s : Setup) (q : Pair) (state : ℕ) (entries : Ring) → state ≤ 1 → Idle s q → Idle s (moved q state entries)
 moved-idle s q state entries b I =
-    record { setup = I .setup; state = b; expected = I .expected; msn = I .msn; mark = I .mark; message = I .message; read = I .read; saved = I .saved }
+    record { setup = I .setup; state = b; expected = I .expected; msn = I .msn; nakmark = I .nakmark; message = I .message; read = I .read; saved = I .saved }
 
 called-idle : (s : Setup) (w : Whole) (c : HostCall) → NotSetUp c → Idle s (w .pair) → Idle s (called w c .pair)
 unfolding called resetTo madeReady posted
@@ -83,7 +83,7 @@ fresh-made s regions entries saved calls h service e l none =
             ready = ready;
             expected = I .expected;
             msn = I .msn;
-            mark = I .mark;
+            nakmark = I .nakmark;
             message = I .message;
             read = I .read;
             saved = I .saved;

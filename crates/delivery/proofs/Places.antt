@@ -11,9 +11,9 @@ use Rattle.packet.specs.Packet.{padOf}
 use Rattle.request_spec.specs.Verdict.{sizeOff, padEarly}
 
 -- the bytes of packet i: a full PMTU and some to come, or the rest
-pub record Sizes (i count net pmtu n : ℕ) : Type 0 where
-  pub more : suc i < count → (net ≡ pmtu) × (i * pmtu + pmtu < n)
-  pub last : suc i ≡ count → (net ≤ pmtu) × (0 < i → 0 < net) × (i * pmtu + net ≡ n)
+pub record Sizes (i count size pmtu n : ℕ) : Type 0 where
+  pub more : suc i < count → (size ≡ pmtu) × (i * pmtu + pmtu < n)
+  pub last : suc i ≡ count → (size ≤ pmtu) × (0 < i → 0 < size) × (i * pmtu + size ≡ n)
 
 module _ (count i : ℕ) (h : i < count) where
   pub starts-at : starts (placeAt count i) ≡ eqb i 0
@@ -39,34 +39,34 @@ module _ (count i : ℕ) (h : i < count) where
       go false false true e f g = sym (eq-eqb (suc i) count (omega (arith, tests)))
       go false false false e f g = sym (ne-eqb (suc i) count (λ z. absurd (omega (arith, tests))))
 
-  module _ (net pmtu n : ℕ) (z : Sizes i count net pmtu n) where
-    pub size-fits : sizeOff (placeAt count i) pmtu net ≡ false
+  module _ (size pmtu n : ℕ) (z : Sizes i count size pmtu n) where
+    pub size-fits : sizeOff (placeAt count i) pmtu size ≡ false
     unfolding placeAt ends sizeOff
     size-fits = go (eqb count 1) (eqb i 0) (eqb (i + 1) count) refl refl refl
       where
-        rest : suc i ≡ count → ltb pmtu net ≡ false
-        rest e = le-ltb pmtu net (z .last e .0)
+        rest : suc i ≡ count → ltb pmtu size ≡ false
+        rest e = le-ltb pmtu size (z .last e .0)
 
-        some : suc i ≡ count → 0 < i → eqb net 0 ≡ false
-        some e o = ne-eqb net 0 (λ q. absurd (omega (arith, z .last e .1 o)))
+        some : suc i ≡ count → 0 < i → eqb size 0 ≡ false
+        some e o = ne-eqb size 0 (λ q. absurd (omega (arith, z .last e .1 o)))
 
         go : (a b c : Bool) → eqb count 1 ≡ a → eqb i 0 ≡ b → eqb (i + 1) count ≡ c
             → cond (leb 2 (cond a 4 (cond b 0 (cond c 2 1))))
-            ((eqb (cond a 4 (cond b 0 (cond c 2 1))) 2 && eqb net 0) || ltb pmtu net)
-            (not (eqb net pmtu))
+            ((eqb (cond a 4 (cond b 0 (cond c 2 1))) 2 && eqb size 0) || ltb pmtu size)
+            (not (eqb size pmtu))
             ≡ false
         go true b c e f g = rest (omega (arith, tests))
-        go false true c e f g = ap not (eq-eqb net pmtu (z .more (omega (arith, tests)) .0))
+        go false true c e f g = ap not (eq-eqb size pmtu (z .more (omega (arith, tests)) .0))
         go false false true e f g = rw (some (omega (arith, tests)) (omega (arith, tests))) (rest (omega (arith, tests)))
-        go false false false e f g = ap not (eq-eqb net pmtu (z .more (omega (arith, tests)) .0))
+        go false false false e f g = ap not (eq-eqb size pmtu (z .more (omega (arith, tests)) .0))
 
-    pub pad-late : pmtu % 4 ≡ 0 → padEarly (placeAt count i) (padOf net) ≡ false
+    pub pad-late : pmtu % 4 ≡ 0 → padEarly (placeAt count i) (padOf size) ≡ false
     unfolding padEarly padOf
     pad-late q = rw ends-at (go (eqb (suc i) count) refl)
       where
-        go : (b : Bool) → eqb (suc i) count ≡ b → (not b && not (eqb (padOf net) 0)) ≡ false
+        go : (b : Bool) → eqb (suc i) count ≡ b → (not b && not (eqb (padOf size) 0)) ≡ false
         go true e = refl
         go false e =
             let l : suc i < count = omega (arith, tests) in
-            let w : net ≡ pmtu = z .more l .0 in
-            ap not (eq-eqb (padOf net) 0 (omega arith))
+            let w : size ≡ pmtu = z .more l .0 in
+            ap not (eq-eqb (padOf size) 0 (omega arith))

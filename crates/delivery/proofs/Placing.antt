@@ -9,7 +9,7 @@ use lib.ListN.{length, getD, take, drop}
 use Rattle.lemmas.proofs.Auto.{tests}
 use Rattle.lemmas.proofs.Tests.{and-left}
 use Rattle.header.specs.Write.{headerLength}
-use Rattle.memory.specs.Memory.{placed}
+use Rattle.memory.specs.Memory.{store}
 use Rattle.pmtu.specs.Pieces.{ends, pieceAt}
 use Rattle.sequence.specs.declared.Msn.{Msn}
 use Rattle.pair.specs.Answer.{statusNumber}
@@ -20,13 +20,13 @@ use Rattle.pair.specs.declared.OpenMessage.{OpenMessage}
 use Rattle.pair.specs.declared.ReadAnswer.{ReadAnswer}
 use Rattle.table.specs.declared.Entry.{Entry}
 use Rattle.cut_spec.specs.Claims.{kindNumber}
-use Rattle.request_spec.specs.Verdict.{netOf, current}
-use Rattle.responder_spec.specs.Decide.{noCompletion, completes, completionOf, grown, placing, placeOf}
+use Rattle.request_spec.specs.Verdict.{payloadSize, current}
+use Rattle.responder_spec.specs.Decide.{noCompletion, completes, completionOf, messageAfter, storePayload, targetOffset}
 use Rattle.responder_spec.specs.Apply.{memoryBy, readBy}
 use Rattle.responder_spec.specs.Calls.{reports}
 use Rattle.responder_spec.specs.declared.Completion.{Completion}
-use Rattle.delivery.specs.Stream.{Slot, span, packetAt}
-use Rattle.delivery.specs.Plain.{takes, completionFor, isLast, isRead}
+use Rattle.delivery.specs.Stream.{Slot, psnCount, packetAt}
+use Rattle.delivery.specs.Plain.{takesEntry, completionFor, isLast, isRead}
 use Rattle.delivery.proofs.Chain.{Stands, further}
 use Rattle.delivery.proofs.Cutting.{headerFor, netFor, placeFor, cutPacket, carried-is, sizes}
 use Rattle.delivery.proofs.Rel.{IsOf, Under}
@@ -34,82 +34,82 @@ use Rattle.delivery.proofs.Checks.{ends-is, says, now}
 use Rattle.delivery.proofs.Operands.{immediateOf}
 use Rattle.delivery.proofs.Requests.{Carries}
 
-module _ (s : Setup) (regions : List (List ℕ)) (f : SetupFit s) (t : Slot) (h : Stands s regions t) (under : OpenMessage) (held : List Entry)
-    (U : Under (eqb (t .index) 0) t under held) (C : Carries (t .message .request)) (entry region : List ℕ) where
+module _ (s : Setup) (regions : List (List ℕ)) (f : SetupFit s) (t : Slot) (h : Stands s regions t) (opened : OpenMessage) (held : List Entry)
+    (U : Under (eqb (t .index) 0) t opened held) (C : Carries (t .message .request)) (entry region : List ℕ) where
   abbrev pub M : OpenMessage
-  M = current under (cutPacket t)
+  M = current opened (cutPacket t)
 
-  pub placing-answers : statusNumber (placing (cutPacket t) M entry region .status) ≤ 3
-  unfolding placing statusNumber
+  pub placing-answers : statusNumber (storePayload (cutPacket t) M entry region .status) ≤ 3
+  unfolding storePayload statusNumber
   placing-answers = go (cutPacket t .ackreq)
     where
       go : (b : Bool) → statusNumber (cond b status.Acknowledged status.Executed) ≤ 3
       go true = omega arith
       go false = omega arith
 
-  pub placing-numbers : placing (cutPacket t) M entry region .numbers ≡ span t
-  unfolding placing
-  placing-numbers = sym (C .span (t .message .connection .pmtu))
+  pub placing-numbers : storePayload (cutPacket t) M entry region .psns ≡ psnCount t
+  unfolding storePayload
+  placing-numbers = sym (C .psnCount (t .message .connection .pmtu))
 
-  pub placing-ends : placing (cutPacket t) M entry region .ends ≡ isLast t
-  unfolding placing
-  placing-ends = ends-is s regions f t h under held U
+  pub placing-ends : storePayload (cutPacket t) M entry region .ends ≡ isLast t
+  unfolding storePayload
+  placing-ends = ends-is s regions f t h opened held U
 
   pub placing-reads : (a : ReadAnswer) (msn : Msn) (r : ℕ) → a .remaining ≡ r
-      → readBy (placing (cutPacket t) M entry region) a msn .remaining ≡ cond (isRead (t .message .request)) (span t) r
-  unfolding placing readBy
-  placing-reads a msn r e = e ∙ ap (λ b. cond b (span t) r) (sym (C .read))
+      → readBy (storePayload (cutPacket t) M entry region) a msn .remaining ≡ cond (isRead (t .message .request)) (psnCount t) r
+  unfolding storePayload readBy
+  placing-reads a msn r e = e ∙ ap (λ b. cond b (psnCount t) r) (sym (C .read))
 
-  pub net-is : netOf (cutPacket t) ≡ netFor t
-  unfolding netOf
+  pub net-is : payloadSize (cutPacket t) ≡ netFor t
+  unfolding payloadSize
   net-is = omega arith
 
   -- the bytes placed are the message's piece
   pub placing-bytes : (m : List ℕ)
-      → memoryBy (placing (cutPacket t) M entry region) m (packetAt t)
-      ≡ placed m (placeOf (kindNumber (t .message .request)) M entry region) (pieceAt (t .message .bytes) (t .message .connection .pmtu) (t .index))
-  unfolding placing memoryBy
+      → memoryBy (storePayload (cutPacket t) M entry region) m (packetAt t)
+      ≡ store m (targetOffset (kindNumber (t .message .request)) M entry region) (pieceAt (t .message .bytes) (t .message .connection .pmtu) (t .index))
+  unfolding storePayload memoryBy
   placing-bytes m =
-      let n : headerLength (headerFor t) + netOf (cutPacket t) - headerLength (headerFor t) ≡ netFor t = omega (arith, net-is) in
-      ap (placed m (placeOf (kindNumber (t .message .request)) M entry region))
-      (ap (λ k. take k (drop (headerLength (headerFor t)) (packetAt t))) n ∙ (carried-is s f t (h .sent) ∙ C .payload (t .message .connection) (t .message .bytes) (t .index)))
+      let n : headerLength (headerFor t) + payloadSize (cutPacket t) - headerLength (headerFor t) ≡ netFor t = omega (arith, net-is) in
+      ap (store m (targetOffset (kindNumber (t .message .request)) M entry region))
+      (ap (λ k. take k (drop (headerLength (headerFor t)) (packetAt t))) n ∙ (carried-is s f t (h .outgoing) ∙ C .payload (t .message .connection) (t .message .bytes) (t .index)))
 
   pub length-piece : length (pieceAt (t .message .bytes) (t .message .connection .pmtu) (t .index)) ≡ netFor t
   length-piece = sym (ap length (C .payload (t .message .connection) (t .message .bytes) (t .index)))
 
   -- the message that stays open
-  pub grown-last : isLast t ≡ true → grown (placeFor t) M (netOf (cutPacket t)) .kind ≡ 255
-  unfolding grown
-  grown-last e = rw (ends-is s regions f t h under held U ∙ e)
+  pub grown-last : isLast t ≡ true → messageAfter (placeFor t) M (payloadSize (cutPacket t)) .kind ≡ 255
+  unfolding messageAfter
+  grown-last e = rw (ends-is s regions f t h opened held U ∙ e)
 
-  pub grown-more : isLast t ≡ false → IsOf (further t) (grown (placeFor t) M (netOf (cutPacket t)))
-  unfolding grown
+  pub grown-more : isLast t ≡ false → IsOf (further t) (messageAfter (placeFor t) M (payloadSize (cutPacket t)))
+  unfolding messageAfter
   grown-more e =
-      let N = now s regions f t h under held U in
-      let z = sizes s f t (h .sent) (C .carrier) .more (omega (arith, tests, h .sent .inside)) in
-      rw (ends-is s regions f t h under held U ∙ e)
-      (record { kind = N .kind; placed = omega (arith, N .placed, net-is, z .0); address = N .address; key = N .key; length = N .length })
+      let N = now s regions f t h opened held U in
+      let z = sizes s f t (h .outgoing) (C .carrier) .more (omega (arith, tests, h .outgoing .inside)) in
+      rw (ends-is s regions f t h opened held U ∙ e)
+      (record { kind = N .kind; stored = omega (arith, N .stored, net-is, z .0); address = N .address; key = N .key; length = N .length })
 
   -- what is told where a message with an entry ends
-  module _ (e : Entry) (completing : completes (kindNumber (t .message .request)) (placeFor t) (cutPacket t .operands .immediate) ≡ (isLast t && takes (t .message .request)))
-      (number : (isLast t && takes (t .message .request)) ≡ true → getD entry 0 0 ≡ e .number)
-      (long : isLast t ≡ true → cond (eqb (kindNumber (t .message .request)) 0) (M .placed + netOf (cutPacket t)) (M .length) ≡ length (t .message .bytes)) where
-    abbrev told : Completion
-    told =
+  module _ (e : Entry) (completing : completes (kindNumber (t .message .request)) (placeFor t) (cutPacket t .operands .immediate) ≡ (isLast t && takesEntry (t .message .request)))
+      (number : (isLast t && takesEntry (t .message .request)) ≡ true → getD entry 0 0 ≡ e .number)
+      (long : isLast t ≡ true → cond (eqb (kindNumber (t .message .request)) 0) (M .stored + payloadSize (cutPacket t)) (M .length) ≡ length (t .message .bytes)) where
+    abbrev completionWith : Completion
+    completionWith =
         record {
           some = true;
           number = getD entry 0 0;
-          length = cond (eqb (kindNumber (t .message .request)) 0) (M .placed + netOf (cutPacket t)) (M .length);
+          length = cond (eqb (kindNumber (t .message .request)) 0) (M .stored + payloadSize (cutPacket t)) (M .length);
           immediate = cutPacket t .operands .immediate;
           value = cutPacket t .operands .value;
         }
 
-    told-is : (isLast t && takes (t .message .request)) ≡ true
-        → told ≡ completionFor (t .message .request) e (length (t .message .bytes))
+    told-is : (isLast t && takesEntry (t .message .request)) ≡ true
+        → completionWith ≡ completionFor (t .message .request) e (length (t .message .bytes))
     told-is q =
-        let W = says s regions f t h under in
-        let l : isLast t ≡ true = and-left (isLast t) (takes (t .message .request)) q in
-        let o : ends (placeFor t) ≡ true = ends-is s regions f t h under held U ∙ l in
+        let W = says s regions f t h opened in
+        let l : isLast t ≡ true = and-left (isLast t) (takesEntry (t .message .request)) q in
+        let o : ends (placeFor t) ≡ true = ends-is s regions f t h opened held U ∙ l in
         (λ k.
         record {
           some = true;
@@ -120,13 +120,13 @@ module _ (s : Setup) (regions : List (List ℕ)) (f : SetupFit s) (t : Slot) (h 
         })
         ∙ sym (C .completion e (length (t .message .bytes)))
 
-    pub placing-told : (reports (completionOf (cutPacket t) M (getD entry 0 0)) ≡ cond (isLast t && takes (t .message .request)) (completionFor (t .message .request) e (length (t .message .bytes)) ∷ []) [])
-        × (completionOf (cutPacket t) M (getD entry 0 0) .some ≡ (isLast t && takes (t .message .request)))
+    pub placing-told : (reports (completionOf (cutPacket t) M (getD entry 0 0)) ≡ cond (isLast t && takesEntry (t .message .request)) (completionFor (t .message .request) e (length (t .message .bytes)) ∷ []) [])
+        × (completionOf (cutPacket t) M (getD entry 0 0) .some ≡ (isLast t && takesEntry (t .message .request)))
     unfolding completionOf
-    placing-told = rw completing (go (isLast t && takes (t .message .request)) refl)
+    placing-told = rw completing (go (isLast t && takesEntry (t .message .request)) refl)
       where
-        go : (b : Bool) → (isLast t && takes (t .message .request)) ≡ b
-            → (reports (cond b told noCompletion) ≡ cond b (completionFor (t .message .request) e (length (t .message .bytes)) ∷ []) [])
-            × (cond b told noCompletion .some ≡ b)
+        go : (b : Bool) → (isLast t && takesEntry (t .message .request)) ≡ b
+            → (reports (cond b completionWith noCompletion) ≡ cond b (completionFor (t .message .request) e (length (t .message .bytes)) ∷ []) [])
+            × (cond b completionWith noCompletion .some ≡ b)
         go true q = (ap (λ c. c ∷ []) (told-is q), refl)
         go false q = (refl, refl)

@@ -17,15 +17,15 @@ use Rattle.responder_spec.specs.Apply.{pairBy, memoryBy, savedBy, with}
 use Rattle.responder_spec.specs.Calls.{reports}
 use Rattle.responder_spec.specs.declared.Completion.{Completion}
 use Rattle.responder_spec.specs.declared.Decision.{Decision}
-use Rattle.delivery.specs.Stream.{Message, Slot, slot, along}
-use Rattle.delivery.specs.Plain.{Plain, sending}
+use Rattle.delivery.specs.Stream.{Message, Slot, slot, numberAlong}
+use Rattle.delivery.specs.Plain.{Plain, withResponses}
 use Rattle.delivery.specs.Demand.{Run, AllLongEnough, entryOf}
 use Rattle.delivery.proofs.Operands.{addressOf, keyOf, namedOf}
 
 -- the message u is of the kind k, with so many bytes placed, and names the bytes
 pub record Is (k off at y n : ℕ) (u : OpenMessage) : Type 0 where
   pub kind : u .kind ≡ k
-  pub placed : u .placed ≡ off
+  pub stored : u .stored ≡ off
   pub address : u .address ≡ at
   pub key : u .key ≡ y
   pub length : u .length ≡ n
@@ -60,9 +60,9 @@ pub record Link (ms : List Message) (S : List Slot) (p : Plain) (x : Run) : Type
   pub memory : x .memory ≡ p .memory
   pub completions : x .completions ≡ p .completions
   pub within : p .k ≤ length S
-  pub number : p .expected .0 ≡ after (x .whole .pair .setup .start .0) (along S (p .k))
+  pub number : p .expected .0 ≡ after (x .whole .pair .setup .start .0) (numberAlong S (p .k))
   pub long : AllLongEnough ms (p .waiting)
-  pub under : Under (eqb (slot S (p .k) .index) 0) (slot S (p .k)) (x .whole .pair .message) (p .held)
+  pub opened : Under (eqb (slot S (p .k) .index) 0) (slot S (p .k)) (x .whole .pair .message) (p .held)
 
 -- what a decision d about the packet b leads to
 abbrev pub stepBy : Run → Decision → List ℕ → Run
@@ -81,11 +81,11 @@ stepBy x d b =
 
 -- another mark and another READ being answered
 abbrev pub eased : Run → Bool → ReadAnswer → List Completion → Run
-eased x mark reads completions =
+eased x nakmark reads completions =
     record {
       whole =
           record {
-            pair = with (x .whole .pair) (x .whole .pair .state) mark reads;
+            pair = with (x .whole .pair) (x .whole .pair .state) nakmark reads;
             regions = x .whole .regions;
             entries = x .whole .entries;
             saved = x .whole .saved;
@@ -94,8 +94,8 @@ eased x mark reads completions =
       completions = completions;
     }
 
-module _ {ms : List Message} {S : List Slot} {p : Plain} {x : Run} (L : Link ms S p x) (mark : Bool) (a : ReadAnswer) (r : ℕ) (e : a .remaining ≡ r) where
-  pub reads-on : (cs : List Completion) → cs ≡ p .completions → Link ms S (sending p r) (eased x mark a cs)
+module _ {ms : List Message} {S : List Slot} {p : Plain} {x : Run} (L : Link ms S p x) (nakmark : Bool) (a : ReadAnswer) (r : ℕ) (e : a .remaining ≡ r) where
+  pub reads-on : (cs : List Completion) → cs ≡ p .completions → Link ms S (withResponses p r) (eased x nakmark a cs)
   reads-on cs c =
       record {
         ready = L .ready;
@@ -108,9 +108,9 @@ module _ {ms : List Message} {S : List Slot} {p : Plain} {x : Run} (L : Link ms 
         within = L .within;
         number = L .number;
         long = L .long;
-        under = L .under;
+        opened = L .opened;
       }
 
   -- a decision that tells of no completion
-  pub eases : Link ms S (sending p r) (eased x mark a (x .completions ++ []))
+  pub eases : Link ms S (withResponses p r) (eased x nakmark a (x .completions ++ []))
   eases = reads-on (x .completions ++ []) (append-nil (x .completions) ∙ L .completions)

@@ -5,7 +5,7 @@ use mathlib.Core.Bool.{Bool, true, false, cond, _&&_}
 use mathlib.Core.List.{List, [], _∷_}
 use lib.Dec.{ltb, eqb}
 use lib.ListN.{length}
-use Rattle.memory.specs.Memory.{put}
+use Rattle.memory.specs.Memory.{overwrite}
 use Rattle.memory.specs.Word.{fetchAdded, swapped}
 use Rattle.pmtu.specs.Pieces.{pieces, pieceAt}
 use Rattle.table.specs.declared.Entry.{Entry}
@@ -25,9 +25,9 @@ use Rattle.request_spec.specs.Packet.{operandsOf}
 use Rattle.request_spec.specs.Verdict.{rightOf}
 use Rattle.responder_spec.specs.Apply.{memoryBy}
 use Rattle.responder_spec.specs.declared.Decision.{Decision}
-use Rattle.delivery.specs.Stream.{spanOf}
-use Rattle.delivery.specs.Plain.{needs, takes, told, completionFor, lies, landed, isRead}
-use Rattle.delivery.specs.Demand.{Lies, Allowed, AtLeast}
+use Rattle.delivery.specs.Stream.{psnCountOf}
+use Rattle.delivery.specs.Plain.{needs, takesEntry, completionWith, completionFor, regionOffset, memoryAfter, isRead}
+use Rattle.delivery.specs.Demand.{InRegion, Allowed, AtLeast}
 use Rattle.delivery.proofs.Operands.{keyOf, addressOf, namedOf, immediateOf, valueOf}
 use Rattle.delivery.proofs.Rel.{Holding}
 use Rattle.delivery.proofs.Fitting.{Suits, swap-right, add-right}
@@ -35,16 +35,16 @@ use Rattle.delivery.proofs.Fitting.{Suits, swap-right, add-right}
 -- SENDs and WRITEs
 pub record Carries (r : Request) : Type 0 where
   pub carrier : Carrier r
-  pub span : (pmtu : ℕ) → spanOf r pmtu ≡ 1
+  pub psnCount : (pmtu : ℕ) → psnCountOf r pmtu ≡ 1
   pub read : isRead r ≡ false
-  pub completion : (e : Entry) (n : ℕ) → completionFor r e n ≡ told e n (immediateOf r) (valueOf r)
+  pub completion : (e : Entry) (n : ℕ) → completionFor r e n ≡ completionWith e n (immediateOf r) (valueOf r)
   pub payload : (c : Connection) (d : List ℕ) (i : ℕ) → payloadAt c r d i ≡ pieceAt d (c .pmtu) i
 
 pub record Sends (r : Request) : Type 0 where
   pub kind : kindNumber r ≡ 0
-  pub takes : takes r ≡ true
+  pub takesEntry : takesEntry r ≡ true
   pub needs : (i n : ℕ) → needs r i n ≡ eqb i 0
-  pub lands : (regions : List (List ℕ)) (pmtu : ℕ) (d : List ℕ) (i : ℕ) (e : Entry) (m : List ℕ) → landed r regions pmtu d i e m ≡ put m (e .offset + i * pmtu) (pieceAt d pmtu i)
+  pub lands : (regions : List (List ℕ)) (pmtu : ℕ) (d : List ℕ) (i : ℕ) (e : Entry) (m : List ℕ) → memoryAfter r regions pmtu d i e m ≡ overwrite m (e .offset + i * pmtu) (pieceAt d pmtu i)
   pub holding : (n : ℕ) (held : List Entry) (e : Entry) → held ≡ e ∷ [] → n ≤ e .length → Holding r n held
   pub held : (n : ℕ) (held : List Entry) → Holding r n held → (e : Entry) × (held ≡ e ∷ []) × (n ≤ e .length)
   pub suits : (n most : ℕ) → n ≤ most → Suits r n most
@@ -52,44 +52,44 @@ pub record Sends (r : Request) : Type 0 where
 
 pub record Writes (r : Request) : Type 0 where
   pub kind : kindNumber r ≡ 6
-  pub takes : takes r ≡ immediateOf r
+  pub takesEntry : takesEntry r ≡ immediateOf r
   pub needs : (i n : ℕ) → needs r i n ≡ (eqb (suc i) n && immediateOf r)
-  pub lands : (regions : List (List ℕ)) (pmtu : ℕ) (d : List ℕ) (i : ℕ) (e : Entry) (m : List ℕ) → landed r regions pmtu d i e m ≡ put m (lies regions (keyOf r) (addressOf r) + i * pmtu) (pieceAt d pmtu i)
+  pub lands : (regions : List (List ℕ)) (pmtu : ℕ) (d : List ℕ) (i : ℕ) (e : Entry) (m : List ℕ) → memoryAfter r regions pmtu d i e m ≡ overwrite m (regionOffset regions (keyOf r) (addressOf r) + i * pmtu) (pieceAt d pmtu i)
   pub holding : (n : ℕ) (held : List Entry) → held ≡ [] → Holding r n held
   pub held : (n : ℕ) (held : List Entry) → Holding r n held → held ≡ []
   pub suits : (n most : ℕ) → Suits r n most
-  pub right : (s : Setup) (regions : List (List ℕ)) (n : ℕ) → Allowed s regions r n → Lies regions (λ x. x .write) (keyOf r) (addressOf r) n
+  pub right : (s : Setup) (regions : List (List ℕ)) (n : ℕ) → Allowed s regions r n → InRegion regions (λ x. x .write) (keyOf r) (addressOf r) n
   pub named : (n : ℕ) → namedOf r n ≡ n
 
 -- READs and atomics: one packet, no entry
 pub record Single (r : Request) : Type 0 where
   pub bare : Carrier r → ⊥
-  pub takes : takes r ≡ false
+  pub takesEntry : takesEntry r ≡ false
   pub needs : (i n : ℕ) → needs r i n ≡ false
   pub suits : (n most : ℕ) → Suits r n most
   pub immediate : immediateOf r ≡ false
 
 pub send-carries : Carries Send
 unfolding payloadAt carried carries
-send-carries = record { carrier = tt; span = λ m. refl; read = refl; completion = λ e n. refl; payload = λ c d i. refl }
+send-carries = record { carrier = tt; psnCount = λ m. refl; read = refl; completion = λ e n. refl; payload = λ c d i. refl }
 
 pub send-imm-carries : (v : ℕ) → Carries (SendImmediate v)
 unfolding payloadAt carried carries
-send-imm-carries v = record { carrier = tt; span = λ m. refl; read = refl; completion = λ e n. refl; payload = λ c d i. refl }
+send-imm-carries v = record { carrier = tt; psnCount = λ m. refl; read = refl; completion = λ e n. refl; payload = λ c d i. refl }
 
 pub write-carries : (t : Target) → Carries (Write t)
 unfolding payloadAt carried carries
-write-carries t = record { carrier = tt; span = λ m. refl; read = refl; completion = λ e n. refl; payload = λ c d i. refl }
+write-carries t = record { carrier = tt; psnCount = λ m. refl; read = refl; completion = λ e n. refl; payload = λ c d i. refl }
 
 pub write-imm-carries : (t : Target) (v : ℕ) → Carries (WriteImmediate t v)
 unfolding payloadAt carried carries
-write-imm-carries t v = record { carrier = tt; span = λ m. refl; read = refl; completion = λ e n. refl; payload = λ c d i. refl }
+write-imm-carries t v = record { carrier = tt; psnCount = λ m. refl; read = refl; completion = λ e n. refl; payload = λ c d i. refl }
 
 pub send-sends : Sends Send
 send-sends =
     record {
       kind = refl;
-      takes = refl;
+      takesEntry = refl;
       needs = λ i n. refl;
       lands = λ g p d i e m. refl;
       holding = λ n h e q l. (e, q, l);
@@ -102,7 +102,7 @@ pub send-imm-sends : (v : ℕ) → Sends (SendImmediate v)
 send-imm-sends v =
     record {
       kind = refl;
-      takes = refl;
+      takesEntry = refl;
       needs = λ i n. refl;
       lands = λ g p d i e m. refl;
       holding = λ n h e q l. (e, q, l);
@@ -123,7 +123,7 @@ pub write-writes : (t : Target) → Writes (Write t)
 write-writes t =
     record {
       kind = refl;
-      takes = refl;
+      takesEntry = refl;
       needs = λ i n. and-false (eqb (suc i) n);
       lands = λ g p d i e m. refl;
       holding = λ n h q. q;
@@ -137,7 +137,7 @@ pub write-imm-writes : (t : Target) (v : ℕ) → Writes (WriteImmediate t v)
 write-imm-writes t v =
     record {
       kind = refl;
-      takes = refl;
+      takesEntry = refl;
       needs = λ i n. true-and (eqb (suc i) n);
       lands = λ g p d i e m. refl;
       holding = λ n h q. q;
@@ -148,22 +148,22 @@ write-imm-writes t v =
     }
 
 pub read-single : (a : Reth) → Single (Read a)
-read-single a = record { bare = λ c. c; takes = refl; needs = λ i n. refl; suits = λ n most. tt; immediate = refl }
+read-single a = record { bare = λ c. c; takesEntry = refl; needs = λ i n. refl; suits = λ n most. tt; immediate = refl }
 
 pub swap-single : (a : AtomicEth) → Single (CmpSwap a)
-swap-single a = record { bare = λ c. c; takes = refl; needs = λ i n. refl; suits = λ n most. tt; immediate = refl }
+swap-single a = record { bare = λ c. c; takesEntry = refl; needs = λ i n. refl; suits = λ n most. tt; immediate = refl }
 
 pub add-single : (t : Target) (v : ℕ) → Single (FetchAdd t v)
-add-single t v = record { bare = λ c. c; takes = refl; needs = λ i n. refl; suits = λ n most. tt; immediate = refl }
+add-single t v = record { bare = λ c. c; takesEntry = refl; needs = λ i n. refl; suits = λ n most. tt; immediate = refl }
 
 pub record Reads (r : Request) : Type 0 where
   pub kind : kindNumber r ≡ 12
   pub read : isRead r ≡ true
-  pub span : (n pmtu : ℕ) → spanOf r pmtu ≡ pieces (namedOf r n) pmtu
-  pub lands : (regions : List (List ℕ)) (pmtu : ℕ) (d : List ℕ) (i : ℕ) (e : Entry) (m : List ℕ) → landed r regions pmtu d i e m ≡ m
+  pub psnCount : (n pmtu : ℕ) → psnCountOf r pmtu ≡ pieces (namedOf r n) pmtu
+  pub lands : (regions : List (List ℕ)) (pmtu : ℕ) (d : List ℕ) (i : ℕ) (e : Entry) (m : List ℕ) → memoryAfter r regions pmtu d i e m ≡ m
 
 pub reads-reads : (a : Reth) → Reads (Read a)
-reads-reads a = record { kind = refl; read = refl; span = λ n pmtu. refl; lands = λ g p d i e m. refl }
+reads-reads a = record { kind = refl; read = refl; psnCount = λ n pmtu. refl; lands = λ g p d i e m. refl }
 
 -- FetchAdd and CmpSwap: what either does to memory, by the act of its decision
 pub record Swaps (r : Request) (k act : ℕ) (does : List ℕ → ℕ → ℕ → ℕ → List ℕ) : Type 0 where
@@ -172,11 +172,11 @@ pub record Swaps (r : Request) (k act : ℕ) (does : List ℕ → ℕ → ℕ �
   pub act-is : cond (eqb k 20) 2 3 ≡ act
   pub acts : (d : Decision) (m b : List ℕ) → d .act ≡ act → memoryBy d m b ≡ does m (d .at) (d .compare) (d .swap)
   pub read : isRead r ≡ false
-  pub span : (pmtu : ℕ) → spanOf r pmtu ≡ 1
+  pub psnCount : (pmtu : ℕ) → psnCountOf r pmtu ≡ 1
   pub named : (n : ℕ) → namedOf r n ≡ 8
-  pub right : (s : Setup) (regions : List (List ℕ)) (n : ℕ) → Allowed s regions r n → Lies regions (λ x. x .atomic) (keyOf r) (addressOf r) 8
+  pub right : (s : Setup) (regions : List (List ℕ)) (n : ℕ) → Allowed s regions r n → InRegion regions (λ x. x .atomic) (keyOf r) (addressOf r) 8
   pub rights : (x : Region) → rightOf k (regionRow x) ≡ cond (x .atomic) 1 0
-  pub lands : (n place : ℕ) (regions : List (List ℕ)) (pmtu : ℕ) (d : List ℕ) (i : ℕ) (e : Entry) (m : List ℕ) → landed r regions pmtu d i e m ≡ does m (lies regions (keyOf r) (addressOf r)) (operandsOf (extensionFor r n place) .compare) (operandsOf (extensionFor r n place) .swap)
+  pub lands : (n place : ℕ) (regions : List (List ℕ)) (pmtu : ℕ) (d : List ℕ) (i : ℕ) (e : Entry) (m : List ℕ) → memoryAfter r regions pmtu d i e m ≡ does m (regionOffset regions (keyOf r) (addressOf r)) (operandsOf (extensionFor r n place) .compare) (operandsOf (extensionFor r n place) .swap)
 
 pub adds-swaps : (t : Target) (v : ℕ) → Swaps (FetchAdd t v) 20 2 (λ m at c w. fetchAdded m at w)
 unfolding memoryBy operandsOf extensionFor fetchAddEth
@@ -187,7 +187,7 @@ adds-swaps t v =
       act-is = refl;
       acts = λ d m b e. rw e;
       read = refl;
-      span = λ p. refl;
+      psnCount = λ p. refl;
       named = λ n. refl;
       right = λ s g n a. a .1;
       rights = add-right;
@@ -203,7 +203,7 @@ swaps-swaps a =
       act-is = refl;
       acts = λ d m b e. rw e;
       read = refl;
-      span = λ p. refl;
+      psnCount = λ p. refl;
       named = λ n. refl;
       right = λ s g n b. b .1;
       rights = swap-right;

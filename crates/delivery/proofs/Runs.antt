@@ -21,9 +21,9 @@ use Rattle.responder_spec.specs.Calls.{received, drained}
 use Rattle.responder_spec.specs.Kept.{Steady, InboundSteady, NextSteady, PostSteady}
 use Rattle.responder_spec.specs.declared.Decision.{Decision}
 use Rattle.delivery.specs.Stream.{Message, Slot, slot, stream, packetAt}
-use Rattle.delivery.specs.Plain.{Plain, Call, account, plain, start}
+use Rattle.delivery.specs.Plain.{Plain, Call, plainStep, plain, start}
 use Rattle.delivery.specs.Plain.Call.{Hand, Next, Post}
-use Rattle.delivery.specs.Demand.{Run, step, run, Fresh, AllLongEnough, Meets, AllMeet, waitingAt, Agree, Delivery}
+use Rattle.delivery.specs.Demand.{Run, step, run, Fresh, AllLongEnough, CallPermitted, AllCallsPermitted, waitingAt, Agree, Delivery}
 use Rattle.delivery.proofs.Chain.{Good, good, along-zero, reliable-serves}
 use Rattle.delivery.proofs.Cutting.{psn-small}
 use Rattle.delivery.proofs.Rel.{Link, Under}
@@ -60,18 +60,18 @@ module _ (inbound-steady : InboundSteady) (next-steady : NextSteady) (post-stead
   abbrev Going : Setup → List (List ℕ) → Type 0
   Going s regions = Good s regions ms S
 
-  pub steady-next : (p : Plain) (x : Run) → Steady (x .whole) → Going (x .whole .pair .setup) (x .whole .regions) → (c : Call) → Meets (x .whole .pair .setup) ms S p c
+  pub steady-next : (p : Plain) (x : Run) → Steady (x .whole) → Going (x .whole .pair .setup) (x .whole .regions) → (c : Call) → CallPermitted (x .whole .pair .setup) ms S p c
       → Steady (step S x c .whole)
   unfolding step
   steady-next p x Y G (Hand j out) m =
       inbound-steady (x .whole) (x .memory) (packetAt (slot S j)) out
-      (psn-small (x .whole .pair .setup) (Y .pair .setup .0) (slot S j) ((G .stands j (m .inside)) .sent)) Y
+      (psn-small (x .whole .pair .setup) (Y .pair .setup .0) (slot S j) ((G .stands j (m .inside)) .outgoing)) Y
   steady-next p x Y G (Next out) m = next-steady (x .whole) (x .memory) out Y
   steady-next p x Y G (Post e) m = post-steady (x .whole) e Y
 
   pub linked : (p : Plain) (x : Run) → Link ms S p x → Steady (x .whole) → Going (x .whole .pair .setup) (x .whole .regions)
-      → x .whole .pair .setup .service ≡ 0 → (c : Call) → Meets (x .whole .pair .setup) ms S p c
-      → Link ms S (account (x .whole .pair .setup) (x .whole .regions) S p c) (step S x c)
+      → x .whole .pair .setup .service ≡ 0 → (c : Call) → CallPermitted (x .whole .pair .setup) ms S p c
+      → Link ms S (plainStep (x .whole .pair .setup) (x .whole .regions) S p c) (step S x c)
   linked p x L Y G R (Hand j out) m = hand ms S p x L Y G R j out m
   linked p x L Y G R (Next out) m = next ms S p x L Y G out
   linked p x L Y G R (Post e) m = post ms S p x L Y G e m
@@ -81,16 +81,16 @@ module _ (inbound-steady : InboundSteady) (next-steady : NextSteady) (post-stead
       → x .whole .regions ≡ regions
       → Link ms S p x
       → Steady (x .whole)
-      → AllMeet s regions ms S p calls
+      → AllCallsPermitted s regions ms S p calls
       → Agree (run S x calls) (plain s regions S p calls)
   unfolding run plain
   all s regions G R [] p x es er L Y m = record { memory = L .memory; completions = L .completions; msn = L .msn; expected = L .expected }
   all s regions G R (c ∷ cs) p x es er L Y m =
       let H : Going (x .whole .pair .setup) (x .whole .regions) = subst (λ r. Going (x .whole .pair .setup) r) (sym er) (subst (λ z. Going z regions) (sym es) G) in
-      let n : Meets (x .whole .pair .setup) ms S p c = subst (λ z. Meets z ms S p c) (sym es) (m .0) in
-      let L1 : Link ms S (account s regions S p c) (step S x c) =
-      subst (λ r. Link ms S (account s r S p c) (step S x c)) er (subst (λ z. Link ms S (account z (x .whole .regions) S p c) (step S x c)) es (linked p x L Y H (ap (λ z. z .service) es ∙ R) c n)) in
-      all s regions G R cs (account s regions S p c) (step S x c) (setup-kept S x c .is ∙ es) (regions-kept S x c ∙ er) L1 (steady-next p x Y H c n) (m .1)
+      let n : CallPermitted (x .whole .pair .setup) ms S p c = subst (λ z. CallPermitted z ms S p c) (sym es) (m .0) in
+      let L1 : Link ms S (plainStep s regions S p c) (step S x c) =
+      subst (λ r. Link ms S (plainStep s r S p c) (step S x c)) er (subst (λ z. Link ms S (plainStep z (x .whole .regions) S p c) (step S x c)) es (linked p x L Y H (ap (λ z. z .service) es ∙ R) c n)) in
+      all s regions G R cs (plainStep s regions S p c) (step S x c) (setup-kept S x c .is ∙ es) (regions-kept S x c ∙ er) L1 (steady-next p x Y H c n) (m .1)
 
 -- a fresh pair stands where the plain run starts
 pub fresh-link : (w : Whole) (ms : List Message) (m : List ℕ) → Fresh w → AllLongEnough ms (waitingAt w)
@@ -109,7 +109,7 @@ fresh-link w ms m F l G =
       within = omega arith;
       number = omega (arith, along-zero S, F .sound .pair .setup .0 .start);
       long = l;
-      under = subst (λ b. Under b (slot S 0) (w .pair .message) []) (sym (eq-eqb (slot S 0 .index) 0 (G .opening))) (F .message, refl);
+      opened = subst (λ b. Under b (slot S 0) (w .pair .message) []) (sym (eq-eqb (slot S 0 .index) 0 (G .opening))) (F .message, refl);
     }
 
 -- a pair that calls made is sound but for what is saved

@@ -8,7 +8,7 @@ use lib.Dec.{eqb}
 use lib.ListN.{length, getD, take, drop, take-append-drop}
 use borrow.Author.Tests.{ltb-false}
 use Rattle.lemmas.proofs.Tests.{and-true}
-use Rattle.memory.specs.Memory.{put}
+use Rattle.memory.specs.Memory.{overwrite}
 use Rattle.pmtu.specs.Pieces.{ends, pieceAt}
 use Rattle.table.specs.Table.{outside}
 use Rattle.table.specs.View.{inRing}
@@ -16,13 +16,13 @@ use Rattle.table.specs.declared.Entry.{Entry}
 use Rattle.pair.specs.Claims.{SetupFit}
 use Rattle.pair.specs.declared.OpenMessage.{OpenMessage}
 use Rattle.cut_spec.specs.Claims.{kindNumber}
-use Rattle.request_spec.specs.Verdict.{netOf, current}
+use Rattle.request_spec.specs.Verdict.{payloadSize, current}
 use Rattle.responder_spec.specs.Kept.{Steady}
-use Rattle.responder_spec.specs.Decide.{headEntry, regionFor, completionOf, grown, placing}
+use Rattle.responder_spec.specs.Decide.{headEntry, regionFor, completionOf, messageAfter, storePayload}
 use Rattle.responder_spec.specs.Apply.{memoryBy, entriesBy}
 use Rattle.responder_spec.specs.Calls.{reports}
 use Rattle.delivery.specs.Stream.{Message, packetCount, Slot, slot, packetAt}
-use Rattle.delivery.specs.Plain.{Plain, takes, completionFor, none, firstOf, needing, isLast, heldNow, waitingNow}
+use Rattle.delivery.specs.Plain.{Plain, takesEntry, completionFor, none, firstOf, needsEntry, isLast, heldNow, waitingNow}
 use Rattle.delivery.specs.Demand.{Run, AllLongEnough, LongEnough, entryOf}
 use Rattle.delivery.proofs.Chain.{Stands, Good}
 use Rattle.delivery.proofs.Cutting.{placeFor, cutPacket}
@@ -53,7 +53,7 @@ module _ (ms : List Message) (S : List Slot) (p : Plain) (x : Run) (L : Link ms 
     (G : Good (x .whole .pair .setup) (x .whole .regions) ms S) (lt : p .k < length S)
     (ml : length (p .memory) ≡ x .whole .pair .setup .memory)
     (C : Carries (slot S (p .k) .message .request)) (Z : Sends (slot S (p .k) .message .request))
-    (free : (needing (slot S (p .k)) && none (p .waiting)) ≡ false) where
+    (free : (needsEntry (slot S (p .k)) && none (p .waiting)) ≡ false) where
   abbrev t : Slot
   t = slot S (p .k)
 
@@ -70,9 +70,9 @@ module _ (ms : List Message) (S : List Slot) (p : Plain) (x : Run) (L : Link ms 
     pub large : length (t .message .bytes) ≤ getD entry 2 0
 
   pub entered : Entered
-  entered = go (eqb (t .index) 0) refl (L .under)
+  entered = go (eqb (t .index) 0) refl (L .opened)
     where
-      needing-is : needing t ≡ eqb (t .index) 0
+      needing-is : needsEntry t ≡ eqb (t .index) 0
       needing-is = Z .needs (t .index) (packetCount (t .message))
 
       count : x .whole .pair .entries .count ≡ length (p .held ++ p .waiting)
@@ -115,21 +115,21 @@ module _ (ms : List Message) (S : List Slot) (p : Plain) (x : Run) (L : Link ms 
   first-is : firstOf (heldNow p t) ≡ entryOf entry
   first-is = ap firstOf (entered .is)
 
-  lands : memoryBy (placing (cutPacket t) M entry region) (x .memory) (packetAt t)
-      ≡ put (p .memory) (firstOf (heldNow p t) .offset + t .index * t .message .connection .pmtu) (pieceAt (t .message .bytes) (t .message .connection .pmtu) (t .index))
+  lands : memoryBy (storePayload (cutPacket t) M entry region) (x .memory) (packetAt t)
+      ≡ overwrite (p .memory) (firstOf (heldNow p t) .offset + t .index * t .message .connection .pmtu) (pieceAt (t .message .bytes) (t .message .connection .pmtu) (t .index))
   unfolding outside
   lands =
       let d = pieceAt (t .message .bytes) (t .message .connection .pmtu) (t .index) in
       let o : getD entry 1 0 + getD entry 2 0 ≤ x .whole .pair .setup .memory =
       ltb-false (x .whole .pair .setup .memory) (getD entry 1 0 + getD entry 2 0) (entry-fits (x .whole .pair .setup .memory) (x .whole .entries) (x .whole .pair .entries) (Y .entries) (entered .some)) in
-      ap (λ m. memoryBy (placing (cutPacket t) M entry region) m (packetAt t)) (L .memory)
-      ∙ (send-lands (x .whole .pair .setup) (x .whole .regions) fits t H (x .whole .pair .message) (p .held) (L .under) C entry Z (p .memory) (omega (arith, o, ml)) (entered .large)
-      ∙ ap (λ e. put (p .memory) (e .offset + t .index * t .message .connection .pmtu) d) (sym first-is))
+      ap (λ m. memoryBy (storePayload (cutPacket t) M entry region) m (packetAt t)) (L .memory)
+      ∙ (send-lands (x .whole .pair .setup) (x .whole .regions) fits t H (x .whole .pair .message) (p .held) (L .opened) C entry Z (p .memory) (omega (arith, o, ml)) (entered .large)
+      ∙ ap (λ e. overwrite (p .memory) (e .offset + t .index * t .message .connection .pmtu) d) (sym first-is))
 
   last-is : ends (placeFor t) ≡ isLast t
-  last-is = ends-is (x .whole .pair .setup) (x .whole .regions) fits t H (x .whole .pair .message) (p .held) (L .under)
+  last-is = ends-is (x .whole .pair .setup) (x .whole .regions) fits t H (x .whole .pair .message) (p .held) (L .opened)
 
-  ring-is : (a b : Bool) → needing t ≡ a → (isLast t && takes (t .message .request)) ≡ b → isLast t ≡ b
+  ring-is : (a b : Bool) → needsEntry t ≡ a → (isLast t && takesEntry (t .message .request)) ≡ b → isLast t ≡ b
       → map entryOf (inRing (x .whole .entries) (entriesBy b (x .whole .pair .entries)))
       ≡ cond (isLast t) [] (heldNow p t) ++ waitingNow p t
   ring-is a b e f g =
@@ -138,40 +138,40 @@ module _ (ms : List Message) (S : List Slot) (p : Plain) (x : Run) (L : Link ms 
       ∙ λ i. cond (sym g i) [] (cond (sym e i) (take 1 (p .waiting)) (p .held)) ++ cond (sym e i) (drop 1 (p .waiting)) (p .waiting))
     where
       started : a ≡ true → p .held ≡ []
-      started z = subst (λ y. Under y t (x .whole .pair .message) (p .held)) (sym (Z .needs (t .index) (packetCount (t .message))) ∙ (e ∙ z)) (L .under) .1
+      started z = subst (λ y. Under y t (x .whole .pair .message) (p .held)) (sym (Z .needs (t .index) (packetCount (t .message))) ∙ (e ∙ z)) (L .opened) .1
 
       going : a ≡ false → (y : Entry) × (p .held ≡ y ∷ [])
       going z =
-          let u = subst (λ y. Under y t (x .whole .pair .message) (p .held)) (sym (Z .needs (t .index) (packetCount (t .message))) ∙ (e ∙ z)) (L .under) in
+          let u = subst (λ y. Under y t (x .whole .pair .message) (p .held)) (sym (Z .needs (t .index) (packetCount (t .message))) ∙ (e ∙ z)) (L .opened) in
           let w = Z .held (length (t .message .bytes)) (p .held) (u .1) in
           (w .0, w .1)
 
-  pub sends : Does ms S p x (placing (cutPacket t) M entry region) (packetAt t) (firstOf (heldNow p t))
-  unfolding placing
+  pub sends : Does ms S p x (storePayload (cutPacket t) M entry region) (packetAt t) (firstOf (heldNow p t))
+  unfolding storePayload
   sends =
       record {
-        status = placing-answers (x .whole .pair .setup) (x .whole .regions) fits t H (x .whole .pair .message) (p .held) (L .under) C entry region;
-        numbers = sym (C .span (t .message .connection .pmtu));
+        status = placing-answers (x .whole .pair .setup) (x .whole .regions) fits t H (x .whole .pair .message) (p .held) (L .opened) C entry region;
+        psns = sym (C .psnCount (t .message .connection .pmtu));
         ends = last-is;
-        reads = placing-reads (x .whole .pair .setup) (x .whole .regions) fits t H (x .whole .pair .message) (p .held) (L .under) C entry region (x .whole .pair .read) _ (p .r) (L .reads);
+        reads = placing-reads (x .whole .pair .setup) (x .whole .regions) fits t H (x .whole .pair .message) (p .held) (L .opened) C entry region (x .whole .pair .read) _ (p .r) (L .reads);
         memory = lands ∙ sym (Z .lands (x .whole .regions) (t .message .connection .pmtu) (t .message .bytes) (t .index) (firstOf (heldNow p t)) (p .memory));
-        completion = told .0;
+        completion = completionWith .0;
         entries =
-            ap (λ b. map entryOf (inRing (x .whole .entries) (entriesBy b (x .whole .pair .entries)))) (told .1)
-            ∙ ring-is (needing t) (isLast t && takes (t .message .request)) refl refl (sym (and-true (isLast t)) ∙ ap (λ b. isLast t && b) (sym (Z .takes)));
-        under =
-            under-next S (p .k) (grown (placeFor t) M (netOf (cutPacket t))) (cond (isLast t) [] (heldNow p t)) (G .turn (p .k) lt) (H .sent .inside)
-            (λ e. (grown-last (x .whole .pair .setup) (x .whole .regions) fits t H (x .whole .pair .message) (p .held) (L .under) C entry region e, ap (λ b. cond b [] (heldNow p t)) e))
+            ap (λ b. map entryOf (inRing (x .whole .entries) (entriesBy b (x .whole .pair .entries)))) (completionWith .1)
+            ∙ ring-is (needsEntry t) (isLast t && takesEntry (t .message .request)) refl refl (sym (and-true (isLast t)) ∙ ap (λ b. isLast t && b) (sym (Z .takesEntry)));
+        opened =
+            under-next S (p .k) (messageAfter (placeFor t) M (payloadSize (cutPacket t))) (cond (isLast t) [] (heldNow p t)) (G .turn (p .k) lt) (H .outgoing .inside)
+            (λ e. (grown-last (x .whole .pair .setup) (x .whole .regions) fits t H (x .whole .pair .message) (p .held) (L .opened) C entry region e, ap (λ b. cond b [] (heldNow p t)) e))
             (λ e. (
-              grown-more (x .whole .pair .setup) (x .whole .regions) fits t H (x .whole .pair .message) (p .held) (L .under) C entry region e,
+              grown-more (x .whole .pair .setup) (x .whole .regions) fits t H (x .whole .pair .message) (p .held) (L .opened) C entry region e,
               Z .holding (length (t .message .bytes)) (cond (isLast t) [] (heldNow p t)) (entryOf entry) (ap (λ b. cond b [] (heldNow p t)) e ∙ entered .is) (entered .large),
             ));
       }
     where
-      told : (reports (completionOf (cutPacket t) M (getD entry 0 0)) ≡ cond (isLast t && takes (t .message .request)) (completionFor (t .message .request) (firstOf (heldNow p t)) (length (t .message .bytes)) ∷ []) [])
-          × (completionOf (cutPacket t) M (getD entry 0 0) .some ≡ (isLast t && takes (t .message .request)))
-      told =
-          placing-told (x .whole .pair .setup) (x .whole .regions) fits t H (x .whole .pair .message) (p .held) (L .under) C entry region
-          (firstOf (heldNow p t)) (send-completes (x .whole .pair .setup) (x .whole .regions) fits t H (x .whole .pair .message) (p .held) (L .under) C entry Z)
+      completionWith : (reports (completionOf (cutPacket t) M (getD entry 0 0)) ≡ cond (isLast t && takesEntry (t .message .request)) (completionFor (t .message .request) (firstOf (heldNow p t)) (length (t .message .bytes)) ∷ []) [])
+          × (completionOf (cutPacket t) M (getD entry 0 0) .some ≡ (isLast t && takesEntry (t .message .request)))
+      completionWith =
+          placing-told (x .whole .pair .setup) (x .whole .regions) fits t H (x .whole .pair .message) (p .held) (L .opened) C entry region
+          (firstOf (heldNow p t)) (send-completes (x .whole .pair .setup) (x .whole .regions) fits t H (x .whole .pair .message) (p .held) (L .opened) C entry Z)
           (λ e. ap (λ y. y .number) (sym first-is))
-          (send-long (x .whole .pair .setup) (x .whole .regions) fits t H (x .whole .pair .message) (p .held) (L .under) C entry Z)
+          (send-long (x .whole .pair .setup) (x .whole .regions) fits t H (x .whole .pair .message) (p .held) (L .opened) C entry Z)

@@ -16,13 +16,13 @@ use Rattle.pair.specs.declared.OpenMessage.{OpenMessage}
 use Rattle.cut_spec.specs.Message.{messageLength}
 use Rattle.cut_spec.specs.Claims.{kindNumber}
 use Rattle.cut_spec.proofs.Shapes.{cut-one}
-use Rattle.request_spec.specs.Verdict.{keySpan, spot, current}
+use Rattle.request_spec.specs.Verdict.{bytesToCome, memoryOffset, current}
 use Rattle.responder_spec.specs.Kept.{Steady}
-use Rattle.responder_spec.specs.Decide.{noCompletion, regionFor, accepting, swapping}
+use Rattle.responder_spec.specs.Decide.{noCompletion, regionFor, acceptRead, runAtomic}
 use Rattle.responder_spec.specs.Apply.{memoryBy, readBy, entriesBy}
 use Rattle.responder_spec.specs.Calls.{reports}
-use Rattle.delivery.specs.Stream.{Message, packetCount, Slot, slot, span, packetAt}
-use Rattle.delivery.specs.Plain.{Plain, lies, takes, completionFor, firstOf, needing, isLast, heldNow, waitingNow}
+use Rattle.delivery.specs.Stream.{Message, packetCount, Slot, slot, psnCount, packetAt}
+use Rattle.delivery.specs.Plain.{Plain, regionOffset, takesEntry, completionFor, firstOf, needsEntry, isLast, heldNow, waitingNow}
 use Rattle.delivery.specs.Demand.{Run, entryOf}
 use Rattle.delivery.proofs.Chain.{Stands, Good}
 use Rattle.delivery.proofs.Cutting.{placeFor, cutPacket}
@@ -50,24 +50,24 @@ module _ (ms : List Message) (S : List Slot) (p : Plain) (x : Run) (L : Link ms 
   region = regionFor (kindNumber (t .message .request)) (M .key) (x .whole .regions)
 
   N : IsOf t M
-  N = now (x .whole .pair .setup) (x .whole .regions) (Y .pair .setup .0) t H (x .whole .pair .message) (p .held) (L .under)
+  N = now (x .whole .pair .setup) (x .whole .regions) (Y .pair .setup .0) t H (x .whole .pair .message) (p .held) (L .opened)
 
   one-packet : packetCount (t .message) ≡ 1
   one-packet = cut-one (t .message .request) (length (t .message .bytes)) (t .message .connection .pmtu) (O .bare)
 
   zeroth : t .index ≡ 0
-  zeroth = omega (arith, one-packet, H .sent .inside)
+  zeroth = omega (arith, one-packet, H .outgoing .inside)
 
   last-is : isLast t ≡ true
   last-is = eq-eqb (suc (t .index)) (packetCount (t .message)) (omega (arith, zeroth, one-packet))
 
   idle : (x .whole .pair .message .kind ≡ 255) × (p .held ≡ [])
-  idle = subst (λ b. Under b t (x .whole .pair .message) (p .held)) (eq-eqb (t .index) 0 zeroth) (L .under)
+  idle = subst (λ b. Under b t (x .whole .pair .message) (p .held)) (eq-eqb (t .index) 0 zeroth) (L .opened)
 
-  placed-none : M .placed ≡ 0
-  placed-none = N .placed ∙ omega (arith, ap (λ i. i * t .message .connection .pmtu) zeroth)
+  placed-none : M .stored ≡ 0
+  placed-none = N .stored ∙ omega (arith, ap (λ i. i * t .message .connection .pmtu) zeroth)
 
-  needing-is : needing t ≡ false
+  needing-is : needsEntry t ≡ false
   needing-is = O .needs (t .index) (packetCount (t .message))
 
   ring-is : map entryOf (inRing (x .whole .entries) (entriesBy false (x .whole .pair .entries))) ≡ cond (isLast t) [] (heldNow p t) ++ waitingNow p t
@@ -77,43 +77,43 @@ module _ (ms : List Message) (S : List Slot) (p : Plain) (x : Run) (L : Link ms 
 
   under-is : Under (eqb (slot S (suc (p .k)) .index) 0) (slot S (suc (p .k))) (x .whole .pair .message) (cond (isLast t) [] (heldNow p t))
   under-is =
-      under-next S (p .k) (x .whole .pair .message) (cond (isLast t) [] (heldNow p t)) (G .turn (p .k) lt) (H .sent .inside)
+      under-next S (p .k) (x .whole .pair .message) (cond (isLast t) [] (heldNow p t)) (G .turn (p .k) lt) (H .outgoing .inside)
       (λ e. (idle .0, ap (λ b. cond b [] (heldNow p t)) e))
       (λ e. absurd (true≢false (sym last-is ∙ e)))
 
-  nothing-told : (b : Bool) → takes (t .message .request) ≡ false → (b && takes (t .message .request)) ≡ false
+  nothing-told : (b : Bool) → takesEntry (t .message .request) ≡ false → (b && takesEntry (t .message .request)) ≡ false
   nothing-told true e = e
   nothing-told false e = refl
 
   untold : reports noCompletion
-      ≡ cond (isLast t && takes (t .message .request)) (completionFor (t .message .request) (firstOf (heldNow p t)) (length (t .message .bytes)) ∷ []) []
+      ≡ cond (isLast t && takesEntry (t .message .request)) (completionFor (t .message .request) (firstOf (heldNow p t)) (length (t .message .bytes)) ∷ []) []
   untold =
       ap (λ b. cond b (completionFor (t .message .request) (firstOf (heldNow p t)) (length (t .message .bytes)) ∷ []) [])
-      (sym (nothing-told (isLast t) (O .takes)))
+      (sym (nothing-told (isLast t) (O .takesEntry)))
 
   pub reads : Reads (t .message .request)
-      → Does ms S p x (accepting (cutPacket t) M (x .whole .pair .message) region (x .whole .pair .setup .pmtu)) (packetAt t) (firstOf (heldNow p t))
-  unfolding accepting statusNumber readBy memoryBy
+      → Does ms S p x (acceptRead (cutPacket t) M (x .whole .pair .message) region (x .whole .pair .setup .pmtu)) (packetAt t) (firstOf (heldNow p t))
+  unfolding acceptRead statusNumber readBy memoryBy
   reads R =
-      let n : pieces (M .length) (x .whole .pair .setup .pmtu) ≡ span t =
-      (λ i. pieces (N .length i) (sym (H .sent .addressed .pmtu) i)) ∙ sym (R .span (length (t .message .bytes)) (t .message .connection .pmtu)) in
+      let n : pieces (M .length) (x .whole .pair .setup .pmtu) ≡ psnCount t =
+      (λ i. pieces (N .length i) (sym (H .outgoing .addressed .pmtu) i)) ∙ sym (R .psnCount (length (t .message .bytes)) (t .message .connection .pmtu)) in
       let some : 1 ≤ pieces (M .length) (x .whole .pair .setup .pmtu) =
       counts (M .length) (x .whole .pair .setup .pmtu) (omega (arith, bounds (x .whole .pair .setup .pmtu) (Y .pair .setup .0 .pmtu) .0)) .some in
       record {
         status = omega arith;
-        numbers = n;
+        psns = n;
         ends = sym last-is;
         reads = rw (ne-eqb (pieces (M .length) (x .whole .pair .setup .pmtu)) 0 (λ z. absurd (omega arith)), R .read) n;
         memory = L .memory ∙ sym (R .lands (x .whole .regions) (t .message .connection .pmtu) (t .message .bytes) (t .index) (firstOf (heldNow p t)) (p .memory));
         completion = untold;
         entries = ring-is;
-        under = under-is;
+        opened = under-is;
       }
 
   -- an atomic's word is where the address lies
   at-is : (k act : ℕ) (does : List ℕ → ℕ → ℕ → ℕ → List ℕ) → Swaps (t .message .request) k act does → (eqb k 0 ≡ false)
-      → spot region (M .address) (M .length) ≡ lies (x .whole .regions) (keyOf (t .message .request)) (addressOf (t .message .request))
-  unfolding regionFor keySpan
+      → memoryOffset region (M .address) (M .length) ≡ regionOffset (x .whole .regions) (keyOf (t .message .request)) (addressOf (t .message .request))
+  unfolding regionFor bytesToCome
   at-is k act does W z =
       let eight : M .length ≡ 8 = N .length ∙ W .named (length (t .message .bytes)) in
       let r : region ≡ regionOf (keyOf (t .message .request)) (x .whole .regions) =
@@ -122,28 +122,28 @@ module _ (ms : List Message) (S : List Slot) (p : Plain) (x : Run) (L : Link ms 
       spot-is (x .whole .pair .setup .memory) k (keyOf (t .message .request)) (addressOf (t .message .request)) 8 0
       (x .whole .regions) (λ y. y .atomic) M (Y .regions) (W .rights) (N .address) placed-none eight (omega arith)
       (W .right (x .whole .pair .setup) (x .whole .regions) (length (t .message .bytes)) (H .allowed)) (omega arith) in
-      let a : M .address ≡ M .address + M .placed = omega (arith, placed-none) in
-      let l : M .length ≡ M .length - M .placed = omega (arith, placed-none) in
-      let none : lies (x .whole .regions) (keyOf (t .message .request)) (addressOf (t .message .request)) + 0 ≡ lies (x .whole .regions) (keyOf (t .message .request)) (addressOf (t .message .request)) = omega arith in
-      (λ i. spot (r i) (a i) (l i)) ∙ (w .0 ∙ none)
+      let a : M .address ≡ M .address + M .stored = omega (arith, placed-none) in
+      let l : M .length ≡ M .length - M .stored = omega (arith, placed-none) in
+      let none : regionOffset (x .whole .regions) (keyOf (t .message .request)) (addressOf (t .message .request)) + 0 ≡ regionOffset (x .whole .regions) (keyOf (t .message .request)) (addressOf (t .message .request)) = omega arith in
+      (λ i. memoryOffset (r i) (a i) (l i)) ∙ (w .0 ∙ none)
 
   pub swaps : (k act : ℕ) (does : List ℕ → ℕ → ℕ → ℕ → List ℕ) → Swaps (t .message .request) k act does → (eqb k 0 ≡ false)
-      → Does ms S p x (swapping (cutPacket t) M (x .whole .pair .message) region) (packetAt t) (firstOf (heldNow p t))
-  unfolding swapping statusNumber readBy
+      → Does ms S p x (runAtomic (cutPacket t) M (x .whole .pair .message) region) (packetAt t) (firstOf (heldNow p t))
+  unfolding runAtomic statusNumber readBy
   swaps k act does W z =
       let n = messageLength (t .message .request) (length (t .message .bytes)) in
-      let D = swapping (cutPacket t) M (x .whole .pair .message) region in
+      let D = runAtomic (cutPacket t) M (x .whole .pair .message) region in
       let a : D .act ≡ act = ap (λ j. cond (eqb j 20) 2 3) (W .kind) ∙ W .act-is in
       record {
         status = omega arith;
-        numbers = sym (W .span (t .message .connection .pmtu));
+        psns = sym (W .psnCount (t .message .connection .pmtu));
         ends = sym last-is;
-        reads = L .reads ∙ ap (λ b. cond b (span t) (p .r)) (sym (W .read));
+        reads = L .reads ∙ ap (λ b. cond b (psnCount t) (p .r)) (sym (W .read));
         memory =
             W .acts D (x .memory) (packetAt t) a
             ∙ ((λ i. does (L .memory i) (at-is k act does W z i) (cutPacket t .operands .compare) (cutPacket t .operands .swap))
             ∙ sym (W .lands n (placeFor t) (x .whole .regions) (t .message .connection .pmtu) (t .message .bytes) (t .index) (firstOf (heldNow p t)) (p .memory)));
         completion = untold;
         entries = ring-is;
-        under = under-is;
+        opened = under-is;
       }

@@ -16,31 +16,31 @@ use Rattle.table.specs.declared.Region.{Region}
 use Rattle.pair.specs.declared.Setup.{Setup}
 use Rattle.pair.specs.declared.OpenMessage.{OpenMessage}
 use Rattle.request_spec.specs.declared.Packet.{Packet}
-use Rattle.delivery.specs.Plain.{lies}
-use Rattle.delivery.specs.Demand.{Lies}
-use Rattle.request_spec.specs.Verdict.{spot, outOfSequence, notEnabled, padEarly, overLimit, noneWaiting, entryOutside, keyFails, keyLacking, keySpan, rightOf, lacks, lengthsOff, current, requestCode, expectedCode}
+use Rattle.delivery.specs.Plain.{regionOffset}
+use Rattle.delivery.specs.Demand.{InRegion}
+use Rattle.request_spec.specs.Verdict.{memoryOffset, outOfSequence, notEnabled, padEarly, overLimit, noneWaiting, entryOutside, keyFails, keyLacking, bytesToCome, rightOf, lacks, lengthsOff, current, requestCode, expectedCode}
 
 -- the checks before that of the entry, and those after
-pub record Before (s : Setup) (under : OpenMessage) (p : Packet) : Type 0 where
-  pub sequence : outOfSequence (under .kind) (p .kind) (p .place) ≡ false
+pub record Before (s : Setup) (opened : OpenMessage) (p : Packet) : Type 0 where
+  pub sequence : outOfSequence (opened .kind) (p .kind) (p .place) ≡ false
   pub enabled : notEnabled s (p .kind) ≡ false
   pub pad : padEarly (p .place) (p .pad) ≡ false
   pub limit : overLimit (p .operands .length) ≡ false
 
-pub record Behind (s : Setup) (under : OpenMessage) (p : Packet) (entry region : List ℕ) : Type 0 where
+pub record Behind (s : Setup) (opened : OpenMessage) (p : Packet) (entry region : List ℕ) : Type 0 where
   pub entry-in : entryOutside (p .kind) (p .operands .immediate) entry (s .memory) ≡ false
-  pub key : keyFails (s .memory) (p .kind) (current under p) region ≡ false
-  pub lengths : lengthsOff p (s .pmtu) (current under p) (getD entry 2 0) ≡ false
+  pub key : keyFails (s .memory) (p .kind) (current opened p) region ≡ false
+  pub lengths : lengthsOff p (s .pmtu) (current opened p) (getD entry 2 0) ≡ false
 
-module _ (s : Setup) (under : OpenMessage) (p : Packet) (count : ℕ) (entry region : List ℕ) (b : Before s under p) where
-  pub unready : noneWaiting (p .kind) (p .place) (p .operands .immediate) (under .kind) count ≡ true
-      → expectedCode s under p count entry region ≡ 19
+module _ (s : Setup) (opened : OpenMessage) (p : Packet) (count : ℕ) (entry region : List ℕ) (b : Before s opened p) where
+  pub unready : noneWaiting (p .kind) (p .place) (p .operands .immediate) (opened .kind) count ≡ true
+      → expectedCode s opened p count entry region ≡ 19
   unfolding expectedCode requestCode
   unready e = rw (b .sequence, b .enabled, b .pad, b .limit, e)
 
-  pub passes : noneWaiting (p .kind) (p .place) (p .operands .immediate) (under .kind) count ≡ false
-      → Behind s under p entry region
-      → expectedCode s under p count entry region ≡ 0
+  pub passes : noneWaiting (p .kind) (p .place) (p .operands .immediate) (opened .kind) count ≡ false
+      → Behind s opened p entry region
+      → expectedCode s opened p count entry region ≡ 0
   unfolding expectedCode requestCode
   passes e a = rw (b .sequence, b .enabled, b .pad, b .limit, e, a .entry-in, a .key, a .lengths)
 
@@ -76,38 +76,38 @@ region-in memory key rows r sound e some = go (ltb (keyRow key rows) 16) refl e
 -- the key of bytes that lie in its region holds what is still to come of them
 module _ (memory kind key address n off : ℕ) (rows : List (List ℕ)) (right : Region → Bool) (m : OpenMessage)
     (sound : RegionsSound memory rows) (is : (r : Region) → rightOf kind (regionRow r) ≡ cond (right r) 1 0)
-    (at : m .address ≡ address) (placed : m .placed ≡ off) (long : m .length ≡ n) (l : off ≤ n) where
+    (at : m .address ≡ address) (stored : m .stored ≡ off) (long : m .length ≡ n) (l : off ≤ n) where
   held-span : (r : Region) → regionOf key rows ≡ regionRow r → right r ≡ true → r .address ≤ address → address + n ≤ r .address + r .length
-      → (off < n) → lacks (regionRow r) (rightOf kind (regionRow r)) memory (m .address + m .placed) (keySpan (m .length) (m .placed)) ≡ false
-  unfolding lacks outside pastTop keySpan regionRow
+      → (off < n) → lacks (regionRow r) (rightOf kind (regionRow r)) memory (m .address + m .stored) (bytesToCome (m .length) (m .stored)) ≡ false
+  unfolding lacks outside pastTop bytesToCome regionRow
   held-span r e g low high o =
       let inside = region-in memory key rows r sound e (omega arith) in
       rw
-      (is r ∙ ap (λ b. cond b 1 0) g, le-ltb memory (r .offset + r .length) (inside .0), lt-leb addresses (r .address + r .length) (inside .1), le-ltb (m .address + m .placed) (r .address) (omega arith))
-      (le-ltb (r .address + r .length) (m .address + m .placed + (m .length - m .placed)) (omega arith))
+      (is r ∙ ap (λ b. cond b 1 0) g, le-ltb memory (r .offset + r .length) (inside .0), lt-leb addresses (r .address + r .length) (inside .1), le-ltb (m .address + m .stored) (r .address) (omega arith))
+      (le-ltb (r .address + r .length) (m .address + m .stored + (m .length - m .stored)) (omega arith))
 
-  pub key-passes : Lies rows right key address n → keyFails memory kind m (regionOf key rows) ≡ false
-  unfolding keyFails keyLacking keySpan
-  key-passes h = go (eqb kind 0) (eqb (m .length - m .placed) 0) refl h
+  pub key-passes : InRegion rows right key address n → keyFails memory kind m (regionOf key rows) ≡ false
+  unfolding keyFails keyLacking bytesToCome
+  key-passes h = go (eqb kind 0) (eqb (m .length - m .stored) 0) refl h
     where
-      go : (a b : Bool) → eqb (m .length - m .placed) 0 ≡ b → Lies rows right key address n
-          → cond a false (cond b false (lacks (regionOf key rows) (rightOf kind (regionOf key rows)) memory (m .address + m .placed) (m .length - m .placed))) ≡ false
+      go : (a b : Bool) → eqb (m .length - m .stored) 0 ≡ b → InRegion rows right key address n
+          → cond a false (cond b false (lacks (regionOf key rows) (rightOf kind (regionOf key rows)) memory (m .address + m .stored) (m .length - m .stored))) ≡ false
       go true b e h = refl
       go false true e h = refl
       go false false e (inl none) = absurd (omega (arith, tests))
       go false false e (inr g) =
-          let o : off < n = omega (arith, eqb-false (m .length - m .placed) 0 e) in
-          subst (λ row. lacks row (rightOf kind row) memory (m .address + m .placed) (m .length - m .placed) ≡ false) (sym (g .1))
+          let o : off < n = omega (arith, eqb-false (m .length - m .stored) 0 e) in
+          subst (λ row. lacks row (rightOf kind row) memory (m .address + m .stored) (m .length - m .stored) ≡ false) (sym (g .1))
           (held-span (g .0) (g .1) (g .2) (g .3) (g .4) o)
 
   -- and says where they go
-  pub spot-is : Lies rows right key address n → off < n
-      → (spot (regionOf key rows) (m .address + m .placed) (keySpan (m .length) (m .placed)) ≡ lies rows key address + off)
-      × (lies rows key address + n ≤ memory)
-  unfolding spot keySpan lies regionRow
+  pub spot-is : InRegion rows right key address n → off < n
+      → (memoryOffset (regionOf key rows) (m .address + m .stored) (bytesToCome (m .length) (m .stored)) ≡ regionOffset rows key address + off)
+      × (regionOffset rows key address + n ≤ memory)
+  unfolding memoryOffset bytesToCome regionOffset regionRow
   spot-is (inl none) o = absurd (omega arith)
   spot-is (inr g) o =
       let inside : g .0 .offset + g .0 .length ≤ memory = region-in memory key rows (g .0) sound (g .1) (omega (arith, g .4, g .3)) .0 in
       let three : getD (regionOf key rows) 3 0 ≡ g .0 .offset = ap (λ row. getD row 3 0) (g .1) in
       let one : getD (regionOf key rows) 1 0 ≡ g .0 .address = ap (λ row. getD row 1 0) (g .1) in
-      (rw (ne-eqb (m .length - m .placed) 0 (λ z. absurd (omega arith))) (omega (arith, three, one, g .3)), omega (arith, three, one, inside, g .3, g .4))
+      (rw (ne-eqb (m .length - m .stored) 0 (λ z. absurd (omega arith))) (omega (arith, three, one, g .3)), omega (arith, three, one, inside, g .3, g .4))

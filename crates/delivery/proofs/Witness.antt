@@ -19,10 +19,10 @@ use Rattle.responder_spec.specs.Inbound.{inboundMemory}
 use Rattle.responder_spec.specs.Kept.{Steady}
 use Rattle.responder_spec.specs.declared.Decision.{Decision}
 use Rattle.responder_spec.proofs.Kept.{inbound-steady, next-steady, post-steady}
-use Rattle.delivery.specs.Stream.{Message, Slot, slot, stream, span, along}
-use Rattle.delivery.specs.Plain.{Plain, Call, none, firstOf, isRead, needing, isLast, heldNow, sending, adding, perform, account, plain, start}
+use Rattle.delivery.specs.Stream.{Message, Slot, slot, stream, psnCount, numberAlong}
+use Rattle.delivery.specs.Plain.{Plain, Call, none, firstOf, isRead, needsEntry, isLast, heldNow, withResponses, withWaiting, executeWith, plainStep, plain, start}
 use Rattle.delivery.specs.Plain.Call.{Hand, Next, Post}
-use Rattle.delivery.specs.Demand.{Run, step, LongEnough, Meets, AllMeet, Handed, Posted, waitingAt}
+use Rattle.delivery.specs.Demand.{Run, step, LongEnough, CallPermitted, AllCallsPermitted, Handed, Posted, waitingAt}
 use Rattle.delivery.specs.Witness.{wholeEntry, draining, inTurn, Witness}
 use Rattle.delivery.proofs.Chain.{Good, good, reliable-serves}
 use Rattle.delivery.proofs.Fitting.{and-false}
@@ -87,14 +87,14 @@ module _ (s : Setup) (regions : List (List ℕ)) (ms : List Message) (S : List S
     sound : Steady (x .whole)
     bytes : length (x .memory) ≡ s .memory
 
-  on : (p : Plain) (x : Run) → Together p x → (c : Call) → Meets s ms S p c → Together (account s regions S p c) (step S x c)
+  on : (p : Plain) (x : Run) → Together p x → (c : Call) → CallPermitted s ms S p c → Together (plainStep s regions S p c) (step S x c)
   on p x T c m =
       let H = subst (λ r. Good (x .whole .pair .setup) r ms S) (sym (T .tables)) (subst (λ z. Good z regions ms S) (sym (T .setup)) G) in
-      let n = subst (λ z. Meets z ms S p c) (sym (T .setup)) m in
+      let n = subst (λ z. CallPermitted z ms S p c) (sym (T .setup)) m in
       record {
         setup = setup-kept S x c .is ∙ T .setup;
         tables = regions-kept S x c ∙ T .tables;
-        link = subst (λ r. Link ms S (account s r S p c) (step S x c)) (T .tables) (subst (λ z. Link ms S (account z (x .whole .regions) S p c) (step S x c)) (T .setup) (linked inbound-steady next-steady post-steady ms S p x (T .link) (T .sound) H (ap (λ z. z .service) (T .setup) ∙ rc) c n));
+        link = subst (λ r. Link ms S (plainStep s r S p c) (step S x c)) (T .tables) (subst (λ z. Link ms S (plainStep z (x .whole .regions) S p c) (step S x c)) (T .setup) (linked inbound-steady next-steady post-steady ms S p x (T .link) (T .sound) H (ap (λ z. z .service) (T .setup) ∙ rc) c n));
         sound = steady-next inbound-steady next-steady post-steady ms S p x (T .sound) H c n;
         bytes = step-long S x c ∙ T .bytes;
       }
@@ -102,69 +102,69 @@ module _ (s : Setup) (regions : List (List ℕ)) (ms : List Message) (S : List S
   bytes-are : (p : Plain) (x : Run) → Together p x → length (p .memory) ≡ s .memory
   bytes-are p x T = ap length (sym (T .link .memory)) ∙ T .bytes
 
-  supplies : (p : Plain) → length (p .held) ≤ 1 → Supplied p (account s regions S p (Post (wholeEntry s)))
+  supplies : (p : Plain) → length (p .held) ≤ 1 → Supplied p (plainStep s regions S p (Post (wholeEntry s)))
   supplies p h = rw (le-ltb (s .memory) (0 + s .memory) (omega arith)) (go (leb 16 (length (p .held) + length (p .waiting))) refl)
     where
-      go : (b : Bool) → leb 16 (length (p .held) + length (p .waiting)) ≡ b → Supplied p (cond b p (adding p (p .waiting ++ (wholeEntry s ∷ []))))
+      go : (b : Bool) → leb 16 (length (p .held) + length (p .waiting)) ≡ b → Supplied p (cond b p (withWaiting p (p .waiting ++ (wholeEntry s ∷ []))))
       go true e = record { k = refl; r = refl; held = refl; memory = refl; some = some-there (p .waiting) (omega (arith, tests)) }
       go false e = record { k = refl; r = refl; held = refl; memory = refl; some = some-more (p .waiting) (wholeEntry s) }
 
   -- packet k is executed as soon as it is handed in
   taken : (p : Plain) (j : ℕ) → j ≡ p .k → p .r ≡ 0 → length (p .memory) ≡ s .memory → none (p .waiting) ≡ false
-      → account s regions S p (Hand j out) ≡ perform regions p (slot S j) (firstOf (heldNow p (slot S j)))
+      → plainStep s regions S p (Hand j out) ≡ executeWith regions p (slot S j) (firstOf (heldNow p (slot S j)))
   taken p j e r m w =
       rw (le-ltb (length out) 24 (omega arith), eq-eqb (length (p .memory)) (s .memory) m, eq-eqb (p .r) 0 r, eq-eqb j (p .k) e, w)
-      (ap (λ b. cond b p (perform regions p (slot S j) (firstOf (heldNow p (slot S j))))) (and-false (needing (slot S j))))
+      (ap (λ b. cond b p (executeWith regions p (slot S j) (firstOf (heldNow p (slot S j))))) (and-false (needsEntry (slot S j))))
 
   -- asking for a response takes one away, if there is one
-  fewer : (p : Plain) → length (p .memory) ≡ s .memory → account s regions S p (Next out) ≡ sending p (p .r - 1)
+  fewer : (p : Plain) → length (p .memory) ≡ s .memory → plainStep s regions S p (Next out) ≡ withResponses p (p .r - 1)
   fewer p m =
       let b : s .pmtu ≤ 4096 = bounds (s .pmtu) (f .pmtu) .1 in
       rw (le-ltb (length out) (16 + s .pmtu) (omega arith), eq-eqb (length (p .memory)) (s .memory) m) (go (eqb (p .r) 0) refl)
     where
-      go : (b : Bool) → eqb (p .r) 0 ≡ b → cond b p (sending p (p .r - 1)) ≡ sending p (p .r - 1)
-      go true e = let z : p .r ≡ p .r - 1 = omega (arith, tests) in λ i. sending p (z i)
+      go : (b : Bool) → eqb (p .r) 0 ≡ b → cond b p (withResponses p (p .r - 1)) ≡ withResponses p (p .r - 1)
+      go true e = let z : p .r ≡ p .r - 1 = omega (arith, tests) in λ i. withResponses p (z i)
       go false e = refl
 
   abbrev Goal : Plain → List Call → Type 0
-  Goal p calls = AllMeet s regions ms S p calls × (plain s regions S p calls .k ≡ length S)
+  Goal p calls = AllCallsPermitted s regions ms S p calls × (plain s regions S p calls .k ≡ length S)
 
   drains : (n : ℕ) (p : Plain) (x : Run) (rest : List Call) → Together p x → p .r ≤ n
-      → ((y : Run) → Together (sending p 0) y → Goal (sending p 0) rest)
+      → ((y : Run) → Together (withResponses p 0) y → Goal (withResponses p 0) rest)
       → Goal p (draining out n rest)
   unfolding draining plain
   drains zero p x rest T h k =
       let z : p .r ≡ 0 = omega arith in
-      let e : p ≡ sending p 0 = λ i. sending p (z i) in
+      let e : p ≡ withResponses p 0 = λ i. withResponses p (z i) in
       subst (λ q. Goal q rest) (sym e) (k x (subst (λ q. Together q x) e T))
   drains (suc n) p x rest T h k =
       let e = fewer p (bytes-are p x T) in
       let U = on p x T (Next out) tt in
-      let g = drains n (sending p (p .r - 1)) (step S x (Next out)) rest (subst (λ q. Together q (step S x (Next out))) e U) (omega arith) k in
+      let g = drains n (withResponses p (p .r - 1)) (step S x (Next out)) rest (subst (λ q. Together q (step S x (Next out))) e U) (omega arith) k in
       let a = subst (λ q. Goal q (draining out n rest)) (sym e) g in
       ((tt, a .0), a .1)
 
   turns : (n j : ℕ) (p : Plain) (x : Run) → Together p x → p .k ≡ j → j + n ≡ length S → p .r ≡ 0 → length (p .held) ≤ 1
       → Goal p (inTurn s out S j n)
-  unfolding inTurn plain perform
+  unfolding inTurn plain executeWith
   turns zero j p x T k l r h = (tt, omega (arith, k))
   turns (suc n) j p x T k l r h =
-      let p1 = account s regions S p (Post (wholeEntry s)) in
+      let p1 = plainStep s regions S p (Post (wholeEntry s)) in
       let A = supplies p h in
       let m1 : Posted s ms p (wholeEntry s) = record { long = λ a b. long } in
       let T1 = on p x T (Post (wholeEntry s)) m1 in
       let same : j ≡ p1 .k = sym (A .k ∙ k) in
       let m2 : Handed s S p1 j out =
-      record { inside = omega (arith, l); near = λ a b c. record { behind = omega (arith, ap (along S) same); ahead = omega (arith, ap (along S) same) } } in
+      record { inside = omega (arith, l); near = λ a b c. record { behind = omega (arith, ap (numberAlong S) same); ahead = omega (arith, ap (numberAlong S) same) } } in
       let T2 = on p1 (step S x (Post (wholeEntry s))) T1 (Hand j out) m2 in
       let e = taken p1 j same (A .r ∙ r) (bytes-are p1 (step S x (Post (wholeEntry s))) T1) (A .some) in
-      let p2 = perform regions p1 (slot S j) (firstOf (heldNow p1 (slot S j))) in
-      let g : Goal p2 (draining out (span (slot S j)) (inTurn s out S (suc j) n)) =
-      drains (span (slot S j)) p2 _ (inTurn s out S (suc j) n) (subst (λ q. Together q (step S (step S x (Post (wholeEntry s))) (Hand j out))) e T2)
-      (answers (isRead (slot S j .message .request)) (span (slot S j)) (p1 .r) (A .r ∙ r))
-      (λ y U. turns n (suc j) (sending p2 0) y U (ap suc (A .k ∙ k)) (omega (arith, l)) refl
-      (none-few (isLast (slot S j)) (heldNow p1 (slot S j)) (few (needing (slot S j)) (p1 .held) (p1 .waiting) (subst (λ es. length es ≤ 1) (sym (A .held)) h)))) in
-      let a = subst (λ q. Goal q (draining out (span (slot S j)) (inTurn s out S (suc j) n))) (sym e) g in
+      let p2 = executeWith regions p1 (slot S j) (firstOf (heldNow p1 (slot S j))) in
+      let g : Goal p2 (draining out (psnCount (slot S j)) (inTurn s out S (suc j) n)) =
+      drains (psnCount (slot S j)) p2 _ (inTurn s out S (suc j) n) (subst (λ q. Together q (step S (step S x (Post (wholeEntry s))) (Hand j out))) e T2)
+      (answers (isRead (slot S j .message .request)) (psnCount (slot S j)) (p1 .r) (A .r ∙ r))
+      (λ y U. turns n (suc j) (withResponses p2 0) y U (ap suc (A .k ∙ k)) (omega (arith, l)) refl
+      (none-few (isLast (slot S j)) (heldNow p1 (slot S j)) (few (needsEntry (slot S j)) (p1 .held) (p1 .waiting) (subst (λ es. length es ≤ 1) (sym (A .held)) h)))) in
+      let a = subst (λ q. Goal q (draining out (psnCount (slot S j)) (inTurn s out S (suc j) n))) (sym e) g in
       ((m1, (m2, a .0)), a .1)
 
 pub witness : Witness

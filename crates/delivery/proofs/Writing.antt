@@ -6,20 +6,20 @@ use mathlib.Core.List.{List, [], _∷_, _++_, map}
 use native.Mathlib.Omega.{arith}
 use lib.Dec.{eqb}
 use lib.ListN.{length, getD, take, drop}
-use Rattle.memory.specs.Memory.{put}
+use Rattle.memory.specs.Memory.{overwrite}
 use Rattle.pmtu.specs.Pieces.{ends, pieceAt}
 use Rattle.table.specs.View.{inRing}
 use Rattle.table.specs.declared.Entry.{Entry}
 use Rattle.pair.specs.Claims.{SetupFit}
 use Rattle.pair.specs.declared.OpenMessage.{OpenMessage}
 use Rattle.cut_spec.specs.Claims.{kindNumber}
-use Rattle.request_spec.specs.Verdict.{netOf, current}
+use Rattle.request_spec.specs.Verdict.{payloadSize, current}
 use Rattle.responder_spec.specs.Kept.{Steady}
-use Rattle.responder_spec.specs.Decide.{headEntry, regionFor, completionOf, grown, placing}
+use Rattle.responder_spec.specs.Decide.{headEntry, regionFor, completionOf, messageAfter, storePayload}
 use Rattle.responder_spec.specs.Apply.{memoryBy, entriesBy}
 use Rattle.responder_spec.specs.Calls.{reports}
 use Rattle.delivery.specs.Stream.{Message, packetCount, Slot, slot, packetAt}
-use Rattle.delivery.specs.Plain.{Plain, lies, takes, completionFor, none, firstOf, needing, isLast, heldNow, waitingNow}
+use Rattle.delivery.specs.Plain.{Plain, regionOffset, takesEntry, completionFor, none, firstOf, needsEntry, isLast, heldNow, waitingNow}
 use Rattle.delivery.specs.Demand.{Run, entryOf}
 use Rattle.delivery.proofs.Chain.{Stands, Good}
 use Rattle.delivery.proofs.Cutting.{placeFor, cutPacket}
@@ -48,7 +48,7 @@ module _ (ms : List Message) (S : List Slot) (p : Plain) (x : Run) (L : Link ms 
     (G : Good (x .whole .pair .setup) (x .whole .regions) ms S) (lt : p .k < length S)
     (ml : length (p .memory) ≡ x .whole .pair .setup .memory)
     (C : Carries (slot S (p .k) .message .request)) (Z : Writes (slot S (p .k) .message .request))
-    (free : (needing (slot S (p .k)) && none (p .waiting)) ≡ false) where
+    (free : (needsEntry (slot S (p .k)) && none (p .waiting)) ≡ false) where
   abbrev t : Slot
   t = slot S (p .k)
 
@@ -68,20 +68,20 @@ module _ (ms : List Message) (S : List Slot) (p : Plain) (x : Run) (L : Link ms 
   fits = Y .pair .setup .0
 
   none-held : p .held ≡ []
-  none-held = go (eqb (t .index) 0) (L .under)
+  none-held = go (eqb (t .index) 0) (L .opened)
     where
       go : (b : Bool) → Under b t (x .whole .pair .message) (p .held) → p .held ≡ []
       go true u = u .1
       go false u = Z .held (length (t .message .bytes)) (p .held) (u .1)
 
   last-is : ends (placeFor t) ≡ isLast t
-  last-is = ends-is (x .whole .pair .setup) (x .whole .regions) fits t H (x .whole .pair .message) (p .held) (L .under)
+  last-is = ends-is (x .whole .pair .setup) (x .whole .regions) fits t H (x .whole .pair .message) (p .held) (L .opened)
 
-  needing-is : needing t ≡ (isLast t && takes (t .message .request))
-  needing-is = Z .needs (t .index) (packetCount (t .message)) ∙ ap (λ b. isLast t && b) (sym (Z .takes))
+  needing-is : needsEntry t ≡ (isLast t && takesEntry (t .message .request))
+  needing-is = Z .needs (t .index) (packetCount (t .message)) ∙ ap (λ b. isLast t && b) (sym (Z .takesEntry))
 
   -- where an entry is taken, there is one
-  pub taken : needing t ≡ true → (1 ≤ x .whole .pair .entries .count) × (entryOf entry ≡ firstOf (heldNow p t))
+  pub taken : needsEntry t ≡ true → (1 ≤ x .whole .pair .entries .count) × (entryOf entry ≡ firstOf (heldNow p t))
   taken e =
       let w = head-taken (p .waiting) (subst (λ b. (b && none (p .waiting)) ≡ false) e free) in
       let c : 1 ≤ x .whole .pair .entries .count =
@@ -95,50 +95,50 @@ module _ (ms : List Message) (S : List Slot) (p : Plain) (x : Run) (L : Link ms 
   piece = pieceAt (t .message .bytes) (t .message .connection .pmtu) (t .index)
 
   abbrev target : ℕ
-  target = lies (x .whole .regions) (keyOf (t .message .request)) (addressOf (t .message .request)) + t .index * t .message .connection .pmtu
+  target = regionOffset (x .whole .regions) (keyOf (t .message .request)) (addressOf (t .message .request)) + t .index * t .message .connection .pmtu
 
-  lands : memoryBy (placing (cutPacket t) M entry region) (x .memory) (packetAt t) ≡ put (p .memory) target piece
+  lands : memoryBy (storePayload (cutPacket t) M entry region) (x .memory) (packetAt t) ≡ overwrite (p .memory) target piece
   lands =
-      ap (λ m. memoryBy (placing (cutPacket t) M entry region) m (packetAt t)) (L .memory)
-      ∙ write-lands (x .whole .pair .setup) (x .whole .regions) fits t H (x .whole .pair .message) (p .held) (L .under) C entry Z (Y .regions) (p .memory) ml
+      ap (λ m. memoryBy (storePayload (cutPacket t) M entry region) m (packetAt t)) (L .memory)
+      ∙ write-lands (x .whole .pair .setup) (x .whole .regions) fits t H (x .whole .pair .message) (p .held) (L .opened) C entry Z (Y .regions) (p .memory) ml
 
-  ring-is : map entryOf (inRing (x .whole .entries) (entriesBy (isLast t && takes (t .message .request)) (x .whole .pair .entries)))
+  ring-is : map entryOf (inRing (x .whole .entries) (entriesBy (isLast t && takesEntry (t .message .request)) (x .whole .pair .entries)))
       ≡ cond (isLast t) [] (heldNow p t) ++ waitingNow p t
   ring-is =
-      entries-by (x .whole .entries) (x .whole .pair .entries) (p .held ++ p .waiting) (L .entries) (isLast t && takes (t .message .request)) (λ z. taken (needing-is ∙ z) .0)
-      ∙ (ap (λ h. cond (isLast t && takes (t .message .request)) (drop 1 (h ++ p .waiting)) (h ++ p .waiting)) none-held
-      ∙ (giving (isLast t) (takes (t .message .request)) (p .waiting)
+      entries-by (x .whole .entries) (x .whole .pair .entries) (p .held ++ p .waiting) (L .entries) (isLast t && takesEntry (t .message .request)) (λ z. taken (needing-is ∙ z) .0)
+      ∙ (ap (λ h. cond (isLast t && takesEntry (t .message .request)) (drop 1 (h ++ p .waiting)) (h ++ p .waiting)) none-held
+      ∙ (giving (isLast t) (takesEntry (t .message .request)) (p .waiting)
       ∙ λ i. cond (isLast t) [] (cond (sym needing-is i) (take 1 (p .waiting)) (sym none-held i)) ++ cond (sym needing-is i) (drop 1 (p .waiting)) (p .waiting)))
 
   more-held : isLast t ≡ false → cond (isLast t) [] (heldNow p t) ≡ []
   more-held e =
       ap (λ b. cond b [] (heldNow p t)) e
-      ∙ (ap (λ b. cond b (take 1 (p .waiting)) (p .held)) (needing-is ∙ ap (λ b. b && takes (t .message .request)) e) ∙ none-held)
+      ∙ (ap (λ b. cond b (take 1 (p .waiting)) (p .held)) (needing-is ∙ ap (λ b. b && takesEntry (t .message .request)) e) ∙ none-held)
 
-  pub writes : Does ms S p x (placing (cutPacket t) M entry region) (packetAt t) (firstOf (heldNow p t))
-  unfolding placing
+  pub writes : Does ms S p x (storePayload (cutPacket t) M entry region) (packetAt t) (firstOf (heldNow p t))
+  unfolding storePayload
   writes =
       record {
-        status = placing-answers (x .whole .pair .setup) (x .whole .regions) fits t H (x .whole .pair .message) (p .held) (L .under) C entry region;
-        numbers = sym (C .span (t .message .connection .pmtu));
+        status = placing-answers (x .whole .pair .setup) (x .whole .regions) fits t H (x .whole .pair .message) (p .held) (L .opened) C entry region;
+        psns = sym (C .psnCount (t .message .connection .pmtu));
         ends = last-is;
-        reads = placing-reads (x .whole .pair .setup) (x .whole .regions) fits t H (x .whole .pair .message) (p .held) (L .under) C entry region (x .whole .pair .read) _ (p .r) (L .reads);
+        reads = placing-reads (x .whole .pair .setup) (x .whole .regions) fits t H (x .whole .pair .message) (p .held) (L .opened) C entry region (x .whole .pair .read) _ (p .r) (L .reads);
         memory = lands ∙ sym (Z .lands (x .whole .regions) (t .message .connection .pmtu) (t .message .bytes) (t .index) (firstOf (heldNow p t)) (p .memory));
-        completion = told .0;
-        entries = ap (λ b. map entryOf (inRing (x .whole .entries) (entriesBy b (x .whole .pair .entries)))) (told .1) ∙ ring-is;
-        under =
-            under-next S (p .k) (grown (placeFor t) M (netOf (cutPacket t))) (cond (isLast t) [] (heldNow p t)) (G .turn (p .k) lt) (H .sent .inside)
-            (λ e. (grown-last (x .whole .pair .setup) (x .whole .regions) fits t H (x .whole .pair .message) (p .held) (L .under) C entry region e, ap (λ b. cond b [] (heldNow p t)) e))
+        completion = completionWith .0;
+        entries = ap (λ b. map entryOf (inRing (x .whole .entries) (entriesBy b (x .whole .pair .entries)))) (completionWith .1) ∙ ring-is;
+        opened =
+            under-next S (p .k) (messageAfter (placeFor t) M (payloadSize (cutPacket t))) (cond (isLast t) [] (heldNow p t)) (G .turn (p .k) lt) (H .outgoing .inside)
+            (λ e. (grown-last (x .whole .pair .setup) (x .whole .regions) fits t H (x .whole .pair .message) (p .held) (L .opened) C entry region e, ap (λ b. cond b [] (heldNow p t)) e))
             (λ e. (
-              grown-more (x .whole .pair .setup) (x .whole .regions) fits t H (x .whole .pair .message) (p .held) (L .under) C entry region e,
+              grown-more (x .whole .pair .setup) (x .whole .regions) fits t H (x .whole .pair .message) (p .held) (L .opened) C entry region e,
               Z .holding (length (t .message .bytes)) (cond (isLast t) [] (heldNow p t)) (more-held e),
             ));
       }
     where
-      told : (reports (completionOf (cutPacket t) M (getD entry 0 0)) ≡ cond (isLast t && takes (t .message .request)) (completionFor (t .message .request) (firstOf (heldNow p t)) (length (t .message .bytes)) ∷ []) [])
-          × (completionOf (cutPacket t) M (getD entry 0 0) .some ≡ (isLast t && takes (t .message .request)))
-      told =
-          placing-told (x .whole .pair .setup) (x .whole .regions) fits t H (x .whole .pair .message) (p .held) (L .under) C entry region
-          (firstOf (heldNow p t)) (write-completes (x .whole .pair .setup) (x .whole .regions) fits t H (x .whole .pair .message) (p .held) (L .under) C entry Z)
+      completionWith : (reports (completionOf (cutPacket t) M (getD entry 0 0)) ≡ cond (isLast t && takesEntry (t .message .request)) (completionFor (t .message .request) (firstOf (heldNow p t)) (length (t .message .bytes)) ∷ []) [])
+          × (completionOf (cutPacket t) M (getD entry 0 0) .some ≡ (isLast t && takesEntry (t .message .request)))
+      completionWith =
+          placing-told (x .whole .pair .setup) (x .whole .regions) fits t H (x .whole .pair .message) (p .held) (L .opened) C entry region
+          (firstOf (heldNow p t)) (write-completes (x .whole .pair .setup) (x .whole .regions) fits t H (x .whole .pair .message) (p .held) (L .opened) C entry Z)
           (λ e. ap (λ y. y .number) (taken (needing-is ∙ e) .1))
-          (λ e. write-long (x .whole .pair .setup) (x .whole .regions) fits t H (x .whole .pair .message) (p .held) (L .under) C entry Z)
+          (λ e. write-long (x .whole .pair .setup) (x .whole .regions) fits t H (x .whole .pair .message) (p .held) (L .opened) C entry Z)

@@ -22,8 +22,8 @@ use Rattle.responder_spec.specs.Inbound.{inbound, inboundMemory}
 use Rattle.responder_spec.specs.Response.{nextResponse}
 use Rattle.responder_spec.specs.Calls.{received, drained, reports}
 use Rattle.responder_spec.specs.declared.Completion.{Completion}
-use Rattle.delivery.specs.Stream.{Message, Slot, slot, stream, packetAt, along}
-use Rattle.delivery.specs.Plain.{Plain, Call, account, plain, start}
+use Rattle.delivery.specs.Stream.{Message, Slot, slot, stream, packetAt, numberAlong}
+use Rattle.delivery.specs.Plain.{Plain, Call, plainStep, plain, start}
 use Rattle.delivery.specs.Plain.Call.{Hand, Next, Post}
 
 -- The pair's run: its tables, memory, and the completions told so far.
@@ -64,14 +64,14 @@ pub record Fresh (w : Whole) : Type 0 where
   pub ready : w .pair .state ≡ 1
   pub expected : w .pair .expected ≡ w .pair .setup .start
   pub msn : w .pair .msn .0 ≡ 0
-  pub mark : w .pair .mark ≡ false
+  pub nakmark : w .pair .nakmark ≡ false
   pub message : w .pair .message .kind ≡ 255
   pub read : w .pair .read .remaining ≡ 0
   pub saved : w .pair .saved .count ≡ 0
 
 -- A permitted message. Bytes named lie in the region of the R_Key, which has the right; no bytes lie anywhere.
-abbrev pub Lies : List (List ℕ) → (Region → Bool) → ℕ → ℕ → ℕ → Type 0
-Lies regions right key address n =
+abbrev pub InRegion : List (List ℕ) → (Region → Bool) → ℕ → ℕ → ℕ → Type 0
+InRegion regions right key address n =
     (n ≡ 0)
     ⊎ ((r : Region) × (regionOf key regions ≡ regionRow r) × (right r ≡ true) × (r .address ≤ address) × (address + n ≤ r .address + r .length))
 
@@ -79,11 +79,11 @@ Lies regions right key address n =
 abbrev pub Allowed : Setup → List (List ℕ) → Request → ℕ → Type 0
 Allowed s regions Send n = s .send ≡ true
 Allowed s regions (SendImmediate v) n = s .send ≡ true
-Allowed s regions (Write t) n = (s .write ≡ true) × Lies regions (λ r. r .write) (t .key) (t .address) n
-Allowed s regions (WriteImmediate t v) n = (s .write ≡ true) × Lies regions (λ r. r .write) (t .key) (t .address) n
-Allowed s regions (Read a) n = (s .read ≡ true) × Lies regions (λ r. r .read) (a .key) (a .address) (a .length)
-Allowed s regions (CmpSwap a) n = (s .atomic ≡ true) × Lies regions (λ r. r .atomic) (a .key) (a .address) 8 × (a .address % 8 ≡ 0)
-Allowed s regions (FetchAdd t v) n = (s .atomic ≡ true) × Lies regions (λ r. r .atomic) (t .key) (t .address) 8 × (t .address % 8 ≡ 0)
+Allowed s regions (Write t) n = (s .write ≡ true) × InRegion regions (λ r. r .write) (t .key) (t .address) n
+Allowed s regions (WriteImmediate t v) n = (s .write ≡ true) × InRegion regions (λ r. r .write) (t .key) (t .address) n
+Allowed s regions (Read a) n = (s .read ≡ true) × InRegion regions (λ r. r .read) (a .key) (a .address) (a .length)
+Allowed s regions (CmpSwap a) n = (s .atomic ≡ true) × InRegion regions (λ r. r .atomic) (a .key) (a .address) 8 × (a .address % 8 ≡ 0)
+Allowed s regions (FetchAdd t v) n = (s .atomic ≡ true) × InRegion regions (λ r. r .atomic) (t .key) (t .address) 8 × (t .address % 8 ≡ 0)
 
 -- It comes to the pair: it is cut at the pair's PMTU, passes its header checks, is within the limits, each number within
 -- its field
@@ -131,20 +131,20 @@ pub record Near (x y : ℕ) : Type 0 where
 -- refused, its number is near the one of packet k, which may be the next after the last.
 pub record Handed (s : Setup) (S : List Slot) (p : Plain) (j : ℕ) (out : List ℕ) : Type 0 where
   pub inside : j < length S
-  pub near : 24 ≤ length out → length (p .memory) ≡ s .memory → p .r ≡ 0 → Near (along S j) (along S (p .k))
+  pub near : 24 ≤ length out → length (p .memory) ≡ s .memory → p .r ≡ 0 → Near (numberAlong S j) (numberAlong S (p .k))
 
 -- An entry that is accepted is long enough.
 pub record Posted (s : Setup) (ms : List Message) (p : Plain) (e : Entry) : Type 0 where
   pub long : e .offset + e .length ≤ s .memory → length (p .held) + length (p .waiting) < 16 → LongEnough ms e
 
-abbrev pub Meets : Setup → List Message → List Slot → Plain → Call → Type 0
-Meets s ms S p (Hand j out) = Handed s S p j out
-Meets s ms S p (Next out) = Unit {0}
-Meets s ms S p (Post e) = Posted s ms p e
+abbrev pub CallPermitted : Setup → List Message → List Slot → Plain → Call → Type 0
+CallPermitted s ms S p (Hand j out) = Handed s S p j out
+CallPermitted s ms S p (Next out) = Unit {0}
+CallPermitted s ms S p (Post e) = Posted s ms p e
 
-abbrev pub AllMeet : Setup → List (List ℕ) → List Message → List Slot → Plain → List Call → Type 0
-AllMeet s regions ms S p [] = Unit {0}
-AllMeet s regions ms S p (c ∷ cs) = Meets s ms S p c × AllMeet s regions ms S (account s regions S p c) cs
+abbrev pub AllCallsPermitted : Setup → List (List ℕ) → List Message → List Slot → Plain → List Call → Type 0
+AllCallsPermitted s regions ms S p [] = Unit {0}
+AllCallsPermitted s regions ms S p (c ∷ cs) = CallPermitted s ms S p c × AllCallsPermitted s regions ms S (plainStep s regions S p c) cs
 
 -- the entries that wait at the start; an entry's row is number, offset, length
 abbrev pub entryOf : List ℕ → Entry
@@ -166,7 +166,7 @@ Delivery =
     → Fresh w
     → AllPermitted (w .pair .setup) (w .regions) ms
     → AllLongEnough ms (waitingAt w)
-    → AllMeet (w .pair .setup) (w .regions) ms (stream (w .pair .setup .start) ms) (start (w .pair .setup) m (waitingAt w)) calls
+    → AllCallsPermitted (w .pair .setup) (w .regions) ms (stream (w .pair .setup .start) ms) (start (w .pair .setup) m (waitingAt w)) calls
     → Agree
     (run (stream (w .pair .setup .start) ms) (record { whole = w; memory = m; completions = [] }) calls)
     (plain (w .pair .setup) (w .regions) (stream (w .pair .setup .start) ms) (start (w .pair .setup) m (waitingAt w)) calls)

@@ -9,10 +9,10 @@ use Rattle.sequence.specs.Sequence.{psnAfter}
 use Rattle.table.specs.declared.Entry.{Entry}
 use Rattle.pair.specs.Calls.{Whole}
 use Rattle.pair.specs.declared.Setup.{Setup}
-use Rattle.delivery.specs.Stream.{Message, Slot, slot, stream, along}
-use Rattle.delivery.specs.Plain.{Plain, Call, needing, none, firstOf, heldNow, perform, account, plain, start}
+use Rattle.delivery.specs.Stream.{Message, Slot, slot, stream, numberAlong}
+use Rattle.delivery.specs.Plain.{Plain, Call, needsEntry, none, firstOf, heldNow, executeWith, plainStep, plain, start}
 use Rattle.delivery.specs.Plain.Call.{Hand, Next, Post}
-use Rattle.delivery.specs.Demand.{run, Fresh, AllPermitted, AllLongEnough, AllMeet, waitingAt, Agree}
+use Rattle.delivery.specs.Demand.{run, Fresh, AllPermitted, AllLongEnough, AllCallsPermitted, waitingAt, Agree}
 
 -- the entries of the posts that the plain run accepts, in their order
 abbrev pub acceptedNow : Setup → Plain → Call → List Entry
@@ -23,11 +23,11 @@ acceptedNow s p (Post e) =
 
 unfoldable pub accepted : Setup → List (List ℕ) → List Slot → Plain → List Call → List Entry
 accepted s regions S p [] = []
-accepted s regions S p (c ∷ cs) = acceptedNow s p c ++ accepted s regions S (account s regions S p c) cs
+accepted s regions S p (c ∷ cs) = acceptedNow s p c ++ accepted s regions S (plainStep s regions S p c) cs
 
 -- the next packet is executed
 abbrev pub executedNext : List (List ℕ) → List Slot → Plain → Plain
-executedNext regions S p = perform regions p (slot S (p .k)) (firstOf (heldNow p (slot S (p .k))))
+executedNext regions S p = executeWith regions p (slot S (p .k)) (firstOf (heldNow p (slot S (p .k))))
 
 -- n packets, one after the other: no calls, no posts, none lost, none twice
 unfoldable pub inOrder : List (List ℕ) → List Slot → Plain → ℕ → Plain
@@ -65,14 +65,14 @@ ExpectedAlong =
     (s : Setup) (regions : List (List ℕ)) (S : List Slot) (m : List ℕ) (waiting : List Entry) (n : ℕ)
     → s .start .0 < 2 ^ 24
     → n ≤ length S
-    → inOrder regions S (start s m waiting) n .expected ≡ psnAfter (s .start) (along S n)
+    → inOrder regions S (start s m waiting) n .expected ≡ psnAfter (s .start) (numberAlong S n)
 
 -- None of the k packets was executed without the entry that it needs.
 abbrev pub Supplied : Type 0
 Supplied =
     (s : Setup) (regions : List (List ℕ)) (S : List Slot) (m : List ℕ) (waiting : List Entry) (calls : List Call) (n : ℕ)
     → n < plain s regions S (start s m waiting) calls .k
-    → needing (slot S n) && none (inOrder regions S (supplied s regions S m waiting calls) n .waiting) ≡ false
+    → needsEntry (slot S n) && none (inOrder regions S (supplied s regions S m waiting calls) n .waiting) ≡ false
 
 -- So the pair's run, under what demand 3 asks, is k packets of the stream in order, each once.
 abbrev pub ExactlyOnce : Type 0
@@ -81,7 +81,7 @@ ExactlyOnce =
     → Fresh w
     → AllPermitted (w .pair .setup) (w .regions) ms
     → AllLongEnough ms (waitingAt w)
-    → AllMeet (w .pair .setup) (w .regions) ms (stream (w .pair .setup .start) ms) (start (w .pair .setup) m (waitingAt w)) calls
+    → AllCallsPermitted (w .pair .setup) (w .regions) ms (stream (w .pair .setup .start) ms) (start (w .pair .setup) m (waitingAt w)) calls
     → let s = w .pair .setup in
     let S = stream (s .start) ms in
     let k = plain s (w .regions) S (start s m (waitingAt w)) calls .k in

@@ -8,7 +8,7 @@ use lib.ListN.{length, getD, take, drop}
 use Rattle.sequence.specs.Sequence.{psnAfter, msnNext}
 use Rattle.sequence.specs.declared.Psn.{Psn}
 use Rattle.sequence.specs.declared.Msn.{Msn}
-use Rattle.memory.specs.Memory.{put}
+use Rattle.memory.specs.Memory.{overwrite}
 use Rattle.memory.specs.Word.{fetchAdded, swapped}
 use Rattle.pmtu.specs.Pieces.{pieceAt}
 use Rattle.table.specs.View.{regionOf}
@@ -17,7 +17,7 @@ use Rattle.pair.specs.declared.Setup.{Setup}
 use Rattle.cut_spec.specs.declared.Request.{Request}
 use Rattle.cut_spec.specs.declared.Request.the-variants.{Send, SendImmediate, Write, WriteImmediate, Read, CmpSwap, FetchAdd}
 use Rattle.responder_spec.specs.declared.Completion.{Completion}
-use Rattle.delivery.specs.Stream.{packetCount, Slot, slot, span}
+use Rattle.delivery.specs.Stream.{packetCount, Slot, slot, psnCount}
 
 -- k packets were executed; held is the entry of a SEND under way; r responses are still to send
 pub record Plain : Type 0 where
@@ -48,41 +48,41 @@ needs (CmpSwap a) i n = false
 needs (FetchAdd t v) i n = false
 
 -- a message that takes an entry; its completion
-abbrev pub takes : Request → Bool
-takes Send = true
-takes (SendImmediate v) = true
-takes (Write t) = false
-takes (WriteImmediate t v) = true
-takes (Read a) = false
-takes (CmpSwap a) = false
-takes (FetchAdd t v) = false
+abbrev pub takesEntry : Request → Bool
+takesEntry Send = true
+takesEntry (SendImmediate v) = true
+takesEntry (Write t) = false
+takesEntry (WriteImmediate t v) = true
+takesEntry (Read a) = false
+takesEntry (CmpSwap a) = false
+takesEntry (FetchAdd t v) = false
 
-abbrev pub told : Entry → ℕ → Bool → ℕ → Completion
-told e n immediate value =
+abbrev pub completionWith : Entry → ℕ → Bool → ℕ → Completion
+completionWith e n immediate value =
     record { some = true; number = e .number; length = n; immediate = immediate; value = value }
 
 abbrev pub completionFor : Request → Entry → ℕ → Completion
-completionFor Send e n = told e n false 0
-completionFor (SendImmediate v) e n = told e n true v
-completionFor (Write t) e n = told e n false 0
-completionFor (WriteImmediate t v) e n = told e n true v
-completionFor (Read a) e n = told e n false 0
-completionFor (CmpSwap a) e n = told e n false 0
-completionFor (FetchAdd t v) e n = told e n false 0
+completionFor Send e n = completionWith e n false 0
+completionFor (SendImmediate v) e n = completionWith e n true v
+completionFor (Write t) e n = completionWith e n false 0
+completionFor (WriteImmediate t v) e n = completionWith e n true v
+completionFor (Read a) e n = completionWith e n false 0
+completionFor (CmpSwap a) e n = completionWith e n false 0
+completionFor (FetchAdd t v) e n = completionWith e n false 0
 
 -- where in memory the address of a region lies; a region's row is key, address, length, offset and rights
-unfoldable pub lies : List (List ℕ) → ℕ → ℕ → ℕ
-lies regions key address = getD (regionOf key regions) 3 0 + (address - getD (regionOf key regions) 1 0)
+unfoldable pub regionOffset : List (List ℕ) → ℕ → ℕ → ℕ
+regionOffset regions key address = getD (regionOf key regions) 3 0 + (address - getD (regionOf key regions) 1 0)
 
 -- memory after packet i, of the entry e: piece i of the message at its place
-abbrev pub landed : Request → List (List ℕ) → ℕ → List ℕ → ℕ → Entry → List ℕ → List ℕ
-landed Send regions pmtu d i e m = put m (e .offset + i * pmtu) (pieceAt d pmtu i)
-landed (SendImmediate v) regions pmtu d i e m = put m (e .offset + i * pmtu) (pieceAt d pmtu i)
-landed (Write t) regions pmtu d i e m = put m (lies regions (t .key) (t .address) + i * pmtu) (pieceAt d pmtu i)
-landed (WriteImmediate t v) regions pmtu d i e m = put m (lies regions (t .key) (t .address) + i * pmtu) (pieceAt d pmtu i)
-landed (Read a) regions pmtu d i e m = m
-landed (CmpSwap a) regions pmtu d i e m = swapped m (lies regions (a .key) (a .address)) (a .compare) (a .swap)
-landed (FetchAdd t v) regions pmtu d i e m = fetchAdded m (lies regions (t .key) (t .address)) v
+abbrev pub memoryAfter : Request → List (List ℕ) → ℕ → List ℕ → ℕ → Entry → List ℕ → List ℕ
+memoryAfter Send regions pmtu d i e m = overwrite m (e .offset + i * pmtu) (pieceAt d pmtu i)
+memoryAfter (SendImmediate v) regions pmtu d i e m = overwrite m (e .offset + i * pmtu) (pieceAt d pmtu i)
+memoryAfter (Write t) regions pmtu d i e m = overwrite m (regionOffset regions (t .key) (t .address) + i * pmtu) (pieceAt d pmtu i)
+memoryAfter (WriteImmediate t v) regions pmtu d i e m = overwrite m (regionOffset regions (t .key) (t .address) + i * pmtu) (pieceAt d pmtu i)
+memoryAfter (Read a) regions pmtu d i e m = m
+memoryAfter (CmpSwap a) regions pmtu d i e m = swapped m (regionOffset regions (a .key) (a .address)) (a .compare) (a .swap)
+memoryAfter (FetchAdd t v) regions pmtu d i e m = fetchAdded m (regionOffset regions (t .key) (t .address)) v
 
 -- the responses of a READ are to be sent
 abbrev pub isRead : Request → Bool
@@ -103,67 +103,67 @@ abbrev pub firstOf : List Entry → Entry
 firstOf [] = record { number = 0; offset = 0; length = 0 }
 firstOf (e ∷ es) = e
 
-abbrev pub needing : Slot → Bool
-needing t = needs (t .message .request) (t .index) (packetCount (t .message))
+abbrev pub needsEntry : Slot → Bool
+needsEntry t = needs (t .message .request) (t .index) (packetCount (t .message))
 
 abbrev pub isLast : Slot → Bool
 isLast t = eqb (suc (t .index)) (packetCount (t .message))
 
 -- the same with other responses to send, other entries waiting
-abbrev pub sending : Plain → ℕ → Plain
-sending p r =
+abbrev pub withResponses : Plain → ℕ → Plain
+withResponses p r =
     record { k = p .k; memory = p .memory; completions = p .completions; msn = p .msn; expected = p .expected; held = p .held; waiting = p .waiting; r = r }
 
-abbrev pub adding : Plain → List Entry → Plain
-adding p waiting =
+abbrev pub withWaiting : Plain → List Entry → Plain
+withWaiting p waiting =
     record { k = p .k; memory = p .memory; completions = p .completions; msn = p .msn; expected = p .expected; held = p .held; waiting = waiting; r = p .r }
 
 -- packet k takes the first entry, if it needs one
 abbrev pub heldNow : Plain → Slot → List Entry
-heldNow p t = cond (needing t) (take 1 (p .waiting)) (p .held)
+heldNow p t = cond (needsEntry t) (take 1 (p .waiting)) (p .held)
 
 abbrev pub waitingNow : Plain → Slot → List Entry
-waitingNow p t = cond (needing t) (drop 1 (p .waiting)) (p .waiting)
+waitingNow p t = cond (needsEntry t) (drop 1 (p .waiting)) (p .waiting)
 
 -- packet k is executed, once, with its entry e
-unfoldable pub perform : List (List ℕ) → Plain → Slot → Entry → Plain
-perform regions p t e =
+unfoldable pub executeWith : List (List ℕ) → Plain → Slot → Entry → Plain
+executeWith regions p t e =
     record {
       k = suc (p .k);
-      memory = landed (t .message .request) regions (t .message .connection .pmtu) (t .message .bytes) (t .index) e (p .memory);
-      completions = p .completions ++ cond (isLast t && takes (t .message .request)) (completionFor (t .message .request) e (length (t .message .bytes)) ∷ []) [];
+      memory = memoryAfter (t .message .request) regions (t .message .connection .pmtu) (t .message .bytes) (t .index) e (p .memory);
+      completions = p .completions ++ cond (isLast t && takesEntry (t .message .request)) (completionFor (t .message .request) e (length (t .message .bytes)) ∷ []) [];
       msn = cond (isLast t) (msnNext (p .msn)) (p .msn);
-      expected = psnAfter (p .expected) (span t);
+      expected = psnAfter (p .expected) (psnCount t);
       held = cond (isLast t) [] (heldNow p t);
       waiting = waitingNow p t;
-      r = cond (isRead (t .message .request)) (span t) (p .r);
+      r = cond (isRead (t .message .request)) (psnCount t) (p .r);
     }
 
 -- packet k has come: without the entry that it needs, nothing
-abbrev pub reached : List (List ℕ) → Plain → Slot → Plain
-reached regions p t = cond (needing t && none (p .waiting)) p (perform regions p t (firstOf (heldNow p t)))
+abbrev pub executeNext : List (List ℕ) → Plain → Slot → Plain
+executeNext regions p t = cond (needsEntry t && none (p .waiting)) p (executeWith regions p t (firstOf (heldNow p t)))
 
 -- packet j is delivered: packet k is executed, a READ before it is answered again, all else changes nothing
-abbrev pub delivered : List (List ℕ) → List Slot → Plain → ℕ → Plain
-delivered regions S p j =
-    cond (eqb j (p .k)) (reached regions p (slot S j))
-    (cond (ltb j (p .k) && isRead (slot S j .message .request)) (sending p (span (slot S j))) p)
+abbrev pub deliver : List (List ℕ) → List Slot → Plain → ℕ → Plain
+deliver regions S p j =
+    cond (eqb j (p .k)) (executeNext regions p (slot S j))
+    (cond (ltb j (p .k) && isRead (slot S j .message .request)) (withResponses p (psnCount (slot S j))) p)
 
 -- a call that the order of checks refuses changes nothing
-abbrev pub account : Setup → List (List ℕ) → List Slot → Plain → Call → Plain
-account s regions S p (Hand j out) =
+abbrev pub plainStep : Setup → List (List ℕ) → List Slot → Plain → Call → Plain
+plainStep s regions S p (Hand j out) =
     cond (ltb (length out) 24) p
-    (cond (not (eqb (length (p .memory)) (s .memory))) p (cond (not (eqb (p .r) 0)) p (delivered regions S p j)))
-account s regions S p (Next out) =
+    (cond (not (eqb (length (p .memory)) (s .memory))) p (cond (not (eqb (p .r) 0)) p (deliver regions S p j)))
+plainStep s regions S p (Next out) =
     cond (eqb (p .r) 0) p
-    (cond (ltb (length out) (16 + s .pmtu)) p (cond (not (eqb (length (p .memory)) (s .memory))) p (sending p (p .r - 1))))
-account s regions S p (Post e) =
+    (cond (ltb (length out) (16 + s .pmtu)) p (cond (not (eqb (length (p .memory)) (s .memory))) p (withResponses p (p .r - 1))))
+plainStep s regions S p (Post e) =
     cond (ltb (s .memory) (e .offset + e .length)) p
-    (cond (leb 16 (length (p .held) + length (p .waiting))) p (adding p (p .waiting ++ (e ∷ []))))
+    (cond (leb 16 (length (p .held) + length (p .waiting))) p (withWaiting p (p .waiting ++ (e ∷ []))))
 
 unfoldable pub plain : Setup → List (List ℕ) → List Slot → Plain → List Call → Plain
 plain s regions S p [] = p
-plain s regions S p (c ∷ cs) = plain s regions S (account s regions S p c) cs
+plain s regions S p (c ∷ cs) = plain s regions S (plainStep s regions S p c) cs
 
 -- the start: memory, the number first expected, and the entries that wait
 abbrev pub start : Setup → List ℕ → List Entry → Plain

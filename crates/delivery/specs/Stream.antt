@@ -56,20 +56,20 @@ unfoldable pub packetAt : Slot → List ℕ
 packetAt t = cutBytes (t .message .connection) (t .message .request) (t .message .bytes) (t .first) (t .index)
 
 -- how many numbers a packet takes: a READ as many as it has responses
-abbrev pub spanOf : Request → ℕ → ℕ
-spanOf Send pmtu = 1
-spanOf (SendImmediate v) pmtu = 1
-spanOf (Write t) pmtu = 1
-spanOf (WriteImmediate t v) pmtu = 1
-spanOf (Read a) pmtu = pieces (a .length) pmtu
-spanOf (CmpSwap a) pmtu = 1
-spanOf (FetchAdd t v) pmtu = 1
+abbrev pub psnCountOf : Request → ℕ → ℕ
+psnCountOf Send pmtu = 1
+psnCountOf (SendImmediate v) pmtu = 1
+psnCountOf (Write t) pmtu = 1
+psnCountOf (WriteImmediate t v) pmtu = 1
+psnCountOf (Read a) pmtu = pieces (a .length) pmtu
+psnCountOf (CmpSwap a) pmtu = 1
+psnCountOf (FetchAdd t v) pmtu = 1
 
-abbrev pub span : Slot → ℕ
-span t = spanOf (t .message .request) (t .message .connection .pmtu)
+abbrev pub psnCount : Slot → ℕ
+psnCount t = psnCountOf (t .message .request) (t .message .connection .pmtu)
 
 -- how far along the stream packet j is, or would be: not wrapped
-unfoldable pub along : List Slot → ℕ → ℕ
-along [] j = 0
-along (t ∷ S) zero = 0
-along (t ∷ S) (suc j) = span t + along S j
+unfoldable pub numberAlong : List Slot → ℕ → ℕ
+numberAlong [] j = 0
+numberAlong (t ∷ S) zero = 0
+numberAlong (t ∷ S) (suc j) = psnCount t + numberAlong S j

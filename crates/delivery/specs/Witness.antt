@@ -7,10 +7,10 @@ use lib.ListN.{length}
 use Rattle.table.specs.declared.Entry.{Entry}
 use Rattle.pair.specs.Calls.{Whole}
 use Rattle.pair.specs.declared.Setup.{Setup}
-use Rattle.delivery.specs.Stream.{Message, Slot, slot, stream, span}
+use Rattle.delivery.specs.Stream.{Message, Slot, slot, stream, psnCount}
 use Rattle.delivery.specs.Plain.{Call, plain, start}
 use Rattle.delivery.specs.Plain.Call.{Hand, Next, Post}
-use Rattle.delivery.specs.Demand.{Fresh, AllPermitted, LongEnough, AllLongEnough, AllMeet, waitingAt}
+use Rattle.delivery.specs.Demand.{Fresh, AllPermitted, LongEnough, AllLongEnough, AllCallsPermitted, waitingAt}
 
 -- the longest entry
 abbrev pub wholeEntry : Setup → Entry
@@ -25,7 +25,7 @@ draining out (suc n) rest = Next out ∷ draining out n rest
 unfoldable pub inTurn : Setup → List ℕ → List Slot → ℕ → ℕ → List Call
 inTurn s out S j zero = []
 inTurn s out S j (suc n) =
-    Post (wholeEntry s) ∷ Hand j out ∷ draining out (span (slot S j)) (inTurn s out S (suc j) n)
+    Post (wholeEntry s) ∷ Hand j out ∷ draining out (psnCount (slot S j)) (inTurn s out S (suc j) n)
 
 abbrev pub Witness : Type 0
 Witness =
@@ -37,5 +37,5 @@ Witness =
     → length m ≡ w .pair .setup .memory
     → 4112 ≤ length out
     → (calls : List Call)
-    × AllMeet (w .pair .setup) (w .regions) ms (stream (w .pair .setup .start) ms) (start (w .pair .setup) m (waitingAt w)) calls
+    × AllCallsPermitted (w .pair .setup) (w .regions) ms (stream (w .pair .setup .start) ms) (start (w .pair .setup) m (waitingAt w)) calls
     × (plain (w .pair .setup) (w .regions) (stream (w .pair .setup .start) ms) (start (w .pair .setup) m (waitingAt w)) calls .k ≡ length (stream (w .pair .setup .start) ms))

@@ -8,7 +8,7 @@ use lib.ListN.{length, length-append}
 use Rattle.lemmas.proofs.Tests.{not-true, not-false}
 use Rattle.opcode.specs.Opcode.{classOf}
 use Rattle.opcode.specs.declared.OpcodeClass.{OpcodeClass}
-use Rattle.memory.specs.Memory.{placed}
+use Rattle.memory.specs.Memory.{store}
 use Rattle.memory.proofs.Put.{length-placed, placed-placed}
 use Rattle.header.specs.Write.{bthFits, extensionFits, headerFits, headerLength, bthBytes, extensionBytes, written, writtenOut}
 use Rattle.header.specs.declared.Header.{Header}
@@ -51,7 +51,7 @@ module _ (h : Header) (out : List ℕ) (u : Bool) (e : u ≡ not (headerFits h))
       (sym (R .0), sym (R .1))
 
   -- there is room for the headers after the BTH, in what the BTH's bytes b left
-  pub room : (b m : List ℕ) → k .length ≤ length out → m ≡ placed out 0 b
+  pub room : (b m : List ℕ) → k .length ≤ length out → m ≡ store out 0 b
       → 12 + length (extensionBytes (h .extension)) ≤ length m
   room b m l q =
       let s : length m ≡ length out = ap length q ∙ length-placed out 0 b in
@@ -59,21 +59,21 @@ module _ (h : Header) (out : List ℕ) (u : Bool) (e : u ≡ not (headerFits h))
       omega (arith, length-is h good)
 
   -- the header written: the BTH's bytes b first, the other headers into what that left
-  pub whole : (b m w : List ℕ) → k .length ≤ length out → b ≡ bthBytes (h .bth) → m ≡ placed out 0 b
-      → w ≡ placed m 12 (extensionBytes (h .extension))
+  pub whole : (b m w : List ℕ) → k .length ≤ length out → b ≡ bthBytes (h .bth) → m ≡ store out 0 b
+      → w ≡ store m 12 (extensionBytes (h .extension))
       → (Done (k .length) ≡ written h (length out)) × (w ≡ writtenOut h out)
   whole b m w l p q r =
       let n : headerLength h ≤ length out = subst (λ s. s ≤ length out) size l in
       let D = done h out good n in (
         ap Done size ∙ sym (D .0),
-        r ∙ (ap (λ z. placed z 12 (extensionBytes (h .extension))) (q ∙ ap (placed out 0) p) ∙ (two-parts h out good n ∙ sym (D .1))),
+        r ∙ (ap (λ z. store z 12 (extensionBytes (h .extension))) (q ∙ ap (store out 0) p) ∙ (two-parts h out good n ∙ sym (D .1))),
       )
 
 -- headers in two parts, b and c, the second placed behind the first
 pub in-two : (out b c m w : List ℕ) (e : Extension) (n : ℕ) → extensionBytes e ≡ b ++ c → 12 + length b ≡ n
-    → 12 + length (extensionBytes e) ≤ length out → m ≡ placed out 12 b → w ≡ placed m n c
-    → w ≡ placed out 12 (extensionBytes e)
+    → 12 + length (extensionBytes e) ≤ length out → m ≡ store out 12 b → w ≡ store m n c
+    → w ≡ store out 12 (extensionBytes e)
 in-two out b c m w e n x l r p q =
     let k : length (extensionBytes e) ≡ length b + length c = ap length x ∙ length-append b c in
-    let j : placed (placed out 12 b) (12 + length b) c ≡ placed out 12 (b ++ c) = placed-placed out 12 b c (omega arith) in
-    q ∙ (ap (λ z. placed z n c) p ∙ (subst (λ z. placed (placed out 12 b) z c ≡ placed out 12 (b ++ c)) l j ∙ ap (placed out 12) (sym x)))
+    let j : store (store out 12 b) (12 + length b) c ≡ store out 12 (b ++ c) = placed-placed out 12 b c (omega arith) in
+    q ∙ (ap (λ z. store z n c) p ∙ (subst (λ z. store (store out 12 b) z c ≡ store out 12 (b ++ c)) l j ∙ ap (store out 12) (sym x)))

@@ -9,7 +9,7 @@ ghost use mathlib.Core.Path.{_≡_};
 ghost use mathlib.Core.Bool.{not};
 ghost use Prim.Native.Nat.{_+_, _≤_};
 ghost use lib.ListN.{length};
-ghost use Rattle.memory.specs.Memory.{placed};
+ghost use Rattle.memory.specs.Memory.{store};
 ghost use Rattle.header.specs.Write.{bthFits, followsBy, widthsFit, extensionFits, headerFits, extensionBytes, written, writtenOut};
 
 // A field over its width, a TVer or a service that no header here has. What a field's own type bounds
@@ -94,37 +94,37 @@ pub fn unfit(h: Header) -> bool
 // The headers after the BTH, into an output that has room for them.
 fn write_extension(out: &mut [u8], e: Extension)
     requires { ⌜ 12 + length (extensionBytes e) ≤ length (now out) ⌝ }
-    ensures { λ _. ⌜ now (out .exit) ≡ placed (now (out .entry)) 12 (extensionBytes e) ⌝ }
+    ensures { λ _. ⌜ now (out .exit) ≡ store (now (out .entry)) 12 (extensionBytes e) ⌝ }
 {
     match e {
-        Extension::Bare => memory::place(out, 12, &[]),
+        Extension::Bare => memory::store(out, 12, &[]),
         Extension::Remote(r) => {
             let b = wire::reth_bytes(r);
-            memory::place(out, 12, &b)
+            memory::store(out, 12, &b)
         }
         Extension::RemoteImmediate(r, i) => {
             let b = wire::reth_bytes(r);
-            memory::place(out, 12, &b);
+            memory::store(out, 12, &b);
             let c = wire::immediate_bytes(i);
-            memory::place(out, 28, &c)
+            memory::store(out, 28, &c)
         }
         Extension::Immediate(i) => {
             let b = wire::immediate_bytes(i);
-            memory::place(out, 12, &b)
+            memory::store(out, 12, &b)
         }
         Extension::Atomic(a) => {
             let b = wire::atomic_bytes(a);
-            memory::place(out, 12, &b)
+            memory::store(out, 12, &b)
         }
         Extension::Acknowledge(a) => {
             let b = wire::aeth_bytes(a);
-            memory::place(out, 12, &b)
+            memory::store(out, 12, &b)
         }
         Extension::AtomicAcknowledge(a, v) => {
             let b = wire::aeth_bytes(a);
-            memory::place(out, 12, &b);
+            memory::store(out, 12, &b);
             let c = wire::value_bytes(v);
-            memory::place(out, 16, &c)
+            memory::store(out, 16, &c)
         }
     }
 }
@@ -144,7 +144,7 @@ pub fn write(h: Header, out: &mut [u8]) -> Answer
         return Answer::Refused(35);
     }
     let b = wire::bth_bytes(bth);
-    memory::place(out, 0, &b);
+    memory::store(out, 0, &b);
     let extension = h.extension;
     write_extension(out, extension);
     Answer::Done(class.length)

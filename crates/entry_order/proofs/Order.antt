@@ -27,7 +27,7 @@ use Rattle.responder_spec.specs.Calls.{received, drained, reports}
 use Rattle.responder_spec.specs.Entries.{Uses}
 use Rattle.responder_spec.specs.declared.Completion.{Completion}
 use Rattle.responder_spec.proofs.Uses.{inbound-uses, next-uses}
-use Rattle.entry_order.specs.Order.{Call, History, start, goes, hosted, step, ran, InOrder, EntriesInOrder, SinceSetUp, SinceReset}
+use Rattle.entry_order.specs.Order.{Call, History, start, goes, hosted, step, ran, PostingOrder, EntriesInOrder, SinceSetUp, SinceReset}
 use Rattle.entry_order.specs.Order.Call.{Host, Inbound, Next}
 
 -- what is kept: the entries held and waiting are the rows of the ring, and the table has 16 rows
@@ -189,7 +189,7 @@ unfolding ran
 all [] x k = k
 all (c ∷ calls) x k = all calls (step x c) (step-keeps x k c)
 
-in-order : (x : History) → Keeps x → InOrder x
+in-order : (x : History) → Keeps x → PostingOrder x
 in-order x k =
     record {
       completed = k .completed;

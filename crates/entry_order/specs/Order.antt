@@ -79,7 +79,7 @@ abbrev pub waiting : History → List (List ℕ)
 waiting x = waitingOf (x .whole .pair) (x .whole .entries)
 
 -- Completed are those that the host was told of, each by its number and in that order. A row is number, offset, length.
-pub record InOrder (x : History) : Type 0 where
+pub record PostingOrder (x : History) : Type 0 where
   pub completed : List (List ℕ)
   pub told : map (λ c. c .number) (x .completions) ≡ map (λ row. getD row 0 0) completed
   pub order : x .posted ≡ completed ++ (held x ++ waiting x)
@@ -87,16 +87,16 @@ pub record InOrder (x : History) : Type 0 where
 -- From any pair on that has no entries, and a table of 16 rows. Nothing is asked of the rest of the pair or of any bytes.
 abbrev pub EntriesInOrder : Type 0
 EntriesInOrder =
-    (w : Whole) (calls : List Call) → length (w .entries) ≡ 16 → w .pair .entries .count ≡ 0 → InOrder (ran (start w) calls)
+    (w : Whole) (calls : List Call) → length (w .entries) ≡ 16 → w .pair .entries .count ≡ 0 → PostingOrder (ran (start w) calls)
 
 -- So it is since a set-up, accepted or refused, whatever the tables held before;
 abbrev pub SinceSetUp : Type 0
 SinceSetUp =
     (s : Setup) (regions entries saved : List (List ℕ)) (calls : List Call) → length entries ≡ 16
-    → InOrder (ran (start (begun s regions entries saved)) calls)
+    → PostingOrder (ran (start (begun s regions entries saved)) calls)
 
 -- and since a reset of a pair that was set up, whatever it has received and its tables hold.
 abbrev pub SinceReset : Type 0
 SinceReset =
     (w : Whole) (calls : List Call) → SetupSound (w .pair .setup) → length (w .entries) ≡ 16
-    → InOrder (ran (start (called w Reset)) calls)
+    → PostingOrder (ran (start (called w Reset)) calls)

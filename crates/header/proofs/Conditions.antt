@@ -16,31 +16,31 @@ use Rattle.header.proofs.Reasons.{of-not, length-good, good-length}
 use Rattle.header.proofs.Keys.{matches, matches-only}
 
 -- a test that is true where its condition fails, both ways
-abbrev pub Says : Bool → Type 0 → Type 0
-Says failing Good = (failing ≡ false → Good) × (Good → failing ≡ false)
+abbrev pub Tells : Bool → Type 0 → Type 0
+Tells failing Good = (failing ≡ false → Good) × (Good → failing ≡ false)
 
 -- two numbers that are to agree, one that is to be at least another, and a flag
-pub equal-tested : (a b : ℕ) → Says (not (eqb a b)) (a ≡ b)
+pub equal-tested : (a b : ℕ) → Tells (not (eqb a b)) (a ≡ b)
 equal-tested a b = (of-not a b, λ e. rw (eq-eqb a b e))
 
-pub least-tested : (a b : ℕ) → Says (ltb a b) (b ≤ a)
+pub least-tested : (a b : ℕ) → Tells (ltb a b) (b ≤ a)
 least-tested a b = (ltb-false a b, le-ltb a b)
 
 on : (b : Bool) → not b ≡ false → b ≡ true
 on true h = refl
 on false h = absurd (true≢false h)
 
-pub flag-tested : (b : Bool) → Says (not b) (b ≡ true)
+pub flag-tested : (b : Bool) → Tells (not b) (b ≡ true)
 flag-tested b = (on b, λ e. rw e)
 
-pub length-tested : (n : ℕ) → Says (badLength n) (LengthGood n)
+pub length-tested : (n : ℕ) → Tells (badLength n) (LengthGood n)
 length-tested n = (length-good n, λ G. good-length n (G .least) (G .most) (G .words))
 
 -- P_Keys
 pub keys-of : (theirs ours : ℕ) → pkeysMatch theirs ours ≡ true → KeysMatch theirs ours
 keys-of theirs ours h = let m = matches-only theirs ours h in record { same = m .0; some = m .1; full = m .2 }
 
-pub keys-tested : (theirs ours : ℕ) → Says (not (pkeysMatch theirs ours)) (KeysMatch theirs ours)
+pub keys-tested : (theirs ours : ℕ) → Tells (not (pkeysMatch theirs ours)) (KeysMatch theirs ours)
 keys-tested theirs ours = (
   λ h. keys-of theirs ours (on (pkeysMatch theirs ours) h),
   λ K. rw (matches theirs ours (K .same) (K .some) (K .full)),
@@ -65,7 +65,7 @@ low-of a b x h = ltb-false a b (or-left (ltb a b) x h)
 same-of : (x : Bool) (a b : ℕ) → (x || not (eqb a b)) ≡ false → a ≡ b
 same-of x a b h = of-not a b (or-right x (not (eqb a b)) h)
 
-pub service-tested : (opcode service : ℕ) → Says (wrongService (opcode / 32) service) (ServiceOurs opcode service)
+pub service-tested : (opcode service : ℕ) → Tells (wrongService (opcode / 32) service) (ServiceOurs opcode service)
 unfolding wrongService otherService
 service-tested opcode service = (forth, back)
   where
@@ -96,7 +96,7 @@ over x c d h = rw (lt-leb c d h) (go x)
     go true = refl
     go false = refl
 
-pub response-tested : (opcode : ℕ) → Says (isResponse (opcode % 32)) (NoResponse opcode)
+pub response-tested : (opcode : ℕ) → Tells (isResponse (opcode % 32)) (NoResponse opcode)
 unfolding isResponse
 response-tested opcode = (λ h. go (ltb (opcode % 32) 13) refl h, back)
   where
@@ -111,7 +111,7 @@ response-tested opcode = (λ h. go (ltb (opcode % 32) 13) refl h, back)
 below : (a b : ℕ) → not (ltb a b) ≡ false → a < b
 below a b h = ltb-true a b (on (ltb a b) h)
 
-pub uc-tested : (opcode service : ℕ) → Says (beyondService service (opcode % 32)) (OnService opcode service)
+pub uc-tested : (opcode service : ℕ) → Tells (beyondService service (opcode % 32)) (OnService opcode service)
 unfolding beyondService ucHas
 uc-tested opcode service = (forth, back (eqb service 1) refl)
   where

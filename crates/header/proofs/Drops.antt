@@ -10,7 +10,7 @@ use Rattle.lemmas.proofs.Auto.{tests}
 use Rattle.header.specs.Read.{readBy}
 use Rattle.header.specs.Check.{headerReason, admitted}
 use Rattle.header.specs.Drops.{FirstOf, FirstFails, DroppedBy}
-use Rattle.header.proofs.Conditions.{Says, equal-tested, least-tested, flag-tested, length-tested, keys-tested, service-tested, response-tested, uc-tested}
+use Rattle.header.proofs.Conditions.{Tells, equal-tested, least-tested, flag-tested, length-tested, keys-tested, service-tested, response-tested, uc-tested}
 
 -- One check of a cascade: its own number where its condition fails, what the later ones give where it holds; and the
 -- condition holds or not.
@@ -20,7 +20,7 @@ record Link (Good : Type 0) (k rest reason : ℕ) : Type 0 where
   either : Good ⊎ (Good → ⊥)
 
 -- a test that says its condition makes one
-link : {b : Bool} {Good : Type 0} {k rest : ℕ} → Says b Good → Link Good k rest (cond b k rest)
+link : {b : Bool} {Good : Type 0} {k rest : ℕ} → Tells b Good → Link Good k rest (cond b k rest)
 link {b} {Good} {k} {rest} s = go b (s .0) (s .1)
   where
     go : (b : Bool) → (b ≡ false → Good) → (Good → b ≡ false) → Link Good k rest (cond b k rest)

@@ -8,7 +8,7 @@ use lib.Dec.{ltb, eqb}
 use lib.ListN.{length, drop}
 use borrow.Author.Tests.{lt-ltb, le-ltb, ltb-true, ltb-false, ne-eqb, eqb-true}
 use Rattle.opcode.specs.Opcode.{classOf}
-use Rattle.memory.specs.Memory.{placed}
+use Rattle.memory.specs.Memory.{store}
 use Rattle.memory.proofs.Put.{placed-put, placed-placed, put-start}
 use Rattle.header.specs.Write.{bthBytes, extensionBytes, headerBytes, bthFits, extensionFits, headerFits, headerLength, writeAnswer, answerBy, written, answerNumber, writtenOut}
 use Rattle.header.specs.Claims.{WriteNumbers}
@@ -69,7 +69,7 @@ done h out e l = (answered h (length out) e l, rw (fine h (length out) e l))
 
 -- the BTH placed, and then the headers after it
 pub two-parts : (h : Header) (out : List ℕ) → headerFits h ≡ true → headerLength h ≤ length out
-    → placed (placed out 0 (bthBytes (h .bth))) 12 (extensionBytes (h .extension)) ≡ headerBytes h ++ drop (headerLength h) out
+    → store (store out 0 (bthBytes (h .bth))) 12 (extensionBytes (h .extension)) ≡ headerBytes h ++ drop (headerLength h) out
 unfolding headerBytes
 two-parts h out e l =
     let b = bthBytes (h .bth) in
@@ -77,8 +77,8 @@ two-parts h out e l =
     let lb : 0 + length b ≡ 12 = omega (arith, length-bth (h .bth)) in
     let lx : headerLength h ≡ 12 + length x = length-is h e in
     let both : 0 + length b + length x ≤ length out = omega arith in
-    let joined : placed (placed out 0 b) 12 x ≡ placed out 0 (b ++ x) =
-    subst (λ n. placed (placed out 0 b) n x ≡ placed out 0 (b ++ x)) lb (placed-placed out 0 b x both) in
+    let joined : store (store out 0 b) 12 x ≡ store out 0 (b ++ x) =
+    subst (λ n. store (store out 0 b) n x ≡ store out 0 (b ++ x)) lb (placed-placed out 0 b x both) in
     let size : length (b ++ x) ≡ headerLength h = length-header h e in
     let room : 0 + length (b ++ x) ≤ length out = omega arith in
     joined ∙ (placed-put out 0 (b ++ x) room ∙ (put-start out (b ++ x) ∙ ap (λ n. (b ++ x) ++ drop n out) size))

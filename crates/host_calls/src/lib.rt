@@ -52,7 +52,7 @@ fn fresh(setup: Setup) -> Pair
         state: pair::INIT,
         expected,
         msn,
-        mark: false,
+        nakmark: false,
         message,
         entries,
         read,

@@ -63,35 +63,35 @@ pub fn ring_unsound(head: usize, count: usize) -> bool
 }
 
 // An open SEND holds an entry, and has placed no more than memory can have.
-fn send_unsound(placed: usize, entries: usize) -> bool
-    ensures { λ r. ⌜ r ≡ sendUnsound placed entries ⌝ }
+fn send_unsound(stored: usize, entries: usize) -> bool
+    ensures { λ r. ⌜ r ≡ sendUnsound stored entries ⌝ }
 {
     if entries == 0 {
         return true;
     }
-    pair::LIMIT < placed
+    pair::LIMIT < stored
 }
 
 // An open WRITE has bytes to come, within the limit, and its next byte has an address.
-pub fn message_unsound(kind: u8, placed: usize, address: u64, length: usize, entries: usize) -> bool
-    ensures { λ r. ⌜ r ≡ messageUnsound kind placed address length entries ⌝ }
+pub fn message_unsound(kind: u8, stored: usize, address: u64, length: usize, entries: usize) -> bool
+    ensures { λ r. ⌜ r ≡ messageUnsound kind stored address length entries ⌝ }
 {
     if kind == pair::CLOSED {
         return false;
     }
     if kind == opcode::SEND {
-        return send_unsound(placed, entries);
+        return send_unsound(stored, entries);
     }
     if kind != opcode::WRITE {
         return true;
     }
-    if length <= placed {
+    if length <= stored {
         return true;
     }
     if pair::LIMIT < length {
         return true;
     }
-    table::past_top(address, wide(placed))
+    table::past_top(address, wide(stored))
 }
 
 // A read answer has no more responses to send than there are, lies in memory, and has numbers of 24 bits.
@@ -158,7 +158,7 @@ pub fn unsound(pair: Pair) -> bool
     }
     let e = message_unsound(
         pair.message.kind,
-        pair.message.placed,
+        pair.message.stored,
         pair.message.address,
         pair.message.length,
         pair.entries.count,

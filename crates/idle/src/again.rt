@@ -1,16 +1,16 @@
 // What a repeated packet is answered with.
 use crate::ACK;
-use crate::still::quietly;
-use crate::still::still;
+use crate::still::no_reply;
+use crate::still::reply_only;
 use pair::OpenMessage;
 use pair::Setup;
 use pair::Status;
-use responder_spec::Decision;
 use request_spec::Packet;
+use responder_spec::Decision;
 use sequence::Psn;
 use table::Saved;
 ghost use mathlib.Core.Path.{_≡_};
-ghost use Rattle.responder_spec.specs.Decide.{psnBefore, againFails, atomicAgain, isAtomic};
+ghost use Rattle.responder_spec.specs.Decide.{psnBefore, duplicateReadFails, duplicateAtomic, isAtomic};
 
 pub fn psn_before(psn: Psn) -> Psn
     ensures { λ r. ⌜ r ≡ psnBefore psn ⌝ }
@@ -25,8 +25,14 @@ fn wide(x: u32) -> usize
 }
 
 // Whether a repeated READ is not answered.
-pub fn again_fails(p: Packet, s: Setup, m: OpenMessage, expected: Psn, region: [u64; 7]) -> bool
-    ensures { λ r. ⌜ r ≡ againFails p s m expected region ⌝ }
+pub fn duplicate_read_fails(
+    p: Packet,
+    s: Setup,
+    m: OpenMessage,
+    expected: Psn,
+    region: [u64; 7],
+) -> bool
+    ensures { λ r. ⌜ r ≡ duplicateReadFails p s m expected region ⌝ }
 {
     let off = request_checks::not_enabled(s, opcode::READ);
     if off {
@@ -36,7 +42,7 @@ pub fn again_fails(p: Packet, s: Setup, m: OpenMessage, expected: Psn, region: [
     if long {
         return true;
     }
-    if p.raw != 0 {
+    if p.padded != 0 {
         return true;
     }
     if p.pad != 0 {
@@ -51,17 +57,17 @@ pub fn again_fails(p: Packet, s: Setup, m: OpenMessage, expected: Psn, region: [
     wide(behind) < count
 }
 
-pub fn atomic_again(saved: Saved, psn: Psn) -> Decision
-    ensures { λ r. ⌜ r ≡ atomicAgain saved psn ⌝ }
+pub fn duplicate_atomic(saved: Saved, psn: Psn) -> Decision
+    ensures { λ r. ⌜ r ≡ duplicateAtomic saved psn ⌝ }
 {
     match saved {
         Saved::Value(v) => {
             let status = Status::DuplicateAnswered;
-            still(status, 24, psn, ACK, v)
+            reply_only(status, 24, psn, ACK, v)
         }
         Saved::Nothing => {
             let status = Status::Dropped;
-            quietly(status)
+            no_reply(status)
         }
     }
 }

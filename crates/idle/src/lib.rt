@@ -3,14 +3,14 @@
 mod again;
 mod still;
 
-pub use again::again_fails;
-pub use again::atomic_again;
+pub use again::duplicate_atomic;
+pub use again::duplicate_read_fails;
 pub use again::is_atomic;
 pub use again::psn_before;
 pub use still::acknowledging;
 pub use still::ahead;
 pub use still::no_completion;
-pub use still::quietly;
+pub use still::no_reply;
 ghost use mathlib.Core.Path.{_≡_};
 ghost use Rattle.responder_spec.specs.Decide.{regionFor};
 

@@ -4,7 +4,7 @@ use responder_spec::Completion;
 use responder_spec::Decision;
 use sequence::Psn;
 ghost use mathlib.Core.Path.{_≡_};
-ghost use Rattle.responder_spec.specs.Decide.{noCompletion, still, quietly, acknowledging, aheadDecision};
+ghost use Rattle.responder_spec.specs.Decide.{noCompletion, replyOnly, noReply, acknowledging, aheadDecision};
 
 // Nothing completes.
 pub fn no_completion() -> Completion
@@ -20,8 +20,14 @@ pub fn no_completion() -> Completion
 }
 
 // The answer, and the packet that is sent.
-pub(crate) fn still(status: Status, sent: usize, psn: Psn, syndrome: u8, value: u64) -> Decision
-    ensures { λ r. ⌜ r ≡ still status sent psn syndrome value ⌝ }
+pub(crate) fn reply_only(
+    status: Status,
+    outgoing: usize,
+    psn: Psn,
+    syndrome: u8,
+    value: u64,
+) -> Decision
+    ensures { λ r. ⌜ r ≡ replyOnly status outgoing psn syndrome value ⌝ }
 {
     let message = pair::no_message();
     let completion = no_completion();
@@ -34,39 +40,39 @@ pub(crate) fn still(status: Status, sent: usize, psn: Psn, syndrome: u8, value: 
         swap: 0,
         compare: 0,
         message,
-        numbers: 0,
+        psns: 0,
         ends: false,
         completion,
         responses: 0,
         length: 0,
-        sent,
+        outgoing,
         psn,
         syndrome,
         value,
     }
 }
 
-pub fn quietly(status: Status) -> Decision
-    ensures { λ r. ⌜ r ≡ quietly status ⌝ }
+pub fn no_reply(status: Status) -> Decision
+    ensures { λ r. ⌜ r ≡ noReply status ⌝ }
 {
     let psn = Psn(0);
-    still(status, 0, psn, 0, 0)
+    reply_only(status, 0, psn, 0, 0)
 }
 
 // An ACK or a NAK is sent.
 pub fn acknowledging(status: Status, psn: Psn, syndrome: u8) -> Decision
     ensures { λ r. ⌜ r ≡ acknowledging status psn syndrome ⌝ }
 {
-    still(status, 16, psn, syndrome, 0)
+    reply_only(status, 16, psn, syndrome, 0)
 }
 
 // Ahead: a sequence NAK the first time, nothing while the mark stands.
-pub fn ahead(mark: bool, expected: Psn) -> Decision
-    ensures { λ r. ⌜ r ≡ aheadDecision mark expected ⌝ }
+pub fn ahead(nakmark: bool, expected: Psn) -> Decision
+    ensures { λ r. ⌜ r ≡ aheadDecision nakmark expected ⌝ }
 {
-    if mark {
+    if nakmark {
         let status = Status::Dropped;
-        return quietly(status);
+        return no_reply(status);
     }
     let status = Status::SequenceNak;
     acknowledging(status, expected, 0x60)

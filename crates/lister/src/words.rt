@@ -54,8 +54,8 @@ fn immediate(follows: u8) {
 pub(crate) fn opcode_words(n: u8, class: OpcodeClass) {
     service(n / 32);
     kind(class.kind);
-    let placed = has_places(class.kind);
-    if placed {
+    let stored = has_places(class.kind);
+    if stored {
         place(class.place);
     }
     immediate(class.follows);

@@ -9,34 +9,34 @@ use lib.ListN.{length, take, drop, take-append-drop, length-append, length-take,
 use lib.Seq.{take-length, drop-drop, take-at, drop-at, drop-append-add}
 use borrow.Author.Tests.{le-leb, lt-leb, leb-true}
 use borrow.Rule.Slice.PartMut.{putMid, midOf}
-use Rattle.memory.specs.Memory.{put, placed}
+use Rattle.memory.specs.Memory.{overwrite, store}
 use Rattle.memory.specs.Claims.{LengthKept, Found, BeforeKept, AfterKept, NothingOver}
 
 -- what fits is placed
-pub placed-put : (m : List ℕ) (at : ℕ) (d : List ℕ) → at + length d ≤ length m → placed m at d ≡ put m at d
-unfolding placed
+pub placed-put : (m : List ℕ) (at : ℕ) (d : List ℕ) → at + length d ≤ length m → store m at d ≡ overwrite m at d
+unfolding store
 placed-put m at d h = rw (le-leb (at + length d) (length m) h)
 
 -- what does not fit is not
 pub placed-over : NothingOver
-unfolding placed
+unfolding store
 placed-over m at d h = rw (lt-leb (at + length d) (length m) h)
 
 -- the length is kept
-pub length-put : (m : List ℕ) (at : ℕ) (d : List ℕ) → at + length d ≤ length m → length (put m at d) ≡ length m
-unfolding put
+pub length-put : (m : List ℕ) (at : ℕ) (d : List ℕ) → at + length d ≤ length m → length (overwrite m at d) ≡ length m
+unfolding overwrite
 length-put m at d h = simp (length-append, length-take, length-drop) (omega arith)
 
 pub length-placed : LengthKept
-unfolding placed
+unfolding store
 length-placed m at d = go (leb (at + length d) (length m)) refl
   where
-    go : (b : Bool) → leb (at + length d) (length m) ≡ b → length (cond b (put m at d) m) ≡ length m
+    go : (b : Bool) → leb (at + length d) (length m) ≡ b → length (cond b (overwrite m at d) m) ≡ length m
     go true e = length-put m at d (leb-true (at + length d) (length m) e)
     go false e = refl
 
-beside : (d e x : List ℕ) → put (d ++ x) (length d) e ≡ (d ++ e) ++ drop (length e) x
-unfolding put
+beside : (d e x : List ℕ) → overwrite (d ++ x) (length d) e ≡ (d ++ e) ++ drop (length e) x
+unfolding overwrite
 beside d e x = rw (take-at d x (length d) refl, drop-append-add d x (length e), append-assoc d e)
 
 front : (m : List ℕ) (at : ℕ) (d : List ℕ) → at + length d ≤ length m → length (take at m) ≡ at
@@ -44,18 +44,18 @@ front m at d h = simp length-take (omega arith)
 
 -- what was placed is there
 pub placed-found : Found
-unfolding put
+unfolding overwrite
 placed-found m at d h =
     let l : length (take at m) ≡ at = front m at d h in
     rw (placed-put m at d h, drop-at (take at m) (d ++ drop (at + length d) m) at l) (take-at d (drop (at + length d) m) (length d) refl)
 
 -- and nothing else moved
 pub placed-before : BeforeKept
-unfolding put
+unfolding overwrite
 placed-before m at d h = rw (placed-put m at d h) (take-at (take at m) (d ++ drop (at + length d) m) at (front m at d h))
 
 pub placed-after : AfterKept
-unfolding put
+unfolding overwrite
 placed-after m at d h =
     let l : length (take at m ++ d) ≡ at + length d = simp (length-append, length-take) (omega arith) in
     let e : take at m ++ (d ++ drop (at + length d) m) ≡ (take at m ++ d) ++ drop (at + length d) m =
@@ -63,37 +63,37 @@ placed-after m at d h =
     rw (placed-put m at d h, e) (drop-at (take at m ++ d) (drop (at + length d) m) (at + length d) l)
 
 -- at the start of memory
-pub put-start : (m d : List ℕ) → put m 0 d ≡ d ++ drop (length d) m
-unfolding put
+pub put-start : (m d : List ℕ) → overwrite m 0 d ≡ d ++ drop (length d) m
+unfolding overwrite
 put-start m d =
     let e : 0 + length d ≡ length d = omega arith in
     ap (λ n. d ++ drop n m) e
 
 -- two parts side by side are one
 pub put-put : (m : List ℕ) (at : ℕ) (d e : List ℕ) → at ≤ length m
-    → put (put m at d) (at + length d) e ≡ put m at (d ++ e)
-unfolding put
+    → overwrite (overwrite m at d) (at + length d) e ≡ overwrite m at (d ++ e)
+unfolding overwrite
 put-put m at d e h =
     let P = take at m ++ d in
     let x = drop (at + length d) m in
     let l : length P ≡ at + length d = simp (length-append, length-take) (omega arith) in
-    let first : put m at d ≡ P ++ x = sym (append-assoc (take at m) d x) in
+    let first : overwrite m at d ≡ P ++ x = sym (append-assoc (take at m) d x) in
     let n : at + length d + length e ≡ at + length (d ++ e) = omega (arith, length-append d e) in
     let rest : drop (length e) x ≡ drop (at + length (d ++ e)) m = drop-drop (length e) (at + length d) m ∙ ap (λ k. drop k m) n in
-    ap (λ z. put z (at + length d) e) first
-    ∙ (subst (λ k. put (P ++ x) k e ≡ (P ++ e) ++ drop (length e) x) l (beside P e x)
+    ap (λ z. overwrite z (at + length d) e) first
+    ∙ (subst (λ k. overwrite (P ++ x) k e ≡ (P ++ e) ++ drop (length e) x) l (beside P e x)
     ∙ (ap (λ z. (P ++ e) ++ z) rest
     ∙ (ap (λ z. z ++ drop (at + length (d ++ e)) m) (append-assoc (take at m) d e)
     ∙ append-assoc (take at m) (d ++ e) (drop (at + length (d ++ e)) m))))
 
 pub placed-placed : (m : List ℕ) (at : ℕ) (d e : List ℕ) → at + length d + length e ≤ length m
-    → placed (placed m at d) (at + length d) e ≡ placed m at (d ++ e)
+    → store (store m at d) (at + length d) e ≡ store m at (d ++ e)
 placed-placed m at d e h =
-    let one : placed m at d ≡ put m at d = placed-put m at d (omega arith) in
-    let same : length (put m at d) ≡ length m = length-put m at d (omega arith) in
-    let two : placed (put m at d) (at + length d) e ≡ put (put m at d) (at + length d) e = placed-put (put m at d) (at + length d) e (omega arith) in
+    let one : store m at d ≡ overwrite m at d = placed-put m at d (omega arith) in
+    let same : length (overwrite m at d) ≡ length m = length-put m at d (omega arith) in
+    let two : store (overwrite m at d) (at + length d) e ≡ overwrite (overwrite m at d) (at + length d) e = placed-put (overwrite m at d) (at + length d) e (omega arith) in
     let whole : at + length (d ++ e) ≤ length m = omega (arith, length-append d e) in
-    ap (λ z. placed z (at + length d) e) one ∙ (two ∙ (put-put m at d e (omega arith) ∙ sym (placed-put m at (d ++ e) whole)))
+    ap (λ z. store z (at + length d) e) one ∙ (two ∙ (put-put m at d e (omega arith) ∙ sym (placed-put m at (d ++ e) whole)))
 
 -- what the kit's copy leaves in a part as long as its source is the source
 module _ (m d : List ℕ) (at e : ℕ) (l : at + length d ≡ e) where
@@ -102,24 +102,24 @@ module _ (m d : List ℕ) (at e : ℕ) (l : at + length d ≡ e) where
       let h : length (midOf at (e - at) m) ≤ length d = simp (length-take, length-drop) (omega arith) in
       rw (drop-of-length-le (midOf at (e - at) m) h, append-nil, take-length)
 
-  pub copied : putMid at (e - at) m (take (length d) d ++ drop (length d) (midOf at (e - at) m)) ≡ put m at d
-  unfolding put
+  pub copied : putMid at (e - at) m (take (length d) d ++ drop (length d) (midOf at (e - at) m)) ≡ overwrite m at d
+  unfolding overwrite
   copied =
       let k : at + (e - at) ≡ at + length d = omega arith in
       rw whole (ap (λ x. take at m ++ (d ++ x)) (drop-drop (e - at) at m ∙ ap (λ n. drop n m) k))
 
 -- no bytes change nothing, wherever they go
-pub put-none : (m : List ℕ) (at : ℕ) (d : List ℕ) → length d ≡ 0 → put m at d ≡ m
-unfolding put
+pub put-none : (m : List ℕ) (at : ℕ) (d : List ℕ) → length d ≡ 0 → overwrite m at d ≡ m
+unfolding overwrite
 put-none m at [] e =
     let k : at + 0 ≡ at = omega arith in
     ap (λ n. take at m ++ drop n m) k ∙ take-append-drop at m
 put-none m at (b ∷ d) e = absurd (omega arith)
 
-pub placed-none : (m : List ℕ) (at : ℕ) (d : List ℕ) → length d ≡ 0 → placed m at d ≡ m
-unfolding placed
+pub placed-none : (m : List ℕ) (at : ℕ) (d : List ℕ) → length d ≡ 0 → store m at d ≡ m
+unfolding store
 placed-none m at d e = go (leb (at + length d) (length m))
   where
-    go : (b : Bool) → cond b (put m at d) m ≡ m
+    go : (b : Bool) → cond b (overwrite m at d) m ≡ m
     go true = put-none m at d e
     go false = refl

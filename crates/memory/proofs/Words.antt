@@ -9,7 +9,7 @@ use lib.Dec.{leb, eqb}
 use lib.ListN.{length, take, drop, getD, length-take, length-drop, take-append-drop}
 use lib.Seq.{drop-drop, take-add, getD-drop, getD-take}
 use borrow.Author.Tests.{le-leb, lt-leb, leb-true, leb-false, eq-eqb, ne-eqb}
-use Rattle.memory.specs.Memory.{put, placed}
+use Rattle.memory.specs.Memory.{overwrite, store}
 use Rattle.memory.specs.Word.{lowBytes, lowNumber, wordAt, wordPut, fetchAdded, swapped}
 use Rattle.memory.specs.Claims.{Bytes, LowLength, BytesNumber, NumberBytes, WordBelow, LowFirst, WordBack, WordKept, WordOver, OnlyWord, PutWithin, FetchWithin, SwapWithin, Fetched, FetchWraps, SwapEqual, SwapUnequal}
 use Rattle.memory.proofs.Put.{placed-put, placed-over, length-placed, placed-found, placed-before, placed-after}
@@ -127,14 +127,14 @@ bytes-back m at b h =
     (number-bytes (take 8 (drop at m)) (word-bytes m at b)))
 
 pub word-kept : WordKept
-unfolding wordPut put
+unfolding wordPut overwrite
 word-kept m at b h =
     let d = take 8 (drop at m) in
     let l : length d ≡ 8 = part-length m at 8 h in
     let fits : at + length d ≤ length m = omega arith in
     let rest : d ++ drop (at + length d) m ≡ drop at m =
     ap (λ n. d ++ drop (at + n) m) l ∙ (ap (λ z. d ++ z) (sym (drop-drop 8 at m)) ∙ take-append-drop 8 (drop at m)) in
-    ap (placed m at) (bytes-back m at b h)
+    ap (store m at) (bytes-back m at b h)
     ∙ (placed-put m at d fits ∙ (ap (λ z. take at m ++ z) rest ∙ take-append-drop at m))
 
 -- FetchAdd

@@ -4,28 +4,28 @@ use Prim.Native.Nat.{ℕ, _+_, _-_, _/_, _%_, _^_, _≤_, _<_}
 use mathlib.Core.Path.{_≡_}
 use mathlib.Core.List.{List}
 use lib.ListN.{length, take, drop, getD}
-use Rattle.memory.specs.Memory.{placed}
+use Rattle.memory.specs.Memory.{store}
 use Rattle.memory.specs.Word.{lowBytes, lowNumber, wordAt, wordPut, fetchAdded, swapped}
 
 -- Memory keeps its length.
 abbrev pub LengthKept : Type 0
-LengthKept = (m : List ℕ) (at : ℕ) (d : List ℕ) → length (placed m at d) ≡ length m
+LengthKept = (m : List ℕ) (at : ℕ) (d : List ℕ) → length (store m at d) ≡ length m
 
 -- Bytes that fit are found where they were placed, and none before or after them changed.
 abbrev pub Found : Type 0
-Found = (m : List ℕ) (at : ℕ) (d : List ℕ) → at + length d ≤ length m → take (length d) (drop at (placed m at d)) ≡ d
+Found = (m : List ℕ) (at : ℕ) (d : List ℕ) → at + length d ≤ length m → take (length d) (drop at (store m at d)) ≡ d
 
 abbrev pub BeforeKept : Type 0
-BeforeKept = (m : List ℕ) (at : ℕ) (d : List ℕ) → at + length d ≤ length m → take at (placed m at d) ≡ take at m
+BeforeKept = (m : List ℕ) (at : ℕ) (d : List ℕ) → at + length d ≤ length m → take at (store m at d) ≡ take at m
 
 abbrev pub AfterKept : Type 0
 AfterKept =
     (m : List ℕ) (at : ℕ) (d : List ℕ) → at + length d ≤ length m
-    → drop (at + length d) (placed m at d) ≡ drop (at + length d) m
+    → drop (at + length d) (store m at d) ≡ drop (at + length d) m
 
 -- Bytes that do not fit change nothing.
 abbrev pub NothingOver : Type 0
-NothingOver = (m : List ℕ) (at : ℕ) (d : List ℕ) → length m < at + length d → placed m at d ≡ m
+NothingOver = (m : List ℕ) (at : ℕ) (d : List ℕ) → length m < at + length d → store m at d ≡ m
 
 -- every element a byte
 abbrev pub Bytes : List ℕ → Type 0

@@ -6,9 +6,9 @@ use lib.Dec.{leb}
 use lib.ListN.{length, take, drop}
 
 -- the bytes d in the place of those from at on
-unfoldable pub put : List ℕ → ℕ → List ℕ → List ℕ
-put m at d = take at m ++ (d ++ drop (at + length d) m)
+unfoldable pub overwrite : List ℕ → ℕ → List ℕ → List ℕ
+overwrite m at d = take at m ++ (d ++ drop (at + length d) m)
 
 -- the same where they fit; memory unchanged where they do not
-unfoldable pub placed : List ℕ → ℕ → List ℕ → List ℕ
-placed m at d = cond (leb (at + length d) (length m)) (put m at d) m
+unfoldable pub store : List ℕ → ℕ → List ℕ → List ℕ
+store m at d = cond (leb (at + length d) (length m)) (overwrite m at d) m

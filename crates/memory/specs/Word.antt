@@ -4,7 +4,7 @@ use mathlib.Core.Bool.{cond}
 use mathlib.Core.List.{List, [], _∷_}
 use lib.Dec.{leb, eqb}
 use lib.ListN.{length, take, drop}
-use Rattle.memory.specs.Memory.{placed}
+use Rattle.memory.specs.Memory.{store}
 
 -- the n low bytes of x, the lowest first
 unfoldable pub lowBytes : ℕ → ℕ → List ℕ
@@ -22,7 +22,7 @@ wordAt m at = cond (leb (at + 8) (length m)) (lowNumber (take 8 (drop at m))) 0
 
 -- memory with x in those 8 bytes; unchanged where they do not lie in it
 unfoldable pub wordPut : List ℕ → ℕ → ℕ → List ℕ
-wordPut m at x = placed m at (lowBytes 8 x)
+wordPut m at x = store m at (lowBytes 8 x)
 
 -- memory after FetchAdd of x: the sum starts again from 0 at 2^64
 unfoldable pub fetchAdded : List ℕ → ℕ → ℕ → List ℕ

@@ -2,12 +2,12 @@
 ghost use mathlib.Core.Path.{_≡_};
 ghost use Prim.Native.Nat.{_+_, _≤_, _<_};
 ghost use lib.ListN.{length, take, drop};
-ghost use Rattle.memory.specs.Memory.{placed};
+ghost use Rattle.memory.specs.Memory.{store};
 ghost use Rattle.memory.specs.Word.{lowBytes, lowNumber, wordAt, wordPut, fetchAdded, swapped};
 
 // Copies payload into mem from index at on, where it fits; else nothing changes.
-pub fn place(mem: &mut [u8], at: usize, payload: &[u8])
-    ensures { λ _. ⌜ now (mem .exit) ≡ placed (now (mem .entry)) at (now (payload .entry)) ⌝ }
+pub fn store(mem: &mut [u8], at: usize, payload: &[u8])
+    ensures { λ _. ⌜ now (mem .exit) ≡ store (now (mem .entry)) at (now (payload .entry)) ⌝ }
 {
     if mem.len() < at {
         return;
@@ -82,7 +82,7 @@ pub fn write_word(mem: &mut [u8], at: usize, x: u64)
     ensures { λ _. ⌜ now (mem .exit) ≡ wordPut (now (mem .entry)) at x ⌝ }
 {
     let word = low_bytes(x);
-    place(mem, at, &word);
+    store(mem, at, &word);
 }
 
 // Adds x to the word at index at, starting again from 0 at 2^64, and answers the word before.

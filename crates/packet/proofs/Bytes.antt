@@ -7,7 +7,7 @@ use native.Mathlib.Omega.{arith}
 use lib.ListN.{length, drop, replicate, length-append, length-replicate}
 use borrow.Author.Tests.{ne-eqb}
 use Rattle.lemmas.proofs.Tests.{not-false}
-use Rattle.memory.specs.Memory.{placed}
+use Rattle.memory.specs.Memory.{store}
 use Rattle.memory.proofs.Put.{placed-put, placed-placed, put-start}
 use Rattle.opcode.specs.Opcode.{classOf}
 use Rattle.opcode.specs.declared.OpcodeClass.{OpcodeClass}
@@ -30,7 +30,7 @@ length-packet h d good =
 
 -- written whole: the header, the payload behind it, the pad behind that
 pub three-parts : (h : Header) (d out : List ℕ) → headerFits h ≡ true → packetLength h (length d) ≤ length out
-    → placed (placed (writtenOut h out) (headerLength h) d) (headerLength h + length d) (replicate (padOf (length d)) 0)
+    → store (store (writtenOut h out) (headerLength h) d) (headerLength h + length d) (replicate (padOf (length d)) 0)
     ≡ packetBytes h d ++ drop (packetLength h (length d)) out
 unfolding packetBytes packetLength
 three-parts h d out good room =
@@ -38,18 +38,18 @@ three-parts h d out good room =
     let z = replicate {A = ℕ} (padOf (length d)) 0 in
     let lb : length b ≡ headerLength h = length-header h good in
     let lz : length z ≡ padOf (length d) = length-replicate (padOf (length d)) 0 in
-    let first : placed out 0 b ≡ writtenOut h out =
+    let first : store out 0 b ≡ writtenOut h out =
     placed-put out 0 b (omega arith) ∙ (put-start out b ∙ (ap (λ n. b ++ drop n out) lb ∙ sym (done h out good (omega arith) .1))) in
     let n1 : 0 + length b ≡ headerLength h = omega arith in
-    let second : placed (writtenOut h out) (headerLength h) d ≡ placed out 0 (b ++ d) =
-    subst (λ w. placed w (headerLength h) d ≡ placed out 0 (b ++ d)) first
-    (subst (λ n. placed (placed out 0 b) n d ≡ placed out 0 (b ++ d)) n1 (placed-placed out 0 b d (omega arith))) in
+    let second : store (writtenOut h out) (headerLength h) d ≡ store out 0 (b ++ d) =
+    subst (λ w. store w (headerLength h) d ≡ store out 0 (b ++ d)) first
+    (subst (λ n. store (store out 0 b) n d ≡ store out 0 (b ++ d)) n1 (placed-placed out 0 b d (omega arith))) in
     let lbd : length (b ++ d) ≡ headerLength h + length d = length-append b d ∙ ap (λ n. n + length d) lb in
     let n2 : 0 + length (b ++ d) ≡ headerLength h + length d = omega arith in
-    let third : placed (placed out 0 (b ++ d)) (headerLength h + length d) z ≡ placed out 0 ((b ++ d) ++ z) =
-    subst (λ n. placed (placed out 0 (b ++ d)) n z ≡ placed out 0 ((b ++ d) ++ z)) n2 (placed-placed out 0 (b ++ d) z (omega arith)) in
+    let third : store (store out 0 (b ++ d)) (headerLength h + length d) z ≡ store out 0 ((b ++ d) ++ z) =
+    subst (λ n. store (store out 0 (b ++ d)) n z ≡ store out 0 ((b ++ d) ++ z)) n2 (placed-placed out 0 (b ++ d) z (omega arith)) in
     let l : length ((b ++ d) ++ z) ≡ headerLength h + (length d + padOf (length d)) = omega (arith, length-append (b ++ d) z) in
-    ap (λ w. placed w (headerLength h + length d) z) second
+    ap (λ w. store w (headerLength h + length d) z) second
     ∙ (third
     ∙ (placed-put out 0 ((b ++ d) ++ z) (omega arith)
     ∙ (put-start out ((b ++ d) ++ z)
@@ -85,8 +85,8 @@ module _ (h : Header) (d out : List ℕ) (u : Bool) (e : u ≡ not (headerFits h
   pub through : r ≡ 0 → Passed u (h .bth .pad) (k .length) (length d) (length out)
   through z = passed u (h .bth .pad) (k .length) (length d) (length out) (sym q ∙ z)
 
-  pub whole : r ≡ 0 → (a b c : List ℕ) → a ≡ writtenOut h out → b ≡ placed a (k .length) d
-      → c ≡ placed b (k .length + length d) (replicate (h .bth .pad) 0)
+  pub whole : r ≡ 0 → (a b c : List ℕ) → a ≡ writtenOut h out → b ≡ store a (k .length) d
+      → c ≡ store b (k .length + length d) (replicate (h .bth .pad) 0)
       → (Done (k .length + length d + h .bth .pad) ≡ packetWritten h (length d) (length out)) × (c ≡ packetOut h d out)
   unfolding packetLength
   whole z a b c x y w =

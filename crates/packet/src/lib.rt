@@ -4,7 +4,7 @@ use header::Header;
 ghost use mathlib.Core.Path.{_≡_};
 ghost use Prim.Native.Nat.{_≤_};
 ghost use lib.ListN.{length, replicate};
-ghost use Rattle.memory.specs.Memory.{placed};
+ghost use Rattle.memory.specs.Memory.{store};
 ghost use Rattle.packet.specs.Packet.{padOf, refusalBy, packetWritten, packetOut};
 
 // How many pad bytes stand behind a payload of n bytes.
@@ -44,11 +44,11 @@ fn refusal(unfit: bool, padcnt: u8, headers: usize, n: usize, room: usize) -> u8
 // Zero bytes behind the payload.
 fn place_pad(out: &mut [u8], at: usize, padcnt: u8)
     requires { ⌜ padcnt ≤ 3 ⌝ }
-    ensures { λ _. ⌜ now (out .exit) ≡ placed (now (out .entry)) at (replicate padcnt 0) ⌝ }
+    ensures { λ _. ⌜ now (out .exit) ≡ store (now (out .entry)) at (replicate padcnt 0) ⌝ }
 {
     let zeros = [0u8; 3];
     let n = padcnt as usize;
-    memory::place(out, at, &zeros[0..n]);
+    memory::store(out, at, &zeros[0..n]);
 }
 
 // Writes the packet of a header and a payload at the start of the output.
@@ -64,7 +64,7 @@ pub fn write(h: Header, payload: &[u8], out: &mut [u8]) -> Answer
         return Answer::Refused(code);
     }
     encode::write(h, out);
-    memory::place(out, class.length, payload);
+    memory::store(out, class.length, payload);
     let at = class.length + payload.len();
     place_pad(out, at, bth.pad);
     Answer::Done(at + bth.pad as usize)

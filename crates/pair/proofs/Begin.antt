@@ -12,15 +12,15 @@ use Rattle.pair.specs.Answer.{statusNumber, executed}
 use Rattle.pair.specs.Pair.{freshPair, blankPair, moved}
 use Rattle.pair.specs.Sound.{memoryLimit, setupUnfit, setupUnsound}
 use Rattle.pair.specs.Host.{noRegions, setUpStatus, setUp, setUpRegions, resetStatus, resetTo, resetRegions, readyStatus, madeReady}
-use Rattle.pair.specs.Claims.{Unmoved, FreshViews, SetupFit, SetupSound, Sound, Fresh, SetUpBad, SetUpOver, SetUpDone, ResetDone, ResetNever, ReadyWrong, ReadyUnsound, ReadyDone}
+use Rattle.pair.specs.Claims.{Unmoved, FreshViews, SetupFit, SetupSound, Sound, AsSetUp, SetUpBad, SetUpOver, SetUpDone, ResetDone, ResetNever, ReadyWrong, ReadyUnsound, ReadyDone}
 use Rattle.pair.proofs.Tests.{setup-tested, setup-sound, sound-setup}
 use Rattle.pair.proofs.Known.{unmoved, holds-true, kept, done, unsound, sound}
 
 -- Set-up
-is-fresh : (s : Setup) → Fresh s (freshPair s)
+is-fresh : (s : Setup) → AsSetUp s (freshPair s)
 unfolding freshPair
 is-fresh s =
-    record { setup = refl; state = refl; expected = refl; msn = refl; mark = refl; message = refl; entries = refl; read = refl; saved = refl }
+    record { setup = refl; state = refl; expected = refl; msn = refl; nakmark = refl; message = refl; entries = refl; read = refl; saved = refl }
 
 pub fresh-views : FreshViews
 unfolding freshPair regionOf sought firstFrom ringFrom newest newestSaved
@@ -61,7 +61,7 @@ set-up-regions s rows h = done (setUpStatus s) status.Executed noRegions rows (d
 pub set-up-done : SetUpDone
 unfolding setUp statusNumber
 set-up-done s rows h =
-    (ap statusNumber (done-status s h), subst (Fresh s) (sym (set-up-pair s h)) (is-fresh s), set-up-regions s rows h)
+    (ap statusNumber (done-status s h), subst (AsSetUp s) (sym (set-up-pair s h)) (is-fresh s), set-up-regions s rows h)
 
 -- Reset
 reset-status : (q : Pair) → SetupSound (q .setup) → resetStatus q ≡ status.Executed
@@ -83,7 +83,7 @@ reset-regions q rows h = done (resetStatus q) status.Executed noRegions rows (re
 pub reset-done : ResetDone
 unfolding resetTo statusNumber
 reset-done q rows h =
-    (ap statusNumber (reset-status q h), subst (Fresh (q .setup)) (sym (reset-pair q h)) (is-fresh (q .setup)), reset-regions q rows h)
+    (ap statusNumber (reset-status q h), subst (AsSetUp (q .setup)) (sym (reset-pair q h)) (is-fresh (q .setup)), reset-regions q rows h)
 
 pub reset-never : ResetNever
 unfolding resetTo resetRegions executed statusNumber

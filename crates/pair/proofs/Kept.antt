@@ -141,7 +141,7 @@ one-more-sound q S n =
   where
     go : MessageSound q → MessageSound (moved q (q .state) (oneMore (q .entries)))
     go (inl e) = inl e
-    go (inr (inl (e, some, placed))) = inr (inl (e, omega arith, placed))
+    go (inr (inl (e, some, stored))) = inr (inl (e, omega arith, stored))
     go (inr (inr e)) = inr (inr e)
 
 -- post entry leaves pair and entries as they were, or with one entry more: what holds of both holds afterwards
@@ -156,10 +156,10 @@ post-cases q rows e P S same more = go (post-either q rows e S)
 
 -- the entry held stays the same row
 pub held-kept : (q : Pair) (rows : List (List ℕ)) (e : Entry) → Sound q → q .entries .count < 16 → q .message .kind ≡ 0
-    → q .message .placed ≤ getD (getD rows (slotAt (q .entries .head) 0) []) 2 0
-    → q .message .placed ≤ getD (getD (set rows (slotAt (q .entries .head) (q .entries .count)) (entryRow e)) (slotAt (q .entries .head) 0) []) 2 0
+    → q .message .stored ≤ getD (getD rows (slotAt (q .entries .head) 0) []) 2 0
+    → q .message .stored ≤ getD (getD (set rows (slotAt (q .entries .head) (q .entries .count)) (entryRow e)) (slotAt (q .entries .head) 0) []) 2 0
 held-kept q rows e S n k h =
-    subst (λ x. q .message .placed ≤ getD x 2 0) (sym (in-use-kept rows (q .entries) (entryRow e) 0 n (held-some q S k))) h
+    subst (λ x. q .message .stored ≤ getD x 2 0) (sym (in-use-kept rows (q .entries) (entryRow e) 0 n (held-some q S k))) h
 
 post-kept : (w : Whole) (e : Entry) → WholeSound w → WholeSound (called w (PostEntry e))
 unfolding called

@@ -63,4 +63,4 @@ sound q S = tested q .1 S
 -- what a moved pair keeps
 pub unmoved : (q : Pair) (state : ℕ) (r : Ring) → r .head ≡ q .entries .head → Unmoved q (moved q state r)
 unmoved q state r h =
-    record { setup = refl; expected = refl; msn = refl; mark = refl; message = refl; head = h; read = refl; saved = refl }
+    record { setup = refl; expected = refl; msn = refl; nakmark = refl; message = refl; head = h; read = refl; saved = refl }

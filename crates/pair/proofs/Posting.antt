@@ -54,7 +54,7 @@ held-some q S k = go (S .message)
   where
     go : MessageSound q → 1 ≤ q .entries .count
     go (inl e) = absurd (omega arith)
-    go (inr (inl (e, some, placed))) = some
+    go (inr (inl (e, some, stored))) = some
     go (inr (inr (e, a, b, c))) = absurd (omega arith)
 
 pub held-first : HeldFirst
@@ -218,7 +218,7 @@ is-blank =
       start = (refl, refl, refl);
       functions = (refl, refl, refl, refl);
       state = refl;
-      rest = record { setup = refl; state = refl; expected = refl; msn = refl; mark = refl; message = refl; entries = refl; read = refl; saved = refl };
+      rest = record { setup = refl; state = refl; expected = refl; msn = refl; nakmark = refl; message = refl; entries = refl; read = refl; saved = refl };
     }
 
 pub blank-unsound : BlankUnsound

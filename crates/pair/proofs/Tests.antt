@@ -89,21 +89,21 @@ fits-ring : (head count : ℕ) → (head < 16) × (count ≤ 16) → ringUnsound
 unfolding ringUnsound
 fits-ring head count (a, b) = neither (lt-leb 16 head a) (le-ltb 16 count b)
 
-write-fits : (placed address n : ℕ) → writeUnsound placed address n ≡ false
-    → (placed < n) × (n ≤ 1048576) × (address + placed < 2 ^ 64)
+write-fits : (stored address n : ℕ) → writeUnsound stored address n ≡ false
+    → (stored < n) × (n ≤ 1048576) × (address + stored < 2 ^ 64)
 unfolding writeUnsound pastTop
-write-fits placed address n h =
-    let k = or-right (leb n placed) _ h in (
-      leb-false n placed (or-left (leb n placed) _ h),
+write-fits stored address n h =
+    let k = or-right (leb n stored) _ h in (
+      leb-false n stored (or-left (leb n stored) _ h),
       ltb-false memoryLimit n (or-left (ltb memoryLimit n) _ k),
-      leb-false addresses (address + placed) (or-right (ltb memoryLimit n) _ k),
+      leb-false addresses (address + stored) (or-right (ltb memoryLimit n) _ k),
     )
 
-fits-write : (placed address n : ℕ) → (placed < n) × (n ≤ 1048576) × (address + placed < 2 ^ 64)
-    → writeUnsound placed address n ≡ false
+fits-write : (stored address n : ℕ) → (stored < n) × (n ≤ 1048576) × (address + stored < 2 ^ 64)
+    → writeUnsound stored address n ≡ false
 unfolding writeUnsound pastTop
-fits-write placed address n (a, b, c) =
-    neither (lt-leb n placed a) (neither (le-ltb memoryLimit n b) (lt-leb addresses (address + placed) c))
+fits-write stored address n (a, b, c) =
+    neither (lt-leb n stored a) (neither (le-ltb memoryLimit n b) (lt-leb addresses (address + stored) c))
 
 some-entry : (entries : ℕ) → noEntry entries ≡ false → 1 ≤ entries
 unfolding noEntry
@@ -113,38 +113,38 @@ entry-some : (entries : ℕ) → 1 ≤ entries → noEntry entries ≡ false
 unfolding noEntry
 entry-some entries h = ne-eqb entries 0 (λ z. omega arith)
 
-send-fits : (placed entries : ℕ) → sendUnsound placed entries ≡ false → (1 ≤ entries) × (placed ≤ 1048576)
+send-fits : (stored entries : ℕ) → sendUnsound stored entries ≡ false → (1 ≤ entries) × (stored ≤ 1048576)
 unfolding sendUnsound
-send-fits placed entries h =
-    (some-entry entries (or-left (noEntry entries) _ h), ltb-false memoryLimit placed (or-right (noEntry entries) _ h))
+send-fits stored entries h =
+    (some-entry entries (or-left (noEntry entries) _ h), ltb-false memoryLimit stored (or-right (noEntry entries) _ h))
 
-fits-send : (placed entries : ℕ) → (1 ≤ entries) × (placed ≤ 1048576) → sendUnsound placed entries ≡ false
+fits-send : (stored entries : ℕ) → (1 ≤ entries) × (stored ≤ 1048576) → sendUnsound stored entries ≡ false
 unfolding sendUnsound
-fits-send placed entries (a, b) = neither (entry-some entries a) (le-ltb memoryLimit placed b)
+fits-send stored entries (a, b) = neither (entry-some entries a) (le-ltb memoryLimit stored b)
 
-message-fits : (q : Pair) → messageUnsound (q .message .kind) (q .message .placed) (q .message .address) (q .message .length) (q .entries .count) ≡ false
+message-fits : (q : Pair) → messageUnsound (q .message .kind) (q .message .stored) (q .message .address) (q .message .length) (q .entries .count) ≡ false
     → MessageSound q
 unfolding messageUnsound
 message-fits q = go (eqb (q .message .kind) 255) refl (eqb (q .message .kind) 0) refl (eqb (q .message .kind) 6) refl
   where
     go : (a : Bool) → eqb (q .message .kind) 255 ≡ a → (b : Bool) → eqb (q .message .kind) 0 ≡ b → (c : Bool) → eqb (q .message .kind) 6 ≡ c
-        → cond a false (cond b (sendUnsound (q .message .placed) (q .entries .count)) (cond c (writeUnsound (q .message .placed) (q .message .address) (q .message .length)) true)) ≡ false
+        → cond a false (cond b (sendUnsound (q .message .stored) (q .entries .count)) (cond c (writeUnsound (q .message .stored) (q .message .address) (q .message .length)) true)) ≡ false
         → MessageSound q
     go true x b y c z h = inl (eqb-true (q .message .kind) 255 x)
     go false x true y c z h =
-        let s = send-fits (q .message .placed) (q .entries .count) h in
+        let s = send-fits (q .message .stored) (q .entries .count) h in
         inr (inl (eqb-true (q .message .kind) 0 y, s .0, s .1))
     go false x false y true z h =
-        let w = write-fits (q .message .placed) (q .message .address) (q .message .length) h in
+        let w = write-fits (q .message .stored) (q .message .address) (q .message .length) h in
         inr (inr (eqb-true (q .message .kind) 6 z, w .0, w .1, w .2))
     go false x false y false z h = absurd (true≢false h)
 
 fits-message : (q : Pair) → MessageSound q
-    → messageUnsound (q .message .kind) (q .message .placed) (q .message .address) (q .message .length) (q .entries .count) ≡ false
+    → messageUnsound (q .message .kind) (q .message .stored) (q .message .address) (q .message .length) (q .entries .count) ≡ false
 unfolding messageUnsound
 fits-message q (inl e) = rw (eq-eqb (q .message .kind) 255 e)
-fits-message q (inr (inl (e, a, b))) = rw e (fits-send (q .message .placed) (q .entries .count) (a, b))
-fits-message q (inr (inr (e, a, b, c))) = rw e (fits-write (q .message .placed) (q .message .address) (q .message .length) (a, b, c))
+fits-message q (inr (inl (e, a, b))) = rw e (fits-send (q .message .stored) (q .entries .count) (a, b))
+fits-message q (inr (inr (e, a, b, c))) = rw e (fits-write (q .message .stored) (q .message .address) (q .message .length) (a, b, c))
 
 -- a READ being answered, on its numbers
 module _ (remaining offset n psn msn pmtu memory : ℕ) where
@@ -206,7 +206,7 @@ tested q = (fits, passes)
         let h3 = or-right (numbersUnsound (q .state) (q .expected .0) (q .msn .0)) _ h2 in
         let h4 = or-right (ringUnsound (q .entries .head) (q .entries .count)) _ h3 in
         let h5 = or-right (ringUnsound (q .saved .head) (q .saved .count)) _ h4 in
-        let m = messageUnsound (q .message .kind) (q .message .placed) (q .message .address) (q .message .length) (q .entries .count) in
+        let m = messageUnsound (q .message .kind) (q .message .stored) (q .message .address) (q .message .length) (q .entries .count) in
         let n = numbers-fit (q .state) (q .expected .0) (q .msn .0) (or-left (numbersUnsound (q .state) (q .expected .0) (q .msn .0)) _ h2) in
         record {
           setup = setup-sound (q .setup) (or-left (setupUnsound (q .setup)) _ h);

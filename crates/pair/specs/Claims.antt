@@ -74,11 +74,11 @@ SetupSound s = SetupFit s × (s .memory ≤ 1048576)
 abbrev pub MessageSound : Pair → Type 0
 MessageSound q =
     (q .message .kind ≡ 255)
-    ⊎ (((q .message .kind ≡ 0) × (1 ≤ q .entries .count) × (q .message .placed ≤ 1048576))
+    ⊎ (((q .message .kind ≡ 0) × (1 ≤ q .entries .count) × (q .message .stored ≤ 1048576))
     ⊎ ((q .message .kind ≡ 6)
-    × (q .message .placed < q .message .length)
+    × (q .message .stored < q .message .length)
     × (q .message .length ≤ 1048576)
-    × (q .message .address + q .message .placed < 2 ^ 64)))
+    × (q .message .address + q .message .stored < 2 ^ 64)))
 
 -- A READ being answered: none, or bytes of memory and some of their responses still to send.
 abbrev pub ReadSound : Pair → Type 0
@@ -108,13 +108,13 @@ Tested = (q : Pair) → (pairUnsound q ≡ false → Sound q) × (Sound q → pa
 
 -- A fresh pair, field by field: Init, the numbers of the set-up, the start expected, MSN 0, no mark, no message open,
 -- no entry, no READ being answered, no atomic saved.
-pub record Fresh (s : Setup) (q : Pair) : Type 0 where
+pub record AsSetUp (s : Setup) (q : Pair) : Type 0 where
   pub setup : q .setup ≡ s
   pub state : q .state ≡ 0
   pub expected : q .expected ≡ s .start
   pub msn : q .msn .0 ≡ 0
-  pub mark : q .mark ≡ false
-  pub message : q .message ≡ (record { kind = 255; placed = 0; address = 0; key = 0; length = 0 })
+  pub nakmark : q .nakmark ≡ false
+  pub message : q .message ≡ (record { kind = 255; stored = 0; address = 0; key = 0; length = 0 })
   pub entries : q .entries ≡ (record { head = 0; count = 0 })
   pub read : q .read ≡ (record { remaining = 0; offset = 0; length = 0; psn = record { 0 = 0 }; msn = record { 0 = 0 } })
   pub saved : q .saved ≡ (record { head = 0; count = 0 })
@@ -136,13 +136,13 @@ SetUpOver =
 abbrev pub SetUpDone : Type 0
 SetUpDone =
     (s : Setup) (rows : List (List ℕ)) → SetupSound s
-    → (statusNumber (setUp s .status) ≡ 0) × Fresh s (setUp s .pair) × (setUpRegions s rows ≡ noRegions)
+    → (statusNumber (setUp s .status) ≡ 0) × AsSetUp s (setUp s .pair) × (setUpRegions s rows ≡ noRegions)
 
 -- Reset, in whatever state; a pair that no set-up made is refused.
 abbrev pub ResetDone : Type 0
 ResetDone =
     (q : Pair) (rows : List (List ℕ)) → SetupSound (q .setup)
-    → (statusNumber (resetTo q .status) ≡ 0) × Fresh (q .setup) (resetTo q .pair) × (resetRegions q rows ≡ noRegions)
+    → (statusNumber (resetTo q .status) ≡ 0) × AsSetUp (q .setup) (resetTo q .pair) × (resetRegions q rows ≡ noRegions)
 
 abbrev pub ResetNever : Type 0
 ResetNever =
@@ -153,7 +153,7 @@ pub record Unmoved (old new : Pair) : Type 0 where
   pub setup : new .setup ≡ old .setup
   pub expected : new .expected ≡ old .expected
   pub msn : new .msn ≡ old .msn
-  pub mark : new .mark ≡ old .mark
+  pub nakmark : new .nakmark ≡ old .nakmark
   pub message : new .message ≡ old .message
   pub head : new .entries .head ≡ old .entries .head
   pub read : new .read ≡ old .read
@@ -302,7 +302,7 @@ pub record Blank (q : Pair) : Type 0 where
   pub start : (q .setup .start .0 ≡ 0) × (q .setup .timer ≡ 0) × (q .setup .memory ≡ 0)
   pub functions : (q .setup .send ≡ false) × (q .setup .write ≡ false) × (q .setup .read ≡ false) × (q .setup .atomic ≡ false)
   pub state : q .state ≡ 2
-  pub rest : Fresh (q .setup) (moved q 0 (q .entries))
+  pub rest : AsSetUp (q .setup) (moved q 0 (q .entries))
 
 abbrev pub IsBlank : Type 0
 IsBlank = Blank blankPair
@@ -325,7 +325,7 @@ pub record WholeSound (w : Whole) : Type 0 where
   pub regions : RegionsSound (w .pair .setup .memory) (w .regions)
   pub entries : EntriesSound (w .pair .setup .memory) (w .entries) (w .pair .entries)
   pub saved : SavedSound (w .saved) (w .pair .saved)
-  pub held : w .pair .message .kind ≡ 0 → w .pair .message .placed ≤ getD (getD (w .entries) (slotAt (w .pair .entries .head) 0) []) 2 0
+  pub held : w .pair .message .kind ≡ 0 → w .pair .message .stored ≤ getD (getD (w .entries) (slotAt (w .pair .entries .head) 0) []) 2 0
 
 -- Set-up makes them sound, whatever the tables held before; and so they are after every list of the host's calls in which
 -- each set-up is accepted.

@@ -11,7 +11,7 @@ use Rattle.pair.specs.declared.Pair.{Pair}
 
 -- no message is open: its kind is 255, which no opcode has
 abbrev pub noMessage : OpenMessage
-noMessage = record { kind = 255; placed = 0; address = 0; key = 0; length = 0 }
+noMessage = record { kind = 255; stored = 0; address = 0; key = 0; length = 0 }
 
 abbrev pub noRead : ReadAnswer
 noRead = record { remaining = 0; offset = 0; length = 0; psn = record { 0 = 0 }; msn = record { 0 = 0 } }
@@ -27,7 +27,7 @@ freshPair s =
       state = 0;
       expected = s .start;
       msn = record { 0 = 0 };
-      mark = false;
+      nakmark = false;
       message = noMessage;
       entries = noRows;
       read = noRead;
@@ -60,7 +60,7 @@ moved q state entries =
       state = state;
       expected = q .expected;
       msn = q .msn;
-      mark = q .mark;
+      nakmark = q .nakmark;
       message = q .message;
       entries = entries;
       read = q .read;

@@ -38,16 +38,16 @@ unfoldable pub noEntry : ℕ → Bool
 noEntry entries = eqb entries 0
 
 unfoldable pub sendUnsound : ℕ → ℕ → Bool
-sendUnsound placed entries = noEntry entries || ltb memoryLimit placed
+sendUnsound stored entries = noEntry entries || ltb memoryLimit stored
 
 unfoldable pub writeUnsound : ℕ → ℕ → ℕ → Bool
-writeUnsound placed address length = leb length placed || (ltb memoryLimit length || pastTop address placed)
+writeUnsound stored address length = leb length stored || (ltb memoryLimit length || pastTop address stored)
 
 unfoldable pub messageUnsound : ℕ → ℕ → ℕ → ℕ → ℕ → Bool
-messageUnsound kind placed address length entries =
+messageUnsound kind stored address length entries =
     cond (eqb kind 255) false
-    (cond (eqb kind 0) (sendUnsound placed entries)
-    (cond (eqb kind 6) (writeUnsound placed address length) true))
+    (cond (eqb kind 0) (sendUnsound stored entries)
+    (cond (eqb kind 6) (writeUnsound stored address length) true))
 
 -- a READ being answered has no more responses remaining than it has at all, its bytes lie in memory, its numbers have 24 bits
 unfoldable pub readUnsound : ℕ → ℕ → ℕ → ℕ → ℕ → ℕ → ℕ → Bool
@@ -61,5 +61,5 @@ pairUnsound q =
     || (numbersUnsound (q .state) (q .expected .0) (q .msn .0)
     || (ringUnsound (q .entries .head) (q .entries .count)
     || (ringUnsound (q .saved .head) (q .saved .count)
-    || (messageUnsound (q .message .kind) (q .message .placed) (q .message .address) (q .message .length) (q .entries .count)
+    || (messageUnsound (q .message .kind) (q .message .stored) (q .message .address) (q .message .length) (q .entries .count)
     || readUnsound (q .read .remaining) (q .read .offset) (q .read .length) (q .read .psn .0) (q .read .msn .0) (q .setup .pmtu) (q .setup .memory)))))

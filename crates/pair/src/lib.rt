@@ -42,7 +42,7 @@ pub struct Setup {
 // DMA length as its First gave them.
 pub struct OpenMessage {
     pub kind: u8,
-    pub placed: usize,
+    pub stored: usize,
     pub address: u64,
     pub key: u32,
     pub length: usize,
@@ -69,7 +69,7 @@ pub struct Pair {
     pub expected: Psn,
     pub msn: Msn,
     pub state: u8,
-    pub mark: bool,
+    pub nakmark: bool,
 }
 
 // What a call answers; the rules' number of each is Status::number.
@@ -107,7 +107,7 @@ pub fn no_message() -> OpenMessage
 {
     OpenMessage {
         kind: CLOSED,
-        placed: 0,
+        stored: 0,
         address: 0,
         key: 0,
         length: 0,

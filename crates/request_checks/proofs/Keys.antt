@@ -7,30 +7,30 @@ use lib.Dec.{eqb}
 use borrow.Author.Tests.{ne-eqb, leb-true, leb-false}
 use Rattle.table.specs.Table.{addresses, pastTop}
 use Rattle.pair.specs.declared.OpenMessage.{OpenMessage}
-use Rattle.request_spec.specs.Verdict.{rightOf, lacks, keySpan, keyLacking, keyFails}
+use Rattle.request_spec.specs.Verdict.{rightOf, lacks, bytesToCome, keyLacking, keyFails}
 use Rattle.request_checks.proofs.Sums.{lacks-past}
 
 -- the next address, where it is not past the top
-pub below-top : (address placed : ℕ) (t : Bool) → t ≡ pastTop address placed → t ≡ false → address + placed < addresses
+pub below-top : (address stored : ℕ) (t : Bool) → t ≡ pastTop address stored → t ≡ false → address + stored < addresses
 unfolding pastTop
-below-top address placed t e f = leb-false addresses (address + placed) (sym e ∙ f)
+below-top address stored t e f = leb-false addresses (address + stored) (sym e ∙ f)
 
-module _ (memory kind : ℕ) (m : OpenMessage) (region : List ℕ) (k : kind ≡ 0 → ⊥) (span : ℕ) (s : span ≡ m .length - m .placed)
-    (some : span ≡ 0 → ⊥) where
+module _ (memory kind : ℕ) (m : OpenMessage) (region : List ℕ) (k : kind ≡ 0 → ⊥) (needed : ℕ) (s : needed ≡ m .length - m .stored)
+    (some : needed ≡ 0 → ⊥) where
   -- a kind that has a key, and bytes to come
-  keyed : keyFails memory kind m region ≡ lacks region (rightOf kind region) memory (m .address + m .placed) span
-  unfolding keyFails keyLacking keySpan
+  keyed : keyFails memory kind m region ≡ lacks region (rightOf kind region) memory (m .address + m .stored) needed
+  unfolding keyFails keyLacking bytesToCome
   keyed =
-      ap (λ b. cond b false (cond (eqb (m .length - m .placed) 0) false (lacks region (rightOf kind region) memory (m .address + m .placed) (m .length - m .placed)))) (ne-eqb kind 0 k)
-      ∙ ((λ i. cond (eqb (sym s i) 0) false (lacks region (rightOf kind region) memory (m .address + m .placed) (sym s i)))
-      ∙ ap (λ b. cond b false (lacks region (rightOf kind region) memory (m .address + m .placed) span)) (ne-eqb span 0 some))
+      ap (λ b. cond b false (cond (eqb (m .length - m .stored) 0) false (lacks region (rightOf kind region) memory (m .address + m .stored) (m .length - m .stored)))) (ne-eqb kind 0 k)
+      ∙ ((λ i. cond (eqb (sym s i) 0) false (lacks region (rightOf kind region) memory (m .address + m .stored) (sym s i)))
+      ∙ ap (λ b. cond b false (lacks region (rightOf kind region) memory (m .address + m .stored) needed)) (ne-eqb needed 0 some))
 
-  pub past : (placed : ℕ) → placed ≡ m .placed → (t : Bool) → t ≡ pastTop (m .address) placed → t ≡ true
+  pub past : (stored : ℕ) → stored ≡ m .stored → (t : Bool) → t ≡ pastTop (m .address) stored → t ≡ true
       → true ≡ keyFails memory kind m region
   unfolding pastTop
-  past placed p t e f =
-      sym (keyed ∙ lacks-past region (rightOf kind region) memory (m .address + m .placed) span (leb-true addresses (m .address + m .placed) (ap (λ x. pastTop (m .address) x) (sym p) ∙ (sym e ∙ f))))
+  past stored p t e f =
+      sym (keyed ∙ lacks-past region (rightOf kind region) memory (m .address + m .stored) needed (leb-true addresses (m .address + m .stored) (ap (λ x. pastTop (m .address) x) (sym p) ∙ (sym e ∙ f))))
 
-  pub judged : (placed : ℕ) → placed ≡ m .placed → (right : ℕ) → right ≡ rightOf kind region → (n : ℕ) → n ≡ span → (r : Bool)
-      → r ≡ lacks region right memory (m .address + placed) n → r ≡ keyFails memory kind m region
-  judged placed p right q n e r l = l ∙ ((λ i. lacks region (q i) memory (m .address + p i) (e i)) ∙ sym keyed)
+  pub judged : (stored : ℕ) → stored ≡ m .stored → (right : ℕ) → right ≡ rightOf kind region → (n : ℕ) → n ≡ needed → (r : Bool)
+      → r ≡ lacks region right memory (m .address + stored) n → r ≡ keyFails memory kind m region
+  judged stored p right q n e r l = l ∙ ((λ i. lacks region (q i) memory (m .address + p i) (e i)) ∙ sym keyed)

@@ -12,30 +12,30 @@ use Rattle.table.specs.Table.{addresses, outside, pastTop}
 use Rattle.request_spec.specs.Verdict.{lacks}
 
 -- more than is left is more in all
-pub over-left : (most placed net : ℕ) → placed ≤ most → ltb (most - placed) net ≡ ltb most (placed + net)
-over-left most placed net h = go (ltb (most - placed) net) refl
+pub over-left : (most stored size : ℕ) → stored ≤ most → ltb (most - stored) size ≡ ltb most (stored + size)
+over-left most stored size h = go (ltb (most - stored) size) refl
   where
-    go : (t : Bool) → ltb (most - placed) net ≡ t → t ≡ ltb most (placed + net)
-    go true e = let l : most - placed < net = ltb-true (most - placed) net e in sym (lt-ltb most (placed + net) (omega arith))
-    go false e = let l : net ≤ most - placed = ltb-false (most - placed) net e in sym (le-ltb most (placed + net) (omega arith))
+    go : (t : Bool) → ltb (most - stored) size ≡ t → t ≡ ltb most (stored + size)
+    go true e = let l : most - stored < size = ltb-true (most - stored) size e in sym (lt-ltb most (stored + size) (omega arith))
+    go false e = let l : size ≤ most - stored = ltb-false (most - stored) size e in sym (le-ltb most (stored + size) (omega arith))
 
 -- just what is left is all
-pub equal-left : (length placed net : ℕ) → placed ≤ length → eqb (length - placed) net ≡ eqb (placed + net) length
-equal-left length placed net h = go (eqb (length - placed) net) refl
+pub equal-left : (length stored size : ℕ) → stored ≤ length → eqb (length - stored) size ≡ eqb (stored + size) length
+equal-left length stored size h = go (eqb (length - stored) size) refl
   where
-    go : (t : Bool) → eqb (length - placed) net ≡ t → t ≡ eqb (placed + net) length
-    go true e = let l : length - placed ≡ net = eqb-true (length - placed) net e in sym (eq-eqb (placed + net) length (omega arith))
+    go : (t : Bool) → eqb (length - stored) size ≡ t → t ≡ eqb (stored + size) length
+    go true e = let l : length - stored ≡ size = eqb-true (length - stored) size e in sym (eq-eqb (stored + size) length (omega arith))
     go false e =
-        let l : length - placed ≡ net → ⊥ = eqb-false (length - placed) net e in
-        sym (ne-eqb (placed + net) length (λ x. l (omega arith)))
+        let l : length - stored ≡ size → ⊥ = eqb-false (length - stored) size e in
+        sym (ne-eqb (stored + size) length (λ x. l (omega arith)))
 
 -- no less than what is left is no less in all
-pub no-less : (length placed net : ℕ) → placed ≤ length → leb (length - placed) net ≡ not (ltb (placed + net) length)
-no-less length placed net h = go (leb (length - placed) net) refl
+pub no-less : (length stored size : ℕ) → stored ≤ length → leb (length - stored) size ≡ not (ltb (stored + size) length)
+no-less length stored size h = go (leb (length - stored) size) refl
   where
-    go : (t : Bool) → leb (length - placed) net ≡ t → t ≡ not (ltb (placed + net) length)
-    go true e = let l : length - placed ≤ net = leb-true (length - placed) net e in sym (ap not (le-ltb (placed + net) length (omega arith)))
-    go false e = let l : net < length - placed = leb-false (length - placed) net e in sym (ap not (lt-ltb (placed + net) length (omega arith)))
+    go : (t : Bool) → leb (length - stored) size ≡ t → t ≡ not (ltb (stored + size) length)
+    go true e = let l : length - stored ≤ size = leb-true (length - stored) size e in sym (ap not (le-ltb (stored + size) length (omega arith)))
+    go false e = let l : size < length - stored = leb-false (length - stored) size e in sym (ap not (lt-ltb (stored + size) length (omega arith)))
 
 -- the bytes past a place in a region
 pub past-left : (start length address n : ℕ) → start ≤ address → address - start ≤ length

@@ -58,15 +58,15 @@ pub fn key_fails(memory: usize, kind: u8, m: OpenMessage, region: [u64; 7]) -> b
     if kind == opcode::SEND {
         return false;
     }
-    let span = less(m.length, m.placed);
-    if span == 0 {
+    let needed = less(m.length, m.stored);
+    if needed == 0 {
         return false;
     }
-    let placed = wide(m.placed);
-    let top = table::past_top(m.address, placed);
+    let stored = wide(m.stored);
+    let top = table::past_top(m.address, stored);
     if top {
         return true;
     }
     let right = right_of(kind, region);
-    lacks(region, right, memory, m.address + placed, wide(span))
+    lacks(region, right, memory, m.address + stored, wide(needed))
 }

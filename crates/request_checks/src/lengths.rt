@@ -9,77 +9,77 @@ ghost use Prim.Native.Nat.{_+_};
 ghost use lib.Dec.{eqb, ltb};
 ghost use Rattle.request_spec.specs.Verdict.{sizeOff, totalOff, bareOff, lengthsOff};
 
-fn empty_last(place: u8, net: usize) -> bool
-    ensures { λ r. ⌜ r ≡ (eqb place 2 && eqb net 0) ⌝ }
+fn empty_last(place: u8, size: usize) -> bool
+    ensures { λ r. ⌜ r ≡ (eqb place 2 && eqb size 0) ⌝ }
 {
     if place == opcode::LAST {
-        return net == 0;
+        return size == 0;
     }
     false
 }
 
 // Whether a packet's bytes do not fill the PMTU before the end of a message, or at its end are none or too many.
-fn size_off(place: u8, pmtu: usize, net: usize) -> bool
-    ensures { λ r. ⌜ r ≡ sizeOff place pmtu net ⌝ }
+fn size_off(place: u8, pmtu: usize, size: usize) -> bool
+    ensures { λ r. ⌜ r ≡ sizeOff place pmtu size ⌝ }
 {
     let last = pmtu::ends(place);
     if last {
-        let empty = empty_last(place, net);
+        let empty = empty_last(place, size);
         if empty {
             return true;
         }
-        return pmtu < net;
+        return pmtu < size;
     }
-    net != pmtu
+    size != pmtu
 }
 
 // Whether placed and net bytes are more than most. No sum is made here or below, so that none wraps.
-fn over(placed: u64, net: u64, most: u64) -> bool
-    ensures { λ r. ⌜ r ≡ ltb most (placed + net) ⌝ }
+fn over(stored: u64, size: u64, most: u64) -> bool
+    ensures { λ r. ⌜ r ≡ ltb most (stored + size) ⌝ }
 {
-    if most < placed {
+    if most < stored {
         return true;
     }
-    most - placed < net
+    most - stored < size
 }
 
 // Whether placed and net bytes are not all of a length.
-fn unequal(placed: usize, net: usize, length: usize) -> bool
-    ensures { λ r. ⌜ r ≡ not (eqb (placed + net) length) ⌝ }
+fn unequal(stored: usize, size: usize, length: usize) -> bool
+    ensures { λ r. ⌜ r ≡ not (eqb (stored + size) length) ⌝ }
 {
-    if length < placed {
+    if length < stored {
         return true;
     }
-    length - placed != net
+    length - stored != size
 }
 
 // Whether placed and net bytes leave none of a length to come.
-fn no_more(placed: usize, net: usize, length: usize) -> bool
-    ensures { λ r. ⌜ r ≡ not (ltb (placed + net) length) ⌝ }
+fn no_more(stored: usize, size: usize, length: usize) -> bool
+    ensures { λ r. ⌜ r ≡ not (ltb (stored + size) length) ⌝ }
 {
-    if length < placed {
+    if length < stored {
         return true;
     }
-    length - placed <= net
+    length - stored <= size
 }
 
-fn total_off(kind: u8, place: u8, placed: usize, net: usize, length: usize, most: u64) -> bool
-    ensures { λ r. ⌜ r ≡ totalOff kind place placed net length most ⌝ }
+fn total_off(kind: u8, place: u8, stored: usize, size: usize, length: usize, most: u64) -> bool
+    ensures { λ r. ⌜ r ≡ totalOff kind place stored size length most ⌝ }
 {
     if kind == opcode::SEND {
-        return over(wide(placed), wide(net), most);
+        return over(wide(stored), wide(size), most);
     }
     let last = pmtu::ends(place);
     if last {
-        return unequal(placed, net, length);
+        return unequal(stored, size, length);
     }
-    no_more(placed, net, length)
+    no_more(stored, size, length)
 }
 
-fn bare_off(kind: u8, raw: usize, address: u64) -> bool
-    ensures { λ r. ⌜ r ≡ bareOff kind raw address ⌝ }
+fn bare_off(kind: u8, padded: usize, address: u64) -> bool
+    ensures { λ r. ⌜ r ≡ bareOff kind padded address ⌝ }
 {
-    if raw != 0 {
+    if padded != 0 {
         return true;
     }
     if kind == opcode::READ {
@@ -91,17 +91,17 @@ fn bare_off(kind: u8, raw: usize, address: u64) -> bool
 pub(crate) fn lengths_off(p: Packet, pmtu: usize, m: OpenMessage, most: u64) -> bool
     ensures { λ r. ⌜ r ≡ lengthsOff p pmtu m most ⌝ }
 {
-    if p.raw < p.pad {
+    if p.padded < p.pad {
         return true;
     }
     let carries = carrying(p.kind);
     if carries {
-        let net = p.raw - p.pad;
-        let size = size_off(p.place, pmtu, net);
-        if size {
+        let size = p.padded - p.pad;
+        let off = size_off(p.place, pmtu, size);
+        if off {
             return true;
         }
-        return total_off(p.kind, p.place, m.placed, net, m.length, most);
+        return total_off(p.kind, p.place, m.stored, size, m.length, most);
     }
-    bare_off(p.kind, p.raw, m.address)
+    bare_off(p.kind, p.padded, m.address)
 }

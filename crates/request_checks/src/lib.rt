@@ -67,32 +67,32 @@ pub fn over_limit(length: usize) -> bool
 }
 
 // The message that a packet is of, as it is before the packet.
-pub fn current(under: OpenMessage, p: Packet) -> OpenMessage
-    ensures { λ r. ⌜ r ≡ current under p ⌝ }
+pub fn current(opened: OpenMessage, p: Packet) -> OpenMessage
+    ensures { λ r. ⌜ r ≡ current opened p ⌝ }
 {
     let begins = pmtu::starts(p.place);
     if begins {
         return OpenMessage {
             kind: p.kind,
-            placed: 0,
+            stored: 0,
             address: p.operands.address,
             key: p.operands.key,
             length: p.operands.length,
         };
     }
-    under
+    opened
 }
 
 // The checks but that of the sequence: 0, or the number of the answer.
 pub fn request_code(
     s: Setup,
-    under: OpenMessage,
+    opened: OpenMessage,
     p: Packet,
     count: usize,
     entry: [u64; 3],
     region: [u64; 7],
 ) -> u8
-    ensures { λ r. ⌜ r ≡ requestCode s under p count entry region ⌝ }
+    ensures { λ r. ⌜ r ≡ requestCode s opened p count entry region ⌝ }
 {
     let off = not_enabled(s, p.kind);
     if off {
@@ -106,7 +106,7 @@ pub fn request_code(
     if long {
         return 17;
     }
-    let unready = place::none_waiting(p.kind, p.place, p.operands.immediate, under.kind, count);
+    let unready = place::none_waiting(p.kind, p.place, p.operands.immediate, opened.kind, count);
     if unready {
         return 19;
     }
@@ -114,7 +114,7 @@ pub fn request_code(
     if stray {
         return 34;
     }
-    let m = current(under, p);
+    let m = current(opened, p);
     let lacking = key_fails(s.memory, p.kind, m, region);
     if lacking {
         return 18;
@@ -129,17 +129,17 @@ pub fn request_code(
 // All of them, on a reliable connection.
 pub fn expected_code(
     s: Setup,
-    under: OpenMessage,
+    opened: OpenMessage,
     p: Packet,
     count: usize,
     entry: [u64; 3],
     region: [u64; 7],
 ) -> u8
-    ensures { λ r. ⌜ r ≡ expectedCode s under p count entry region ⌝ }
+    ensures { λ r. ⌜ r ≡ expectedCode s opened p count entry region ⌝ }
 {
-    let unexpected = place::out_of_sequence(under.kind, p.kind, p.place);
+    let unexpected = place::out_of_sequence(opened.kind, p.kind, p.place);
     if unexpected {
         return 17;
     }
-    request_code(s, under, p, count, entry, region)
+    request_code(s, opened, p, count, entry, region)
 }

@@ -75,7 +75,7 @@ pub fn packet_of(h: Header, n: usize) -> Packet
     let extension = h.extension;
     let operands = operands_of(extension);
     let psn = bth.psn;
-    let raw = less(n, class.length);
+    let padded = less(n, class.length);
     Packet {
         kind: class.kind,
         place: class.place,
@@ -83,7 +83,7 @@ pub fn packet_of(h: Header, n: usize) -> Packet
         pad: bth.pad as usize,
         psn,
         start: class.length,
-        raw,
+        padded,
         operands,
     }
 }

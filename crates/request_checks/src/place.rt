@@ -4,14 +4,14 @@ use crate::wide;
 ghost use mathlib.Core.Path.{_≡_};
 ghost use Rattle.request_spec.specs.Verdict.{outOfSequence, padEarly, needsEntry, entriesWaiting, noneWaiting, usesEntry, entryOutside};
 
-pub(crate) fn out_of_sequence(under: u8, kind: u8, place: u8) -> bool
-    ensures { λ r. ⌜ r ≡ outOfSequence under kind place ⌝ }
+pub(crate) fn out_of_sequence(opened: u8, kind: u8, place: u8) -> bool
+    ensures { λ r. ⌜ r ≡ outOfSequence opened kind place ⌝ }
 {
     let begins = pmtu::starts(place);
     if begins {
-        return under != pair::CLOSED;
+        return opened != pair::CLOSED;
     }
-    under != kind
+    opened != kind
 }
 
 pub(crate) fn pad_early(place: u8, pad: usize) -> bool
@@ -34,21 +34,21 @@ fn needs_entry(kind: u8, place: u8, immediate: bool) -> bool
 }
 
 // Of the entries those that wait: an open SEND holds one.
-fn entries_waiting(under: u8, count: usize) -> usize
-    ensures { λ r. ⌜ r ≡ entriesWaiting under count ⌝ }
+fn entries_waiting(opened: u8, count: usize) -> usize
+    ensures { λ r. ⌜ r ≡ entriesWaiting opened count ⌝ }
 {
-    if under == opcode::SEND {
+    if opened == opcode::SEND {
         return less(count, 1);
     }
     count
 }
 
-pub(crate) fn none_waiting(kind: u8, place: u8, immediate: bool, under: u8, count: usize) -> bool
-    ensures { λ r. ⌜ r ≡ noneWaiting kind place immediate under count ⌝ }
+pub(crate) fn none_waiting(kind: u8, place: u8, immediate: bool, opened: u8, count: usize) -> bool
+    ensures { λ r. ⌜ r ≡ noneWaiting kind place immediate opened count ⌝ }
 {
     let needs = needs_entry(kind, place, immediate);
     if needs {
-        return entries_waiting(under, count) == 0;
+        return entries_waiting(opened, count) == 0;
     }
     false
 }

@@ -13,8 +13,8 @@ use Rattle.pmtu.specs.Pieces.{starts, ends}
 use Rattle.table.specs.Table.{outside, addresses, pastTop}
 use Rattle.pair.specs.Sound.{memoryLimit}
 use Rattle.request_spec.specs.declared.Packet.{Packet}
-use Rattle.request_spec.specs.Verdict.{carrying, outOfSequence, notEnabled, padEarly, overLimit, needsEntry, entriesWaiting, noneWaiting, usesEntry, entryOutside, rightOf, lacks, keySpan, keyLacking, keyFails, sizeOff, totalOff, bareOff, netOf, lengthsOff, current}
-use Rattle.request_spec.specs.Claims.{Carries, Begins, HasMore, Ends, Place, IsAtomic, Served, InSequence, Enabled, PadAtEnd, TakesEntry, Waits, Gives, GivesRest, KeyGood, LengthsGood, IsCurrent, Says, CurrentTested, SequenceTested, EnabledTested, PadTested, LimitTested, EntryTested, InsideTested, KeyTested, LengthsTested}
+use Rattle.request_spec.specs.Verdict.{carrying, outOfSequence, notEnabled, padEarly, overLimit, needsEntry, entriesWaiting, noneWaiting, usesEntry, entryOutside, rightOf, lacks, bytesToCome, keyLacking, keyFails, sizeOff, totalOff, bareOff, payloadSize, lengthsOff, current}
+use Rattle.request_spec.specs.Claims.{Carries, Begins, HasMore, Ends, Place, IsAtomic, Served, InSequence, Enabled, PadAtEnd, TakesEntry, Waits, Gives, GivesRest, KeyGood, LengthsGood, IsCurrent, Tells, CurrentTested, SequenceTested, EnabledTested, PadTested, LimitTested, EntryTested, InsideTested, KeyTested, LengthsTested}
 
 -- a fact at each place
 pub by-place : (P : ℕ → Type 0) → P 0 → P 1 → P 2 → P 4 → (place : ℕ) → Place place → P place
@@ -74,14 +74,14 @@ formed p k x =
       pad = p .pad;
       psn = p .psn;
       start = p .start;
-      raw = p .raw;
+      padded = p .padded;
       operands = p .operands;
     }
 
 pub current-tested : CurrentTested
 unfolding current starts
-current-tested under p =
-    by-place (λ x. IsCurrent under (formed p (p .kind) x) (current under (formed p (p .kind) x)))
+current-tested opened p =
+    by-place (λ x. IsCurrent opened (formed p (p .kind) x) (current opened (formed p (p .kind) x)))
     (record { own = λ h. refl; old = λ h. absurd (apart 0 1 2 refl refl h) })
     (record { own = λ h. absurd (apart 1 0 4 refl refl h); old = λ h. refl })
     (record { own = λ h. absurd (apart 2 0 4 refl refl h); old = λ h. refl })
@@ -89,12 +89,12 @@ current-tested under p =
 
 pub sequence-tested : SequenceTested
 unfolding outOfSequence starts
-sequence-tested under kind =
-    by-place (λ x. Says (outOfSequence under kind x) (InSequence under kind x))
-    (λ h. record { begins = λ b. of-not under 255 h; onward = λ g. absurd (apart 0 1 2 refl refl g) }, λ S. not-of under 255 (S .begins (inl refl)))
-    (λ h. record { begins = λ b. absurd (apart 1 0 4 refl refl b); onward = λ g. of-not under kind h }, λ S. not-of under kind (S .onward (inl refl)))
-    (λ h. record { begins = λ b. absurd (apart 2 0 4 refl refl b); onward = λ g. of-not under kind h }, λ S. not-of under kind (S .onward (inr refl)))
-    (λ h. record { begins = λ b. of-not under 255 h; onward = λ g. absurd (apart 4 1 2 refl refl g) }, λ S. not-of under 255 (S .begins (inr refl)))
+sequence-tested opened kind =
+    by-place (λ x. Tells (outOfSequence opened kind x) (InSequence opened kind x))
+    (λ h. record { begins = λ b. of-not opened 255 h; onward = λ g. absurd (apart 0 1 2 refl refl g) }, λ S. not-of opened 255 (S .begins (inl refl)))
+    (λ h. record { begins = λ b. absurd (apart 1 0 4 refl refl b); onward = λ g. of-not opened kind h }, λ S. not-of opened kind (S .onward (inl refl)))
+    (λ h. record { begins = λ b. absurd (apart 2 0 4 refl refl b); onward = λ g. of-not opened kind h }, λ S. not-of opened kind (S .onward (inr refl)))
+    (λ h. record { begins = λ b. of-not opened 255 h; onward = λ g. absurd (apart 4 1 2 refl refl g) }, λ S. not-of opened 255 (S .begins (inr refl)))
 
 on : (b : Bool) → not b ≡ false → b ≡ true
 on true h = refl
@@ -124,7 +124,7 @@ enabled-tested s kind = (go (eqb kind 0) refl (eqb kind 6) refl (eqb kind 12) re
 pub pad-tested : PadTested
 unfolding padEarly ends
 pad-tested place pad =
-    by-place (λ x. Says (padEarly x pad) (PadAtEnd x pad))
+    by-place (λ x. Tells (padEarly x pad) (PadAtEnd x pad))
     (λ h m. of-not pad 0 h, λ f. not-of pad 0 (f (inl refl)))
     (λ h m. of-not pad 0 h, λ f. not-of pad 0 (f (inr refl)))
     (λ h m. absurd (apart 2 0 1 refl refl m), λ f. refl)
@@ -135,7 +135,7 @@ unfolding overLimit
 limit-tested length = (ltb-false memoryLimit length, le-ltb memoryLimit length)
 
 -- a test that is made only under another
-guards : (a b : Bool) (A B : Type 0) → (a ≡ true → A) → (A → a ≡ true) → Says b B → Says (a && b) (A → B)
+guards : (a b : Bool) (A B : Type 0) → (a ≡ true → A) → (A → a ≡ true) → Tells b B → Tells (a && b) (A → B)
 guards true b A B f g s = (λ h x. s .0 h, λ k. s .1 (k (f refl)))
 guards false b A B f g s = (λ h x. absurd (true≢false (sym (g x))), λ k. refl)
 
@@ -152,27 +152,27 @@ unfolding needsEntry
 takes-needs kind place immediate (inl (e, b)) = rw (eq-eqb kind 0 e) (begins-starts place b)
 takes-needs kind place immediate (inr (n, i)) = rw (ne-eqb kind 0 n) i
 
-waits-tested : (under count : ℕ) → Says (eqb (entriesWaiting under count) 0) (Waits under count)
+waits-tested : (opened count : ℕ) → Tells (eqb (entriesWaiting opened count) 0) (Waits opened count)
 unfolding entriesWaiting
-waits-tested under count = go (eqb under 0) refl
+waits-tested opened count = go (eqb opened 0) refl
   where
-    go : (b : Bool) → eqb under 0 ≡ b → Says (eqb (cond b (count - 1) count) 0) (Waits under count)
+    go : (b : Bool) → eqb opened 0 ≡ b → Tells (eqb (cond b (count - 1) count) 0) (Waits opened count)
     go true e =
-        let z : under ≡ 0 = eqb-true under 0 e in (
+        let z : opened ≡ 0 = eqb-true opened 0 e in (
           λ h. let n : count - 1 ≡ 0 → ⊥ = eqb-false (count - 1) 0 h in record { held = λ u. omega (arith, n); free = λ u. absurd (u z) },
           λ W. ne-eqb (count - 1) 0 (λ x. omega (arith, W .held z)),
         )
     go false e =
-        let z : under ≡ 0 → ⊥ = eqb-false under 0 e in (
+        let z : opened ≡ 0 → ⊥ = eqb-false opened 0 e in (
           λ h. let n : count ≡ 0 → ⊥ = eqb-false count 0 h in record { held = λ u. absurd (z u); free = λ u. omega (arith, n) },
           λ W. ne-eqb count 0 (λ x. omega (arith, W .free z)),
         )
 
 pub entry-tested : EntryTested
 unfolding noneWaiting
-entry-tested kind place immediate under count =
-    guards (needsEntry kind place immediate) (eqb (entriesWaiting under count) 0) (TakesEntry kind place immediate) (Waits under count)
-    (needs-takes kind place immediate) (takes-needs kind place immediate) (waits-tested under count)
+entry-tested kind place immediate opened count =
+    guards (needsEntry kind place immediate) (eqb (entriesWaiting opened count) 0) (TakesEntry kind place immediate) (Waits opened count)
+    (needs-takes kind place immediate) (takes-needs kind place immediate) (waits-tested opened count)
 
 uses : (kind : ℕ) (immediate : Bool) → usesEntry kind immediate ≡ true → (kind ≡ 0) ⊎ (immediate ≡ true)
 unfolding usesEntry
@@ -201,7 +201,7 @@ inside-tested kind immediate entry memory =
 
 -- R_Key
 lacks-tested : (region : List ℕ) (right memory address n : ℕ)
-    → Says (lacks region (getD region right 0) memory address n) (Gives region right memory address n)
+    → Tells (lacks region (getD region right 0) memory address n) (Gives region right memory address n)
 unfolding lacks outside pastTop
 lacks-tested region right memory address n = (forth, back)
   where
@@ -227,72 +227,72 @@ lacks-tested region right memory address n = (forth, back)
         (neither (le-ltb address (getD region 1 0) (G .from)) (le-ltb (getD region 1 0 + getD region 2 0) (address + n) (G .to)))))
 
 rest-tested : (region : List ℕ) (right memory address n : ℕ)
-    → Says (cond (eqb n 0) false (lacks region (getD region right 0) memory address n)) (0 < n → Gives region right memory address n)
+    → Tells (cond (eqb n 0) false (lacks region (getD region right 0) memory address n)) (0 < n → Gives region right memory address n)
 rest-tested region right memory address n = go (eqb n 0) refl
   where
-    L : Says (lacks region (getD region right 0) memory address n) (Gives region right memory address n)
+    L : Tells (lacks region (getD region right 0) memory address n) (Gives region right memory address n)
     L = lacks-tested region right memory address n
 
-    go : (b : Bool) → eqb n 0 ≡ b → Says (cond b false (lacks region (getD region right 0) memory address n)) (0 < n → Gives region right memory address n)
+    go : (b : Bool) → eqb n 0 ≡ b → Tells (cond b false (lacks region (getD region right 0) memory address n)) (0 < n → Gives region right memory address n)
     go true e = (λ h x. let z : n ≡ 0 = eqb-true n 0 e in absurd (omega (arith, x, z)), λ f. refl)
     go false e = (λ h x. L .0 h, λ f. let z : n ≡ 0 → ⊥ = eqb-false n 0 e in L .1 (f (omega (arith, z))))
 
 pub key-tested : KeyTested
-unfolding keyFails keyLacking keySpan rightOf
+unfolding keyFails keyLacking bytesToCome rightOf
 key-tested kind memory m region = go
   where
-    R : (c : ℕ) → Says (cond (eqb (m .length - m .placed) 0) false (lacks region (getD region c 0) memory (m .address + m .placed) (m .length - m .placed))) (GivesRest region c memory m)
-    R c = rest-tested region c memory (m .address + m .placed) (m .length - m .placed)
+    R : (c : ℕ) → Tells (cond (eqb (m .length - m .stored) 0) false (lacks region (getD region c 0) memory (m .address + m .stored) (m .length - m .stored))) (GivesRest region c memory m)
+    R c = rest-tested region c memory (m .address + m .stored) (m .length - m .stored)
 
-    go : Served kind → Says (keyFails memory kind m region) (KeyGood kind memory m region)
+    go : Served kind → Tells (keyFails memory kind m region) (KeyGood kind memory m region)
     go (inl (inl e)) =
-        subst (λ k. Says (keyFails memory k m region) (KeyGood k memory m region)) (sym e)
+        subst (λ k. Tells (keyFails memory k m region) (KeyGood k memory m region)) (sym e)
         (λ h. record { writes = λ x. absurd (omega arith); reads = λ x. absurd (omega arith); atomics = λ x. absurd (apart 0 19 20 refl refl x) }, λ K. refl)
     go (inl (inr e)) =
-        subst (λ k. Says (keyFails memory k m region) (KeyGood k memory m region)) (sym e)
+        subst (λ k. Tells (keyFails memory k m region) (KeyGood k memory m region)) (sym e)
         (λ h. record { writes = λ x. R 4 .0 h; reads = λ x. absurd (omega arith); atomics = λ x. absurd (apart 6 19 20 refl refl x) }, λ K. R 4 .1 (K .writes refl))
     go (inr (inl e)) =
-        subst (λ k. Says (keyFails memory k m region) (KeyGood k memory m region)) (sym e)
+        subst (λ k. Tells (keyFails memory k m region) (KeyGood k memory m region)) (sym e)
         (λ h. record { writes = λ x. absurd (omega arith); reads = λ x. R 5 .0 h; atomics = λ x. absurd (apart 12 19 20 refl refl x) }, λ K. R 5 .1 (K .reads refl))
     go (inr (inr (inl e))) =
-        subst (λ k. Says (keyFails memory k m region) (KeyGood k memory m region)) (sym e)
+        subst (λ k. Tells (keyFails memory k m region) (KeyGood k memory m region)) (sym e)
         (λ h. record { writes = λ x. absurd (omega arith); reads = λ x. absurd (omega arith); atomics = λ x. R 6 .0 h }, λ K. R 6 .1 (K .atomics (inl refl)))
     go (inr (inr (inr e))) =
-        subst (λ k. Says (keyFails memory k m region) (KeyGood k memory m region)) (sym e)
+        subst (λ k. Tells (keyFails memory k m region) (KeyGood k memory m region)) (sym e)
         (λ h. record { writes = λ x. absurd (omega arith); reads = λ x. absurd (omega arith); atomics = λ x. R 6 .0 h }, λ K. R 6 .1 (K .atomics (inr refl)))
 
 -- Lengths
-record Sized (place pmtu net : ℕ) : Type 0 where
-  full : HasMore place → net ≡ pmtu
-  last : place ≡ 2 → (1 ≤ net) × (net ≤ pmtu)
-  only : place ≡ 4 → net ≤ pmtu
+record Sized (place pmtu size : ℕ) : Type 0 where
+  full : HasMore place → size ≡ pmtu
+  last : place ≡ 2 → (1 ≤ size) × (size ≤ pmtu)
+  only : place ≡ 4 → size ≤ pmtu
 
-size-tested : (pmtu net place : ℕ) → Place place → Says (sizeOff place pmtu net) (Sized place pmtu net)
+size-tested : (pmtu size place : ℕ) → Place place → Tells (sizeOff place pmtu size) (Sized place pmtu size)
 unfolding sizeOff ends
-size-tested pmtu net =
-    by-place (λ x. Says (sizeOff x pmtu net) (Sized x pmtu net))
-    (λ h. record { full = λ x. of-not net pmtu h; last = λ x. absurd (omega arith); only = λ x. absurd (omega arith) }, λ S. not-of net pmtu (S .full (inl refl)))
-    (λ h. record { full = λ x. of-not net pmtu h; last = λ x. absurd (omega arith); only = λ x. absurd (omega arith) }, λ S. not-of net pmtu (S .full (inr refl))) (
-      λ h. record { full = λ x. absurd (apart 2 0 1 refl refl x); last = λ x. (some h, ltb-false pmtu net (or-right (eqb net 0) _ h)); only = λ x. absurd (omega arith) },
-      λ S. neither (ne-eqb net 0 (λ z. omega (arith, S .last refl))) (le-ltb pmtu net (S .last refl .1)),
+size-tested pmtu size =
+    by-place (λ x. Tells (sizeOff x pmtu size) (Sized x pmtu size))
+    (λ h. record { full = λ x. of-not size pmtu h; last = λ x. absurd (omega arith); only = λ x. absurd (omega arith) }, λ S. not-of size pmtu (S .full (inl refl)))
+    (λ h. record { full = λ x. of-not size pmtu h; last = λ x. absurd (omega arith); only = λ x. absurd (omega arith) }, λ S. not-of size pmtu (S .full (inr refl))) (
+      λ h. record { full = λ x. absurd (apart 2 0 1 refl refl x); last = λ x. (some h, ltb-false pmtu size (or-right (eqb size 0) _ h)); only = λ x. absurd (omega arith) },
+      λ S. neither (ne-eqb size 0 (λ z. omega (arith, S .last refl))) (le-ltb pmtu size (S .last refl .1)),
     )
-    (λ h. record { full = λ x. absurd (apart 4 0 1 refl refl x); last = λ x. absurd (omega arith); only = λ x. ltb-false pmtu net h }, λ S. le-ltb pmtu net (S .only refl))
+    (λ h. record { full = λ x. absurd (apart 4 0 1 refl refl x); last = λ x. absurd (omega arith); only = λ x. ltb-false pmtu size h }, λ S. le-ltb pmtu size (S .only refl))
   where
-    some : (eqb net 0 || ltb pmtu net) ≡ false → 1 ≤ net
-    some h = let z : net ≡ 0 → ⊥ = eqb-false net 0 (or-left (eqb net 0) _ h) in omega (arith, z)
+    some : (eqb size 0 || ltb pmtu size) ≡ false → 1 ≤ size
+    some h = let z : size ≡ 0 → ⊥ = eqb-false size 0 (or-left (eqb size 0) _ h) in omega (arith, z)
 
 record Summed (place total length : ℕ) : Type 0 where
   more : HasMore place → total < length
   whole : Ends place → total ≡ length
 
-total-tested : (placed net length most place : ℕ) → Place place → Says (totalOff 6 place placed net length most) (Summed place (placed + net) length)
+total-tested : (stored size length most place : ℕ) → Place place → Tells (totalOff 6 place stored size length most) (Summed place (stored + size) length)
 unfolding totalOff ends
-total-tested placed net length most =
-    by-place (λ x. Says (totalOff 6 x placed net length most) (Summed x (placed + net) length))
-    (λ h. record { more = λ x. of-not-ltb (placed + net) length h; whole = λ x. absurd (apart 0 2 4 refl refl x) }, λ S. not-of-ltb (placed + net) length (S .more (inl refl)))
-    (λ h. record { more = λ x. of-not-ltb (placed + net) length h; whole = λ x. absurd (apart 1 2 4 refl refl x) }, λ S. not-of-ltb (placed + net) length (S .more (inr refl)))
-    (λ h. record { more = λ x. absurd (apart 2 0 1 refl refl x); whole = λ x. of-not (placed + net) length h }, λ S. not-of (placed + net) length (S .whole (inl refl)))
-    (λ h. record { more = λ x. absurd (apart 4 0 1 refl refl x); whole = λ x. of-not (placed + net) length h }, λ S. not-of (placed + net) length (S .whole (inr refl)))
+total-tested stored size length most =
+    by-place (λ x. Tells (totalOff 6 x stored size length most) (Summed x (stored + size) length))
+    (λ h. record { more = λ x. of-not-ltb (stored + size) length h; whole = λ x. absurd (apart 0 2 4 refl refl x) }, λ S. not-of-ltb (stored + size) length (S .more (inl refl)))
+    (λ h. record { more = λ x. of-not-ltb (stored + size) length h; whole = λ x. absurd (apart 1 2 4 refl refl x) }, λ S. not-of-ltb (stored + size) length (S .more (inr refl)))
+    (λ h. record { more = λ x. absurd (apart 2 0 1 refl refl x); whole = λ x. of-not (stored + size) length h }, λ S. not-of (stored + size) length (S .whole (inl refl)))
+    (λ h. record { more = λ x. absurd (apart 4 0 1 refl refl x); whole = λ x. of-not (stored + size) length h }, λ S. not-of (stored + size) length (S .whole (inr refl)))
 
 -- a kind from 12 on carries no bytes
 carries-not : (k : ℕ) → ltb k 12 ≡ false → Carries k → ⊥
@@ -304,24 +304,24 @@ not-bare n x y z (inl e) = eqb-false n 12 x e
 not-bare n x y z (inr e) = apart n 19 20 y z e
 
 pub lengths-tested : LengthsTested
-unfolding lengthsOff carrying totalOff bareOff netOf
+unfolding lengthsOff carrying totalOff bareOff payloadSize
 lengths-tested p pmtu m most P = go
   where
-    Z : Says (sizeOff (p .place) pmtu (p .raw - p .pad)) (Sized (p .place) pmtu (p .raw - p .pad))
-    Z = size-tested pmtu (p .raw - p .pad) (p .place) P
+    Z : Tells (sizeOff (p .place) pmtu (p .padded - p .pad)) (Sized (p .place) pmtu (p .padded - p .pad))
+    Z = size-tested pmtu (p .padded - p .pad) (p .place) P
 
-    W : Says (totalOff 6 (p .place) (m .placed) (p .raw - p .pad) (m .length) most) (Summed (p .place) (m .placed + (p .raw - p .pad)) (m .length))
-    W = total-tested (m .placed) (p .raw - p .pad) (m .length) most (p .place) P
+    W : Tells (totalOff 6 (p .place) (m .stored) (p .padded - p .pad) (m .length) most) (Summed (p .place) (m .stored + (p .padded - p .pad)) (m .length))
+    W = total-tested (m .stored) (p .padded - p .pad) (m .length) most (p .place) P
 
-    pads : (b : Bool) → (ltb (p .raw) (p .pad) || b) ≡ false → p .pad ≤ p .raw
-    pads b h = ltb-false (p .raw) (p .pad) (or-left (ltb (p .raw) (p .pad)) b h)
+    pads : (b : Bool) → (ltb (p .padded) (p .pad) || b) ≡ false → p .pad ≤ p .padded
+    pads b h = ltb-false (p .padded) (p .pad) (or-left (ltb (p .padded) (p .pad)) b h)
 
     atomic : (k : ℕ) → ltb k 12 ≡ false → eqb k 12 ≡ false → IsAtomic k
-        → Says (lengthsOff (formed p k (p .place)) pmtu m most) (LengthsGood (formed p k (p .place)) pmtu m most)
+        → Tells (lengthsOff (formed p k (p .place)) pmtu m most) (LengthsGood (formed p k (p .place)) pmtu m most)
     atomic k c d s =
         rw (c, d) (
           λ h.
-              let a = or-right (ltb (p .raw) (p .pad)) _ h in
+              let a = or-right (ltb (p .padded) (p .pad)) _ h in
               record {
                 pad = pads _ h;
                 full = λ x. absurd (carries-not k c x);
@@ -330,40 +330,40 @@ lengths-tested p pmtu m most P = go
                 fits = λ x. absurd (carries-not k c (inl x));
                 more = λ x. absurd (carries-not k c (inr x));
                 whole = λ x. absurd (carries-not k c (inr x));
-                bare = λ x. of-not (p .raw) 0 (or-left (not (eqb (p .raw) 0)) _ a);
-                aligned = λ x. of-not (m .address % 8) 0 (or-right (not (eqb (p .raw) 0)) _ a);
+                bare = λ x. of-not (p .padded) 0 (or-left (not (eqb (p .padded) 0)) _ a);
+                aligned = λ x. of-not (m .address % 8) 0 (or-right (not (eqb (p .padded) 0)) _ a);
               },
-          λ L. neither (le-ltb (p .raw) (p .pad) (L .pad))
-              (neither (not-of (p .raw) 0 (L .bare (inr s))) (not-of (m .address % 8) 0 (L .aligned s))),
+          λ L. neither (le-ltb (p .padded) (p .pad) (L .pad))
+              (neither (not-of (p .padded) 0 (L .bare (inr s))) (not-of (m .address % 8) 0 (L .aligned s))),
         )
 
-    go : Served (p .kind) → Says (lengthsOff p pmtu m most) (LengthsGood p pmtu m most)
+    go : Served (p .kind) → Tells (lengthsOff p pmtu m most) (LengthsGood p pmtu m most)
     go (inl (inl e)) =
-        subst (λ k. Says (lengthsOff (formed p k (p .place)) pmtu m most) (LengthsGood (formed p k (p .place)) pmtu m most)) (sym e) (
+        subst (λ k. Tells (lengthsOff (formed p k (p .place)) pmtu m most) (LengthsGood (formed p k (p .place)) pmtu m most)) (sym e) (
           λ h.
-              let a = or-right (ltb (p .raw) (p .pad)) _ h in
-              let z = Z .0 (or-left (sizeOff (p .place) pmtu (p .raw - p .pad)) _ a) in
+              let a = or-right (ltb (p .padded) (p .pad)) _ h in
+              let z = Z .0 (or-left (sizeOff (p .place) pmtu (p .padded - p .pad)) _ a) in
               record {
                 pad = pads _ h;
                 full = λ c x. z .full x;
                 last = λ c x. z .last x;
                 only = λ c x. z .only x;
-                fits = λ k. ltb-false most (m .placed + (p .raw - p .pad)) (or-right (sizeOff (p .place) pmtu (p .raw - p .pad)) _ a);
+                fits = λ k. ltb-false most (m .stored + (p .padded - p .pad)) (or-right (sizeOff (p .place) pmtu (p .padded - p .pad)) _ a);
                 more = λ k. absurd (omega arith);
                 whole = λ k. absurd (omega arith);
                 bare = λ k. absurd (not-bare 0 refl refl refl k);
                 aligned = λ k. absurd (apart 0 19 20 refl refl k);
               },
-          λ L. neither (le-ltb (p .raw) (p .pad) (L .pad))
+          λ L. neither (le-ltb (p .padded) (p .pad) (L .pad))
               (neither (Z .1 (record { full = L .full (inl refl); last = L .last (inl refl); only = L .only (inl refl) }))
-              (le-ltb most (m .placed + (p .raw - p .pad)) (L .fits refl))),
+              (le-ltb most (m .stored + (p .padded - p .pad)) (L .fits refl))),
         )
     go (inl (inr e)) =
-        subst (λ k. Says (lengthsOff (formed p k (p .place)) pmtu m most) (LengthsGood (formed p k (p .place)) pmtu m most)) (sym e) (
+        subst (λ k. Tells (lengthsOff (formed p k (p .place)) pmtu m most) (LengthsGood (formed p k (p .place)) pmtu m most)) (sym e) (
           λ h.
-              let a = or-right (ltb (p .raw) (p .pad)) _ h in
-              let z = Z .0 (or-left (sizeOff (p .place) pmtu (p .raw - p .pad)) _ a) in
-              let w = W .0 (or-right (sizeOff (p .place) pmtu (p .raw - p .pad)) _ a) in
+              let a = or-right (ltb (p .padded) (p .pad)) _ h in
+              let z = Z .0 (or-left (sizeOff (p .place) pmtu (p .padded - p .pad)) _ a) in
+              let w = W .0 (or-right (sizeOff (p .place) pmtu (p .padded - p .pad)) _ a) in
               record {
                 pad = pads _ h;
                 full = λ c x. z .full x;
@@ -375,14 +375,14 @@ lengths-tested p pmtu m most P = go
                 bare = λ k. absurd (not-bare 6 refl refl refl k);
                 aligned = λ k. absurd (apart 6 19 20 refl refl k);
               },
-          λ L. neither (le-ltb (p .raw) (p .pad) (L .pad))
+          λ L. neither (le-ltb (p .padded) (p .pad) (L .pad))
               (neither (Z .1 (record { full = L .full (inr refl); last = L .last (inr refl); only = L .only (inr refl) }))
               (W .1 (record { more = L .more refl; whole = L .whole refl }))),
         )
     go (inr (inl e)) =
-        subst (λ k. Says (lengthsOff (formed p k (p .place)) pmtu m most) (LengthsGood (formed p k (p .place)) pmtu m most)) (sym e) (
+        subst (λ k. Tells (lengthsOff (formed p k (p .place)) pmtu m most) (LengthsGood (formed p k (p .place)) pmtu m most)) (sym e) (
           λ h.
-              let a = or-right (ltb (p .raw) (p .pad)) _ h in
+              let a = or-right (ltb (p .padded) (p .pad)) _ h in
               record {
                 pad = pads _ h;
                 full = λ c. absurd (apart 12 0 6 refl refl c);
@@ -391,10 +391,10 @@ lengths-tested p pmtu m most P = go
                 fits = λ k. absurd (omega arith);
                 more = λ k. absurd (omega arith);
                 whole = λ k. absurd (omega arith);
-                bare = λ k. of-not (p .raw) 0 (or-left (not (eqb (p .raw) 0)) _ a);
+                bare = λ k. of-not (p .padded) 0 (or-left (not (eqb (p .padded) 0)) _ a);
                 aligned = λ k. absurd (apart 12 19 20 refl refl k);
               },
-          λ L. neither (le-ltb (p .raw) (p .pad) (L .pad)) (neither (not-of (p .raw) 0 (L .bare (inl refl))) refl),
+          λ L. neither (le-ltb (p .padded) (p .pad) (L .pad)) (neither (not-of (p .padded) 0 (L .bare (inl refl))) refl),
         )
     go (inr (inr (inl e))) = atomic (p .kind) (ap (λ k. ltb k 12) e) (ap (λ k. eqb k 12) e) (inl e)
     go (inr (inr (inr e))) = atomic (p .kind) (ap (λ k. ltb k 12) e) (ap (λ k. eqb k 12) e) (inr e)

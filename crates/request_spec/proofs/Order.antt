@@ -9,7 +9,7 @@ use Rattle.pair.specs.declared.Setup.{Setup}
 use Rattle.pair.specs.declared.OpenMessage.{OpenMessage}
 use Rattle.request_spec.specs.declared.Packet.{Packet}
 use Rattle.request_spec.specs.Verdict.{outOfSequence, notEnabled, padEarly, overLimit, noneWaiting, entryOutside, keyFails, lengthsOff, current, requestCode, expectedCode}
-use Rattle.request_spec.specs.Claims.{Place, Served, Enabled, IsCurrent, Says, Judged, JudgedBy, Order}
+use Rattle.request_spec.specs.Claims.{Place, Served, Enabled, IsCurrent, Tells, Judged, JudgedBy, Order}
 use Rattle.request_spec.proofs.Conditions.{current-tested, sequence-tested, enabled-tested, pad-tested, limit-tested, entry-tested, inside-tested, key-tested, lengths-tested}
 
 -- what is on is served
@@ -20,13 +20,13 @@ served s kind (inr (inr (inl x))) = inr (inl (x .0))
 served s kind (inr (inr (inr x))) = inr (inr (x .0))
 
 -- a packet is of one message
-pub current-one : (under : OpenMessage) (p : Packet) (m : OpenMessage) → Place (p .place) → IsCurrent under p m → m ≡ current under p
-current-one under p m P C = go P
+pub current-one : (opened : OpenMessage) (p : Packet) (m : OpenMessage) → Place (p .place) → IsCurrent opened p m → m ≡ current opened p
+current-one opened p m P C = go P
   where
-    D : IsCurrent under p (current under p)
-    D = current-tested under p P
+    D : IsCurrent opened p (current opened p)
+    D = current-tested opened p P
 
-    go : Place (p .place) → m ≡ current under p
+    go : Place (p .place) → m ≡ current opened p
     go (inl b) = C .own b ∙ sym (D .own b)
     go (inr g) = C .old g ∙ sym (D .old g)
 
@@ -79,8 +79,8 @@ one-of false false false false false false true h = inr (inr (inl refl))
 one-of false false false false false false false true = inr (inl refl)
 one-of false false false false false false false false = inl refl
 
-module _ (A B C D E F G H : Type 0) (a b c d e f g h : Bool) (sa : Says a A) (sb : Says b B) (sc : Says c C) (sd : Says d D) (se : Says e E)
-    (sf : Says f F) (sg : B → Says g G) (sh : B → Says h H) where
+module _ (A B C D E F G H : Type 0) (a b c d e f g h : Bool) (sa : Tells a A) (sb : Tells b B) (sc : Tells c C) (sd : Tells d D) (se : Tells e E)
+    (sf : Tells f F) (sg : B → Tells g G) (sh : B → Tells h H) where
   -- any code but 17: the first four hold
   four : (v : ℕ) → (17 ≡ v → ⊥) → coded a b c d e f g h ≡ v → (A × B × C × D) × (cond e 19 (cond f 34 (cond g 18 (cond h 17 0))) ≡ v)
   four v n q =
@@ -152,14 +152,14 @@ module _ (A B C D E F G H : Type 0) (a b c d e f g h : Bool) (sa : Says a A) (sb
 
 pub order : Order
 unfolding expectedCode requestCode
-order s under p m count entry region P C =
-    subst (λ x. JudgedBy s under p x count entry region (expectedCode s under p count entry region)) (sym (current-one under p m P C))
-    (judged _ _ _ _ _ _ _ _ (outOfSequence (under .kind) (p .kind) (p .place)) (notEnabled s (p .kind)) (padEarly (p .place) (p .pad))
-    (overLimit (p .operands .length)) (noneWaiting (p .kind) (p .place) (p .operands .immediate) (under .kind) count)
-    (entryOutside (p .kind) (p .operands .immediate) entry (s .memory)) (keyFails (s .memory) (p .kind) (current under p) region)
-    (lengthsOff p (s .pmtu) (current under p) (getD entry 2 0))
-    (sequence-tested (under .kind) (p .kind) (p .place) P) (enabled-tested s (p .kind)) (pad-tested (p .place) (p .pad) P)
-    (limit-tested (p .operands .length)) (entry-tested (p .kind) (p .place) (p .operands .immediate) (under .kind) count)
+order s opened p m count entry region P C =
+    subst (λ x. JudgedBy s opened p x count entry region (expectedCode s opened p count entry region)) (sym (current-one opened p m P C))
+    (judged _ _ _ _ _ _ _ _ (outOfSequence (opened .kind) (p .kind) (p .place)) (notEnabled s (p .kind)) (padEarly (p .place) (p .pad))
+    (overLimit (p .operands .length)) (noneWaiting (p .kind) (p .place) (p .operands .immediate) (opened .kind) count)
+    (entryOutside (p .kind) (p .operands .immediate) entry (s .memory)) (keyFails (s .memory) (p .kind) (current opened p) region)
+    (lengthsOff p (s .pmtu) (current opened p) (getD entry 2 0))
+    (sequence-tested (opened .kind) (p .kind) (p .place) P) (enabled-tested s (p .kind)) (pad-tested (p .place) (p .pad) P)
+    (limit-tested (p .operands .length)) (entry-tested (p .kind) (p .place) (p .operands .immediate) (opened .kind) count)
     (inside-tested (p .kind) (p .operands .immediate) entry (s .memory))
-    (λ B. key-tested (p .kind) (s .memory) (current under p) region (served s (p .kind) B))
-    (λ B. lengths-tested p (s .pmtu) (current under p) (getD entry 2 0) P (served s (p .kind) B)))
+    (λ B. key-tested (p .kind) (s .memory) (current opened p) region (served s (p .kind) B))
+    (λ B. lengths-tested p (s .pmtu) (current opened p) (getD entry 2 0) P (served s (p .kind) B)))

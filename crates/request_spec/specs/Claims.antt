@@ -44,9 +44,9 @@ abbrev pub Served : ℕ → Type 0
 Served kind = Carries kind ⊎ ((kind ≡ 12) ⊎ IsAtomic kind)
 
 -- In sequence: what begins a message comes with none open, 255, and what goes on with one comes in one of its kind.
-pub record InSequence (under kind place : ℕ) : Type 0 where
-  pub begins : Begins place → under ≡ 255
-  pub onward : GoesOn place → under ≡ kind
+pub record InSequence (opened kind place : ℕ) : Type 0 where
+  pub begins : Begins place → opened ≡ 255
+  pub onward : GoesOn place → opened ≡ kind
 
 -- The function is one of four, and it is on.
 abbrev pub Enabled : Setup → ℕ → Type 0
@@ -68,12 +68,12 @@ abbrev pub TakesEntry : ℕ → ℕ → Bool → Type 0
 TakesEntry kind place immediate = ((kind ≡ 0) × Begins place) ⊎ ((kind ≡ 0 → ⊥) × (immediate ≡ true))
 
 -- An entry waits: one, or where an open SEND holds one, another.
-pub record Waits (under count : ℕ) : Type 0 where
-  pub held : under ≡ 0 → 2 ≤ count
-  pub free : (under ≡ 0 → ⊥) → 1 ≤ count
+pub record Waits (opened count : ℕ) : Type 0 where
+  pub held : opened ≡ 0 → 2 ≤ count
+  pub free : (opened ≡ 0 → ⊥) → 1 ≤ count
 
 abbrev pub EntryWaits : ℕ → ℕ → Bool → ℕ → ℕ → Type 0
-EntryWaits kind place immediate under count = TakesEntry kind place immediate → Waits under count
+EntryWaits kind place immediate opened count = TakesEntry kind place immediate → Waits opened count
 
 -- The entry of a SEND, or of an immediate, lies in memory. A row is number, offset, length.
 abbrev pub EntryInMemory : ℕ → Bool → List ℕ → ℕ → Type 0
@@ -93,8 +93,8 @@ pub record Gives (region : List ℕ) (right memory address n : ℕ) : Type 0 whe
 -- So it does for a message's bytes still to come, if there are any.
 abbrev pub GivesRest : List ℕ → ℕ → ℕ → OpenMessage → Type 0
 GivesRest region right memory m =
-    0 < m .length - m .placed
-    → Gives region right memory (m .address + m .placed) (m .length - m .placed)
+    0 < m .length - m .stored
+    → Gives region right memory (m .address + m .stored) (m .length - m .stored)
 
 -- The key is good: a SEND has none.
 pub record KeyGood (kind memory : ℕ) (m : OpenMessage) (region : List ℕ) : Type 0 where
@@ -104,63 +104,63 @@ pub record KeyGood (kind memory : ℕ) (m : OpenMessage) (region : List ℕ) : T
 
 -- The lengths are good. The bytes carried are those there are but the pad; a SEND's entry has room for most.
 pub record LengthsGood (p : Packet) (pmtu : ℕ) (m : OpenMessage) (most : ℕ) : Type 0 where
-  pub pad : p .pad ≤ p .raw
-  pub full : Carries (p .kind) → HasMore (p .place) → p .raw - p .pad ≡ pmtu
-  pub last : Carries (p .kind) → p .place ≡ 2 → (1 ≤ p .raw - p .pad) × (p .raw - p .pad ≤ pmtu)
-  pub only : Carries (p .kind) → p .place ≡ 4 → p .raw - p .pad ≤ pmtu
-  pub fits : p .kind ≡ 0 → m .placed + (p .raw - p .pad) ≤ most
-  pub more : p .kind ≡ 6 → HasMore (p .place) → m .placed + (p .raw - p .pad) < m .length
-  pub whole : p .kind ≡ 6 → Ends (p .place) → m .placed + (p .raw - p .pad) ≡ m .length
-  pub bare : (p .kind ≡ 12) ⊎ IsAtomic (p .kind) → p .raw ≡ 0
+  pub pad : p .pad ≤ p .padded
+  pub full : Carries (p .kind) → HasMore (p .place) → p .padded - p .pad ≡ pmtu
+  pub last : Carries (p .kind) → p .place ≡ 2 → (1 ≤ p .padded - p .pad) × (p .padded - p .pad ≤ pmtu)
+  pub only : Carries (p .kind) → p .place ≡ 4 → p .padded - p .pad ≤ pmtu
+  pub fits : p .kind ≡ 0 → m .stored + (p .padded - p .pad) ≤ most
+  pub more : p .kind ≡ 6 → HasMore (p .place) → m .stored + (p .padded - p .pad) < m .length
+  pub whole : p .kind ≡ 6 → Ends (p .place) → m .stored + (p .padded - p .pad) ≡ m .length
+  pub bare : (p .kind ≡ 12) ⊎ IsAtomic (p .kind) → p .padded ≡ 0
   pub aligned : IsAtomic (p .kind) → m .address % 8 ≡ 0
 
 -- The message that a packet is of, before the packet: its own operands with nothing placed, or the one under way.
-pub record IsCurrent (under : OpenMessage) (p : Packet) (m : OpenMessage) : Type 0 where
+pub record IsCurrent (opened : OpenMessage) (p : Packet) (m : OpenMessage) : Type 0 where
   pub own : Begins (p .place)
       → m
-      ≡ (record { kind = p .kind; placed = 0; address = p .operands .address; key = p .operands .key; length = p .operands .length })
-  pub old : GoesOn (p .place) → m ≡ under
+      ≡ (record { kind = p .kind; stored = 0; address = p .operands .address; key = p .operands .key; length = p .operands .length })
+  pub old : GoesOn (p .place) → m ≡ opened
 
 -- Each test says its condition, both ways.
-abbrev pub Says : Bool → Type 0 → Type 0
-Says failing Good = (failing ≡ false → Good) × (Good → failing ≡ false)
+abbrev pub Tells : Bool → Type 0 → Type 0
+Tells failing Good = (failing ≡ false → Good) × (Good → failing ≡ false)
 
 abbrev pub CurrentTested : Type 0
-CurrentTested = (under : OpenMessage) (p : Packet) → Place (p .place) → IsCurrent under p (current under p)
+CurrentTested = (opened : OpenMessage) (p : Packet) → Place (p .place) → IsCurrent opened p (current opened p)
 
 abbrev pub SequenceTested : Type 0
 SequenceTested =
-    (under kind place : ℕ) → Place place → Says (outOfSequence under kind place) (InSequence under kind place)
+    (opened kind place : ℕ) → Place place → Tells (outOfSequence opened kind place) (InSequence opened kind place)
 
 abbrev pub EnabledTested : Type 0
-EnabledTested = (s : Setup) (kind : ℕ) → Says (notEnabled s kind) (Enabled s kind)
+EnabledTested = (s : Setup) (kind : ℕ) → Tells (notEnabled s kind) (Enabled s kind)
 
 abbrev pub PadTested : Type 0
-PadTested = (place pad : ℕ) → Place place → Says (padEarly place pad) (PadAtEnd place pad)
+PadTested = (place pad : ℕ) → Place place → Tells (padEarly place pad) (PadAtEnd place pad)
 
 abbrev pub LimitTested : Type 0
-LimitTested = (length : ℕ) → Says (overLimit length) (WithinLimit length)
+LimitTested = (length : ℕ) → Tells (overLimit length) (WithinLimit length)
 
 abbrev pub EntryTested : Type 0
 EntryTested =
-    (kind place : ℕ) (immediate : Bool) (under count : ℕ)
-    → Says (noneWaiting kind place immediate under count) (EntryWaits kind place immediate under count)
+    (kind place : ℕ) (immediate : Bool) (opened count : ℕ)
+    → Tells (noneWaiting kind place immediate opened count) (EntryWaits kind place immediate opened count)
 
 abbrev pub InsideTested : Type 0
 InsideTested =
     (kind : ℕ) (immediate : Bool) (entry : List ℕ) (memory : ℕ)
-    → Says (entryOutside kind immediate entry memory) (EntryInMemory kind immediate entry memory)
+    → Tells (entryOutside kind immediate entry memory) (EntryInMemory kind immediate entry memory)
 
 -- Of kinds that are not served these two tests say more; but such a packet does not come so far.
 abbrev pub KeyTested : Type 0
 KeyTested =
     (kind memory : ℕ) (m : OpenMessage) (region : List ℕ) → Served kind
-    → Says (keyFails memory kind m region) (KeyGood kind memory m region)
+    → Tells (keyFails memory kind m region) (KeyGood kind memory m region)
 
 abbrev pub LengthsTested : Type 0
 LengthsTested =
     (p : Packet) (pmtu : ℕ) (m : OpenMessage) (most : ℕ) → Place (p .place) → Served (p .kind)
-    → Says (lengthsOff p pmtu m most) (LengthsGood p pmtu m most)
+    → Tells (lengthsOff p pmtu m most) (LengthsGood p pmtu m most)
 
 -- The code of eight conditions, in this order: the first that fails decides, whatever the later ones are; 0 if none does.
 -- And back: each code says what held and what did not, and no other code comes.
@@ -183,24 +183,24 @@ pub record Judged (Sequence Function Pad Limit Waiting Inside Key Lengths : Type
 
 -- The request checks, of a packet of the message m.
 abbrev pub JudgedBy : Setup → OpenMessage → Packet → OpenMessage → ℕ → List ℕ → List ℕ → ℕ → Type 0
-JudgedBy s under p m count entry region =
-    Judged (InSequence (under .kind) (p .kind) (p .place)) (Enabled s (p .kind)) (PadAtEnd (p .place) (p .pad))
-    (WithinLimit (p .operands .length)) (EntryWaits (p .kind) (p .place) (p .operands .immediate) (under .kind) count)
+JudgedBy s opened p m count entry region =
+    Judged (InSequence (opened .kind) (p .kind) (p .place)) (Enabled s (p .kind)) (PadAtEnd (p .place) (p .pad))
+    (WithinLimit (p .operands .length)) (EntryWaits (p .kind) (p .place) (p .operands .immediate) (opened .kind) count)
     (EntryInMemory (p .kind) (p .operands .immediate) entry (s .memory)) (KeyGood (p .kind) (s .memory) m region)
     (LengthsGood p (s .pmtu) m (getD entry 2 0))
 
 abbrev pub Order : Type 0
 Order =
-    (s : Setup) (under : OpenMessage) (p : Packet) (m : OpenMessage) (count : ℕ) (entry region : List ℕ) → Place (p .place)
-    → IsCurrent under p m
-    → JudgedBy s under p m count entry region (expectedCode s under p count entry region)
+    (s : Setup) (opened : OpenMessage) (p : Packet) (m : OpenMessage) (count : ℕ) (entry region : List ℕ) → Place (p .place)
+    → IsCurrent opened p m
+    → JudgedBy s opened p m count entry region (expectedCode s opened p count entry region)
 
 -- What is taken from a packet's bytes. From the BTH, of every packet; the bytes behind the headers are the rest.
 pub record FromBth (bytes : List ℕ) (n : ℕ) (p : Packet) : Type 0 where
   pub ackreq : p .ackreq ≡ bthOf bytes .ackreq
   pub pad : p .pad ≡ bthOf bytes .pad
   pub psn : p .psn ≡ bthOf bytes .psn
-  pub raw : p .raw ≡ n - p .start
+  pub padded : p .padded ≡ n - p .start
   pub place : Place (p .place)
 
 abbrev pub BthTaken : Type 0

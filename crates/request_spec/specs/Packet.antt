@@ -45,6 +45,6 @@ packetOf h n =
       pad = h .bth .pad;
       psn = h .bth .psn;
       start = headerLength h;
-      raw = n - headerLength h;
+      padded = n - headerLength h;
       operands = operandsOf (h .extension);
     }

@@ -17,7 +17,7 @@ carrying kind = ltb kind 12
 
 -- Sequence: what begins a message comes while none is open, which is 255; a Middle or Last goes on with one of its kind
 unfoldable pub outOfSequence : ℕ → ℕ → ℕ → Bool
-outOfSequence under kind place = cond (starts place) (not (eqb under 255)) (not (eqb under kind))
+outOfSequence opened kind place = cond (starts place) (not (eqb opened 255)) (not (eqb opened kind))
 
 -- Function: one of the four, and switched on; a reserved opcode has none
 unfoldable pub notEnabled : Setup → ℕ → Bool
@@ -42,10 +42,10 @@ needsEntry kind place immediate = cond (eqb kind 0) (starts place) immediate
 
 -- of the entries, those that wait: an open SEND holds one
 unfoldable pub entriesWaiting : ℕ → ℕ → ℕ
-entriesWaiting under count = cond (eqb under 0) (count - 1) count
+entriesWaiting opened count = cond (eqb opened 0) (count - 1) count
 
 unfoldable pub noneWaiting : ℕ → ℕ → Bool → ℕ → ℕ → Bool
-noneWaiting kind place immediate under count = needsEntry kind place immediate && eqb (entriesWaiting under count) 0
+noneWaiting kind place immediate opened count = needsEntry kind place immediate && eqb (entriesWaiting opened count) 0
 
 -- The entry that a packet uses does not lie in memory: a row that no call made. A row is number, offset, length
 unfoldable pub usesEntry : ℕ → Bool → Bool
@@ -68,67 +68,67 @@ lacks region right memory address n =
     || (ltb address (getD region 1 0) || ltb (getD region 1 0 + getD region 2 0) (address + n))))
 
 -- what the key must hold: the bytes still to come
-unfoldable pub keySpan : ℕ → ℕ → ℕ
-keySpan length placed = length - placed
+unfoldable pub bytesToCome : ℕ → ℕ → ℕ
+bytesToCome length stored = length - stored
 
 -- a SEND has no key, and no bytes need none
 unfoldable pub keyLacking : ℕ → List ℕ → ℕ → ℕ → ℕ → Bool
-keyLacking kind region memory address span =
-    cond (eqb kind 0) false (cond (eqb span 0) false (lacks region (rightOf kind region) memory address span))
+keyLacking kind region memory address needed =
+    cond (eqb kind 0) false (cond (eqb needed 0) false (lacks region (rightOf kind region) memory address needed))
 
 unfoldable pub keyFails : ℕ → ℕ → OpenMessage → List ℕ → Bool
 keyFails memory kind m region =
-    keyLacking kind region memory (m .address + m .placed) (keySpan (m .length) (m .placed))
+    keyLacking kind region memory (m .address + m .stored) (bytesToCome (m .length) (m .stored))
 
 -- where in memory an address of the region lies; no bytes lie at 0
-unfoldable pub spot : List ℕ → ℕ → ℕ → ℕ
-spot region address span = cond (eqb span 0) 0 (getD region 3 0 + (address - getD region 1 0))
+unfoldable pub memoryOffset : List ℕ → ℕ → ℕ → ℕ
+memoryOffset region address needed = cond (eqb needed 0) 0 (getD region 3 0 + (address - getD region 1 0))
 
 -- Lengths. Before the end of a message the PMTU is filled; at its end there is no more than that, and in a Last something
 unfoldable pub sizeOff : ℕ → ℕ → ℕ → Bool
-sizeOff place pmtu net = cond (ends place) ((eqb place 2 && eqb net 0) || ltb pmtu net) (not (eqb net pmtu))
+sizeOff place pmtu size = cond (ends place) ((eqb place 2 && eqb size 0) || ltb pmtu size) (not (eqb size pmtu))
 
 -- a SEND stays within its entry; a WRITE reaches its DMA length with its last packet, and not before
 unfoldable pub totalOff : ℕ → ℕ → ℕ → ℕ → ℕ → ℕ → Bool
-totalOff kind place placed net length most =
-    cond (eqb kind 0) (ltb most (placed + net))
-    (cond (ends place) (not (eqb (placed + net) length)) (not (ltb (placed + net) length)))
+totalOff kind place stored size length most =
+    cond (eqb kind 0) (ltb most (stored + size))
+    (cond (ends place) (not (eqb (stored + size) length)) (not (ltb (stored + size) length)))
 
 -- all other kinds are bare, and atomics aligned to 8 bytes
 unfoldable pub bareOff : ℕ → ℕ → ℕ → Bool
-bareOff kind raw address = not (eqb raw 0) || (not (eqb kind 12) && not (eqb (address % 8) 0))
+bareOff kind padded address = not (eqb padded 0) || (not (eqb kind 12) && not (eqb (address % 8) 0))
 
 -- the bytes carried: those there are but the pad
-unfoldable pub netOf : Packet → ℕ
-netOf p = p .raw - p .pad
+unfoldable pub payloadSize : Packet → ℕ
+payloadSize p = p .padded - p .pad
 
 unfoldable pub lengthsOff : Packet → ℕ → OpenMessage → ℕ → Bool
 lengthsOff p pmtu m most =
-    ltb (p .raw) (p .pad)
+    ltb (p .padded) (p .pad)
     || cond (carrying (p .kind))
-    (sizeOff (p .place) pmtu (netOf p) || totalOff (p .kind) (p .place) (m .placed) (netOf p) (m .length) most)
-    (bareOff (p .kind) (p .raw) (m .address))
+    (sizeOff (p .place) pmtu (payloadSize p) || totalOff (p .kind) (p .place) (m .stored) (payloadSize p) (m .length) most)
+    (bareOff (p .kind) (p .padded) (m .address))
 
 -- The message that a packet is of, as it is before the packet: it begins it, or it is under way
 unfoldable pub current : OpenMessage → Packet → OpenMessage
-current under p =
+current opened p =
     cond (starts (p .place))
-    (record { kind = p .kind; placed = 0; address = p .operands .address; key = p .operands .key; length = p .operands .length })
-    under
+    (record { kind = p .kind; stored = 0; address = p .operands .address; key = p .operands .key; length = p .operands .length })
+    opened
 
 -- The checks but the first: 0, or the number of the answer. By the set-up, the message under way, the packet, the count of
 -- entries, the entry's row and the region's
 unfoldable pub requestCode : Setup → OpenMessage → Packet → ℕ → List ℕ → List ℕ → ℕ
-requestCode s under p count entry region =
+requestCode s opened p count entry region =
     cond (notEnabled s (p .kind)) 17
     (cond (padEarly (p .place) (p .pad)) 17
     (cond (overLimit (p .operands .length)) 17
-    (cond (noneWaiting (p .kind) (p .place) (p .operands .immediate) (under .kind) count) 19
+    (cond (noneWaiting (p .kind) (p .place) (p .operands .immediate) (opened .kind) count) 19
     (cond (entryOutside (p .kind) (p .operands .immediate) entry (s .memory)) 34
-    (cond (keyFails (s .memory) (p .kind) (current under p) region) 18
-    (cond (lengthsOff p (s .pmtu) (current under p) (getD entry 2 0)) 17 0))))))
+    (cond (keyFails (s .memory) (p .kind) (current opened p) region) 18
+    (cond (lengthsOff p (s .pmtu) (current opened p) (getD entry 2 0)) 17 0))))))
 
 -- All of them, on RC
 unfoldable pub expectedCode : Setup → OpenMessage → Packet → ℕ → List ℕ → List ℕ → ℕ
-expectedCode s under p count entry region =
-    cond (outOfSequence (under .kind) (p .kind) (p .place)) 17 (requestCode s under p count entry region)
+expectedCode s opened p count entry region =
+    cond (outOfSequence (opened .kind) (p .kind) (p .place)) 17 (requestCode s opened p count entry region)

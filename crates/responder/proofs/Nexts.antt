@@ -12,7 +12,7 @@ use Rattle.header.specs.declared.Answer.{Answer}
 use Rattle.header.specs.declared.Answer.the-variants.{Done}
 use Rattle.packet.specs.Packet.{packetWritten, packetOut}
 use Rattle.pmtu.specs.Pieces.{partAt, pieceAt}
-use Rattle.pmtu.specs.declared.Span.{Span}
+use Rattle.pmtu.specs.declared.Part.{Part}
 use Rattle.pmtu.proofs.Cuts.{parts-within, part-of}
 use Rattle.pair.specs.Answer.{statusNumber, executed}
 use Rattle.pair.specs.Sound.{pairUnsound}
@@ -30,7 +30,7 @@ use Rattle.responder_spec.specs.Reads.{Answering}
 use Rattle.responder_spec.specs.Response.{indexOf, responsePayload, responseHeader, responseBytes, nextStatus, oneFewer, nextBytes, nextResponse, nextOut}
 use Rattle.responder_spec.proofs.Responses.{live, written}
 use Rattle.header.specs.Write.{doneBytes}
-use Rattle.responder.specs.Unchanged.{unchanged, sending}
+use Rattle.responder.specs.Unchanged.{unchanged, responded}
 
 abbrev pub Leaves : Pair → List ℕ → List ℕ → Outcome → List ℕ → Type 0
 Leaves q m out o out' = (o ≡ nextResponse q m out) × (out' ≡ nextOut q m out)
@@ -77,7 +77,7 @@ module _ (q : Pair) (m out : List ℕ) (t : Status) (is : t ≡ nextStatus q (le
             }
 
     -- the part of memory that a response carries lies in it
-    pub inside : (i : ℕ) (x : Span) → x ≡ partAt (q .read .length) (q .setup .pmtu) i
+    pub inside : (i : ℕ) (x : Part) → x ≡ partAt (q .read .length) (q .setup .pmtu) i
         → (x .start ≤ x .end) × (q .read .offset + x .end ≤ length m) × (length m ≤ 1048576)
     inside i x e =
         let W = willing in
@@ -85,7 +85,7 @@ module _ (q : Pair) (m out : List ℕ) (t : Status) (is : t ≡ nextStatus q (le
         let L = live q (W .sound) (W .some) .within in
         (P .0, omega (arith, W .memory, L, P .1), omega (arith, W .memory, W .sound .setup .1))
 
-    module _ (pkey : q .setup .pkey < 2 ^ 16) (i : ℕ) (at : i ≡ indexOf (q .read) (q .setup .pmtu)) (x : Span)
+    module _ (pkey : q .setup .pkey < 2 ^ 16) (i : ℕ) (at : i ≡ indexOf (q .read) (q .setup .pmtu)) (x : Part)
         (part : x ≡ partAt (q .read .length) (q .setup .pmtu) i) where
       bytes : List ℕ
       bytes = take (q .read .offset + x .end - (q .read .offset + x .start)) (drop (q .read .offset + x .start) m)
@@ -109,20 +109,20 @@ module _ (q : Pair) (m out : List ℕ) (t : Status) (is : t ≡ nextStatus q (le
       unfolding statusNumber
       executes = one-number status.Executed (nextStatus q (length m) (length out)) (sym (eqb-true (statusNumber (nextStatus q (length m) (length out))) 0 taken))
 
-      pub sent : (h : Header) → h ≡ responseHeader (q .setup) (q .read) i (x .end - x .start)
+      pub outgoing : (h : Header) → h ≡ responseHeader (q .setup) (q .read) i (x .end - x .start)
           → (a : Answer) → a ≡ packetWritten h (length (take (q .read .offset + x .end - (q .read .offset + x .start)) (drop (q .read .offset + x .start) m))) (length out)
           → (out' : List ℕ) → out' ≡ packetOut h (take (q .read .offset + x .end - (q .read .offset + x .start)) (drop (q .read .offset + x .start) m)) out
           → (size : ℕ) → size ≡ doneBytes a
-          → (next : Pair) → next ≡ with q (q .state) (q .mark) (oneFewer (q .read))
-          → (o : Outcome) → o ≡ sending next size → Leaves q m out o out'
+          → (next : Pair) → next ≡ with q (q .state) (q .nakmark) (oneFewer (q .read))
+          → (o : Outcome) → o ≡ responded next size → Leaves q m out o out'
       unfolding bytes nextBytes nextResponse nextOut executed
-      sent h head a writes out' output size count next one o told =
+      outgoing h head a writes out' output size count next one o outcomeWith =
           let W = written q m answering i out (willing .room) in
           let is-h : h ≡ responseHeader (q .setup) (q .read) i (length (responsePayload (q .read) (q .setup .pmtu) m i)) = head ∙ ap (responseHeader (q .setup) (q .read) i) (sym many) in
           let is-a : a ≡ Done (length (responseBytes (q .setup) (q .read) m i)) = writes ∙ ((λ z. packetWritten (is-h z) (length (carried z)) (length out)) ∙ W .0) in
           let is-out : out' ≡ over (responseBytes (q .setup) (q .read) m i) out = output ∙ ((λ z. packetOut (is-h z) (carried z) out) ∙ W .1) in
           let is-size : size ≡ length (responseBytes (q .setup) (q .read) m (indexOf (q .read) (q .setup .pmtu))) = count ∙ (ap doneBytes is-a ∙ ap (λ k. length (responseBytes (q .setup) (q .read) m k)) at) in
           rw taken (
-            told ∙ (λ z. record { status = executes z; pair = one z; completion = noCompletion; sent = is-size z }),
+            outcomeWith ∙ (λ z. record { status = executes z; pair = one z; completion = noCompletion; outgoing = is-size z }),
             is-out ∙ ap (λ k. over (responseBytes (q .setup) (q .read) m k) out) at,
           )

@@ -22,14 +22,14 @@ use Rattle.pair.specs.declared.Status.the-variants as status
 use Rattle.request_spec.specs.Packet.{packetOf}
 use Rattle.responder_spec.specs.declared.Decision.{Decision}
 use Rattle.responder_spec.specs.declared.Outcome.{Outcome}
-use Rattle.responder_spec.specs.Decide.{quietly, packetDecision, orDrop, inboundRefusal, decided}
+use Rattle.responder_spec.specs.Decide.{noReply, packetDecision, orDrop, inboundRefusal, decided}
 use Rattle.responder_spec.specs.Apply.{memoryBy, actsAtomic, savedBy, after, pairBy}
 use Rattle.responder_spec.specs.Reply.{answerBytes, valueBy, over, outBy}
 use Rattle.responder_spec.specs.Inbound.{outcomeBy, decision, inbound, inboundMemory, inboundSaved, inboundOut}
 use Rattle.responder_spec.proofs.Rows.Quiet.{dropped, short, range, unfinished}
 use Rattle.responder_spec.proofs.Rows.{Quiet, passed, refusal-quiet}
 use Rattle.decide.specs.Guard.{guarded}
-use Rattle.responder.specs.Unchanged.{unchanged, told}
+use Rattle.responder.specs.Unchanged.{unchanged, outcomeWith}
 
 -- outcome, memory, saved atomics and output, as the promise lists them
 abbrev pub Leaves : Pair → List (List ℕ) → List (List ℕ) → List (List ℕ) → List ℕ → List ℕ → List ℕ → Outcome → List ℕ → List (List ℕ) → List ℕ → Type 0
@@ -52,19 +52,19 @@ by q regions entries saved m p out d e o a m' b saved' c out' f = (
 )
 
 -- a quiet decision changes nothing
-quiet-outcome : (q : Pair) (t : Status) → Quiet t → unchanged t q ≡ outcomeBy q (quietly t)
-unfolding outcomeBy quietly pairBy after statusNumber
+quiet-outcome : (q : Pair) (t : Status) → Quiet t → unchanged t q ≡ outcomeBy q (noReply t)
+unfolding outcomeBy noReply pairBy after statusNumber
 quiet-outcome q t dropped = refl
 quiet-outcome q t short = refl
 quiet-outcome q t range = refl
 quiet-outcome q t unfinished = refl
 
 quiet-all : (q : Pair) (regions entries saved : List (List ℕ)) (m p out : List ℕ) (t : Status) → Quiet t
-    → decision q regions entries saved m p out ≡ quietly t
+    → decision q regions entries saved m p out ≡ noReply t
     → (o : Outcome) → o ≡ unchanged t q → Leaves q regions entries saved m p out o m saved out
-unfolding quietly memoryBy savedBy actsAtomic outBy answerBytes over
+unfolding noReply memoryBy savedBy actsAtomic outBy answerBytes over
 quiet-all q regions entries saved m p out t Q e o a =
-    by q regions entries saved m p out (quietly t) e o (a ∙ quiet-outcome q t Q) m refl saved refl out refl
+    by q regions entries saved m p out (noReply t) e o (a ∙ quiet-outcome q t Q) m refl saved refl out refl
 
 -- refused before the packet is looked at
 pub refused : (q : Pair) (regions entries saved : List (List ℕ)) (m p out : List ℕ) (t : Status) → t ≡ inboundRefusal q (length m) (length out)
@@ -73,7 +73,7 @@ pub refused : (q : Pair) (regions entries saved : List (List ℕ)) (m p out : Li
 unfolding decision decided executed
 refused q regions entries saved m p out t is n number some o a =
     let x : eqb (statusNumber (inboundRefusal q (length m) (length out))) 0 ≡ false = ap (λ s. eqb (statusNumber s) 0) (sym is) ∙ (ap (λ k. eqb k 0) (sym number) ∙ ne-eqb n 0 some) in
-    quiet-all q regions entries saved m p out t (subst Quiet (sym is) (refusal-quiet q (length m) (length out) x)) (rw x (ap quietly (sym is))) o a
+    quiet-all q regions entries saved m p out t (subst Quiet (sym is) (refusal-quiet q (length m) (length out) x)) (rw x (ap noReply (sym is))) o a
 
 -- what holds after that
 record Willing (q : Pair) (m out : List ℕ) : Type 0 where
@@ -109,7 +109,7 @@ module _ (q : Pair) (regions entries saved : List (List ℕ)) (m p out : List �
       → decision q regions entries saved m p out ≡ orDrop f (λ h. packetDecision q regions entries saved (packetOf h (length p)))
   unfolding decision decided
   decided-by f e =
-      ap (λ b. cond b (orDrop (headerBy q p) (λ h. packetDecision q regions entries saved (packetOf h (length p)))) (quietly (inboundRefusal q (length m) (length out)))) (willing q m out t is n number none .taken)
+      ap (λ b. cond b (orDrop (headerBy q p) (λ h. packetDecision q regions entries saved (packetOf h (length p)))) (noReply (inboundRefusal q (length m) (length out)))) (willing q m out t is n number none .taken)
       ∙ ap (λ x. orDrop x (λ h. packetDecision q regions entries saved (packetOf h (length p)))) (sym e)
 
   -- a header that does not pass is left at once
@@ -126,10 +126,10 @@ module _ (q : Pair) (regions entries saved : List (List ℕ)) (m p out : List �
       → (saved' : List (List ℕ)) → saved' ≡ cond (actsAtomic (d .act)) (savedRows saved (q .saved) (d .psn .0) value) saved
       → (next : Pair) → next ≡ pairBy q d
       → (out' : List ℕ) → out' ≡ cond (ltb (length out) 24) out (over (answerBytes (q .setup) d (next .msn) value) out)
-      → (o : Outcome) → o ≡ told next d → Leaves q regions entries saved m p out o m' saved' out'
+      → (o : Outcome) → o ≡ outcomeWith next d → Leaves q regions entries saved m p out o m' saved' out'
   unfolding guarded outcomeBy outBy
   whole f e h accepted d i m' a value v saved' b next k out' c o t' =
-      by q regions entries saved m p out d (sym decision-is) o (t' ∙ ap (λ x. told x d) k) m' a saved' (b ∙ kept) out' (c ∙ sent)
+      by q regions entries saved m p out d (sym decision-is) o (t' ∙ ap (λ x. outcomeWith x d) k) m' a saved' (b ∙ kept) out' (c ∙ outgoing)
     where
       W : Willing q m out
       W = willing q m out t is n number none
@@ -137,13 +137,13 @@ module _ (q : Pair) (regions entries saved : List (List ℕ)) (m p out : List �
       decision-is : d ≡ decision q regions entries saved m p out
       decision-is =
           i
-          ∙ (ap (λ x. cond x (quietly status.OutOfRange) (packetDecision q regions entries saved (packetOf h (length p)))) (le-ltb 31 (q .setup .timer) (W .timer))
+          ∙ (ap (λ x. cond x (noReply status.OutOfRange) (packetDecision q regions entries saved (packetOf h (length p)))) (le-ltb 31 (q .setup .timer) (W .timer))
           ∙ sym (decided-by f e ∙ ap (λ x. orDrop x (λ h. packetDecision q regions entries saved (packetOf h (length p)))) accepted))
 
       kept : cond (actsAtomic (d .act)) (savedRows saved (q .saved) (d .psn .0) value) saved ≡ savedBy (q .saved) d saved m
       kept = ap (λ x. cond (actsAtomic (d .act)) (savedRows saved (q .saved) (d .psn .0) x) saved) v ∙ saved-value (q .saved) d saved m
 
-      sent : cond (ltb (length out) 24) out (over (answerBytes (q .setup) d (next .msn) value) out) ≡ over (answerBytes (q .setup) d (pairBy q d .msn) (valueBy d m)) out
-      sent =
+      outgoing : cond (ltb (length out) 24) out (over (answerBytes (q .setup) d (next .msn) value) out) ≡ over (answerBytes (q .setup) d (pairBy q d .msn) (valueBy d m)) out
+      outgoing =
           ap (λ x. cond x out (over (answerBytes (q .setup) d (next .msn) value) out)) (le-ltb (length out) 24 (W .room))
           ∙ (λ x. over (answerBytes (q .setup) d (k x .msn) (v x)) out)

@@ -9,12 +9,12 @@ use Rattle.responder_spec.specs.declared.Outcome.{Outcome}
 
 -- the pair as it is, and nothing sent
 abbrev pub unchanged : Status → Pair → Outcome
-unchanged answer q = record { status = answer; pair = q; completion = noCompletion; sent = 0 }
+unchanged answer q = record { status = answer; pair = q; completion = noCompletion; outgoing = 0 }
 
 -- what a decision answers, with the pair that it left
-abbrev pub told : Pair → Decision → Outcome
-told q d = record { status = d .status; pair = q; completion = d .completion; sent = d .sent }
+abbrev pub outcomeWith : Pair → Decision → Outcome
+outcomeWith q d = record { status = d .status; pair = q; completion = d .completion; outgoing = d .outgoing }
 
 -- done, and n bytes sent
-abbrev pub sending : Pair → ℕ → Outcome
-sending q n = record { status = status.Executed; pair = q; completion = noCompletion; sent = n }
+abbrev pub responded : Pair → ℕ → Outcome
+responded q n = record { status = status.Executed; pair = q; completion = noCompletion; outgoing = n }

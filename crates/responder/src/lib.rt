@@ -12,7 +12,7 @@ pub use response::next_response;
 ghost use mathlib.Core.Path.{_≡_};
 ghost use lib.ListN.{length};
 ghost use Rattle.responder_spec.specs.Inbound.{inbound, inboundMemory, inboundSaved, inboundOut};
-ghost use Rattle.responder.specs.Unchanged.{unchanged, told};
+ghost use Rattle.responder.specs.Unchanged.{unchanged, outcomeWith};
 
 // An answer with which nothing changes, completes or is sent.
 pub(crate) fn unchanged(status: Status, pair: Pair) -> Outcome
@@ -23,13 +23,13 @@ pub(crate) fn unchanged(status: Status, pair: Pair) -> Outcome
         status,
         pair,
         completion,
-        sent: 0,
+        outgoing: 0,
     }
 }
 
 // What the caller is told of a decision, with the pair that it left.
-fn told(pair: Pair, d: Decision) -> Outcome
-    ensures { λ r. ⌜ r ≡ told pair d ⌝ }
+fn outcome_with(pair: Pair, d: Decision) -> Outcome
+    ensures { λ r. ⌜ r ≡ outcomeWith pair d ⌝ }
 {
     let status = d.status;
     let completion = d.completion;
@@ -37,7 +37,7 @@ fn told(pair: Pair, d: Decision) -> Outcome
         status,
         pair,
         completion,
-        sent: d.sent,
+        outgoing: d.outgoing,
     }
 }
 
@@ -77,5 +77,5 @@ pub fn inbound(
     apply::keep(saved, pair.saved, d.act, d.psn, value);
     let next = apply::pair_after(pair, d);
     apply::reply(out, pair.setup, d, next.msn, value);
-    told(next, d)
+    outcome_with(next, d)
 }

@@ -39,7 +39,7 @@ fn unsound(pair: Pair) -> bool
         return true;
     }
     let m = pair.message;
-    let e = message_unsound(m.kind, m.placed, m.address, m.length, pair.entries.count);
+    let e = message_unsound(m.kind, m.stored, m.address, m.length, pair.entries.count);
     if e {
         return true;
     }

@@ -16,7 +16,7 @@ ghost use lib.ListN.{length};
 ghost use Rattle.responder_spec.specs.Apply.{with};
 ghost use Rattle.responder_spec.specs.Response.{indexOf, responseOpcode, responseExtension, responseHeader, nextStatus, oneFewer, nextResponse, nextOut};
 ghost use Rattle.header.specs.Write.{doneBytes};
-ghost use Rattle.responder.specs.Unchanged.{sending};
+ghost use Rattle.responder.specs.Unchanged.{responded};
 
 // Whether an output has no room for the longest response; no sum is made, so that none wraps.
 fn no_room(room: usize, pmtu: usize) -> bool
@@ -117,19 +117,19 @@ pub fn next_response(pair: Pair, mem: &[u8], out: &mut [u8]) -> Outcome
     let setup = pair.setup;
     let read = pair.read;
     let i = index_of(read, setup.pmtu);
-    let span = pmtu::part(read.length, setup.pmtu, i);
-    let from = read.offset + span.start;
-    let to = read.offset + span.end;
-    let h = response_header(setup, read, i, span.end - span.start);
+    let part = pmtu::part(read.length, setup.pmtu, i);
+    let from = read.offset + part.start;
+    let to = read.offset + part.end;
+    let h = response_header(setup, read, i, part.end - part.start);
     let answer = packet::write(h, &mem[from..to], out);
-    let sent = done_bytes(answer);
+    let outgoing = done_bytes(answer);
     let next = one_fewer(pair);
-    sending(next, sent)
+    responded(next, outgoing)
 }
 
 // The pair with one response fewer to send.
 fn one_fewer(pair: Pair) -> Pair
-    ensures { λ r. ⌜ r ≡ with pair (pair .state) (pair .mark) (oneFewer (pair .read)) ⌝ }
+    ensures { λ r. ⌜ r ≡ with pair (pair .state) (pair .nakmark) (oneFewer (pair .read)) ⌝ }
 {
     let mut read = pair.read;
     read.remaining = request_checks::less(pair.read.remaining, 1);
@@ -139,11 +139,11 @@ fn one_fewer(pair: Pair) -> Pair
 }
 
 // Executed, and so many bytes sent.
-fn sending(pair: Pair, sent: usize) -> Outcome
-    ensures { λ r. ⌜ r ≡ sending pair sent ⌝ }
+fn responded(pair: Pair, outgoing: usize) -> Outcome
+    ensures { λ r. ⌜ r ≡ responded pair outgoing ⌝ }
 {
     let status = Status::Executed;
     let mut o = unchanged(status, pair);
-    o.sent = sent;
+    o.outgoing = outgoing;
     o
 }

@@ -28,15 +28,15 @@ use Rattle.pair.specs.Pair.{noMessage}
 use Rattle.pair.specs.declared.Status.the-variants as status
 use Rattle.pair.proofs.Known.{sound}
 use Rattle.request_spec.specs.Packet.{packetOf}
-use Rattle.request_spec.specs.Verdict.{spot, carrying, outOfSequence, notEnabled, padEarly, overLimit, noneWaiting, entryOutside, rightOf, lacks, keySpan, keyLacking, keyFails, lengthsOff, current, requestCode, expectedCode}
-use Rattle.request_spec.specs.Claims.{Place, Carries, IsAtomic, Served, KeyGood, IsCurrent, Says, JudgedBy}
+use Rattle.request_spec.specs.Verdict.{memoryOffset, carrying, outOfSequence, notEnabled, padEarly, overLimit, noneWaiting, entryOutside, rightOf, lacks, bytesToCome, keyLacking, keyFails, lengthsOff, current, requestCode, expectedCode}
+use Rattle.request_spec.specs.Claims.{Place, Carries, IsAtomic, Served, KeyGood, IsCurrent, AnswersWith, JudgedBy}
 use Rattle.request_spec.proofs.Conditions.{limit-tested, key-tested, of-not}
 use Rattle.request_spec.proofs.Order.{current-one, order}
 use Rattle.request_spec.proofs.Taken.{any-place}
 use Rattle.request_spec.specs.declared.Packet.{Packet}
-use Rattle.responder_spec.specs.Decide.{reading, quietly, acknowledging, aheadDecision, failed, placing, swapping, accepting, executing, settled, expectedDecision, againFails, readAgain, isAtomic, duplicateDecision, regionFor, headEntry, classed, rcDecision, packetDecision, readsFull, inboundRefusal, decided}
+use Rattle.responder_spec.specs.Decide.{beginRead, noReply, acknowledging, aheadDecision, failed, storePayload, runAtomic, acceptRead, execute, checkedDecision, expectedDecision, duplicateReadFails, duplicateRead, isAtomic, duplicateDecision, regionFor, headEntry, decisionByClass, rcDecision, packetDecision, readsFull, inboundRefusal, decided}
 use Rattle.responder_spec.specs.Inbound.{outcomeBy, decision, inbound}
-use Rattle.responder_spec.specs.Answers.{Willing, headerBy, HeaderDropped, firstEntry, Expects, Aheads, Again, Repeats, Classed, HeaderPassed, SentAgain, RepeatedSent}
+use Rattle.responder_spec.specs.Answers.{Willing, headerBy, HeaderDropped, entryAtHead, Expects, Aheads, Again, Repeats, Classed, HeaderPassed, SentAgain, RepeatedSent}
 use Rattle.responder_spec.proofs.Codes.{Codes, codes}
 
 -- nothing refuses the call
@@ -46,7 +46,7 @@ goes q m out W =
     rw (le-ltb (length out) 24 (W .room), eq-eqb (length m) (q .setup .memory) (W .memory), sound q (W .sound), eq-eqb (q .read .remaining) 0 (W .idle))
 
 pub header-dropped : HeaderDropped
-unfolding inbound outcomeBy decision decided quietly statusNumber
+unfolding inbound outcomeBy decision decided noReply statusNumber
 header-dropped q regions entries saved m p out W reason e = rw (goes q m out W, e)
 
 pub looked : (q : Pair) (regions entries saved : List (List ℕ)) (m p out : List ℕ) → Willing q m out → (h : Header) → headerBy q p ≡ read.Accepted h
@@ -56,7 +56,7 @@ unfolding inbound outcomeBy decision decided
 looked q regions entries saved m p out W h e = rw (goes q m out W, e)
 
 -- the entry at the head
-pub head-first : (q : Pair) (entries : List (List ℕ)) → Sound q → headEntry q entries ≡ firstEntry q entries
+pub head-first : (q : Pair) (entries : List (List ℕ)) → Sound q → headEntry q entries ≡ entryAtHead q entries
 unfolding slotAt
 head-first q entries S =
     let e : (q .entries .head + 0) % 16 ≡ q .entries .head = omega (arith, S .entries .0) in
@@ -69,10 +69,10 @@ unfolding keyFails keyLacking regionFor
 key-by memory kind t key regions = go (eqb kind 0)
   where
     A : ℕ
-    A = t .address + t .placed
+    A = t .address + t .stored
 
     N : ℕ
-    N = keySpan (t .length) (t .placed)
+    N = bytesToCome (t .length) (t .stored)
 
     go : (b : Bool)
         → cond b false (cond (eqb N 0) false (lacks (cond b noRegion (regionOf key regions)) (rightOf kind (cond b noRegion (regionOf key regions))) memory A N))
@@ -80,23 +80,23 @@ key-by memory kind t key regions = go (eqb kind 0)
     go true = refl
     go false = refl
 
-pub code-by : (s : Setup) (under : OpenMessage) (k : Packet) (count : ℕ) (entry : List ℕ) (regions : List (List ℕ))
-    → expectedCode s under k count entry (regionFor (k .kind) (current under k .key) regions)
-    ≡ expectedCode s under k count entry (regionOf (current under k .key) regions)
+pub code-by : (s : Setup) (opened : OpenMessage) (k : Packet) (count : ℕ) (entry : List ℕ) (regions : List (List ℕ))
+    → expectedCode s opened k count entry (regionFor (k .kind) (current opened k .key) regions)
+    ≡ expectedCode s opened k count entry (regionOf (current opened k .key) regions)
 unfolding expectedCode requestCode
-code-by s under k count entry regions =
-    ap (λ b. cond (outOfSequence (under .kind) (k .kind) (k .place)) 17
+code-by s opened k count entry regions =
+    ap (λ b. cond (outOfSequence (opened .kind) (k .kind) (k .place)) 17
     (cond (notEnabled s (k .kind)) 17
     (cond (padEarly (k .place) (k .pad)) 17
     (cond (overLimit (k .operands .length)) 17
-    (cond (noneWaiting (k .kind) (k .place) (k .operands .immediate) (under .kind) count) 19
+    (cond (noneWaiting (k .kind) (k .place) (k .operands .immediate) (opened .kind) count) 19
     (cond (entryOutside (k .kind) (k .operands .immediate) entry (s .memory)) 34
-    (cond b 18 (cond (lengthsOff k (s .pmtu) (current under k) (getD entry 2 0)) 17 0))))))))
-    (key-by (s .memory) (k .kind) (current under k) (current under k .key) regions)
+    (cond b 18 (cond (lengthsOff k (s .pmtu) (current opened k) (getD entry 2 0)) 17 0))))))))
+    (key-by (s .memory) (k .kind) (current opened k) (current opened k .key) regions)
 
 -- what the checks refuse has their code as its number
 failed-number : (code : ℕ) (psn : Psn) (timer : ℕ) → Codes code → (code ≡ 0 → ⊥) → statusNumber (failed code psn timer .status) ≡ code
-unfolding failed statusNumber acknowledging quietly
+unfolding failed statusNumber acknowledging noReply
 failed-number code psn timer (inl e) n = absurd (n e)
 failed-number code psn timer (inr (inl e)) n = subst (λ c. statusNumber (failed c psn timer .status) ≡ c) (sym e) refl
 failed-number code psn timer (inr (inr (inl e))) n = subst (λ c. statusNumber (failed c psn timer .status) ≡ c) (sym e) refl
@@ -118,19 +118,19 @@ high kind (inl e) = omega arith
 high kind (inr e) = omega arith
 
 -- what is executed
-module _ (k : Packet) (t under : OpenMessage) (entry region : List ℕ) (pmtu : ℕ) where
-  read-number : k .kind ≡ 12 → statusNumber (executing k t under entry region pmtu .status) ≡ 2
-  unfolding executing accepting statusNumber
+module _ (k : Packet) (t opened : OpenMessage) (entry region : List ℕ) (pmtu : ℕ) where
+  read-number : k .kind ≡ 12 → statusNumber (execute k t opened entry region pmtu .status) ≡ 2
+  unfolding execute acceptRead statusNumber
   read-number e = rw (bare (k .kind) (omega arith), eq-eqb (k .kind) 12 e)
 
-  swap-number : IsAtomic (k .kind) → statusNumber (executing k t under entry region pmtu .status) ≡ 3
-  unfolding executing swapping statusNumber
+  swap-number : IsAtomic (k .kind) → statusNumber (execute k t opened entry region pmtu .status) ≡ 3
+  unfolding execute runAtomic statusNumber
   swap-number a =
       let h = high (k .kind) a in
       rw (bare (k .kind) (omega arith), ne-eqb (k .kind) 12 (λ e. omega arith))
 
-  carry-number : Carries (k .kind) → (b : Bool) → k .ackreq ≡ b → statusNumber (executing k t under entry region pmtu .status) ≡ cond b 1 0
-  unfolding executing placing statusNumber
+  carry-number : Carries (k .kind) → (b : Bool) → k .ackreq ≡ b → statusNumber (execute k t opened entry region pmtu .status) ≡ cond b 1 0
+  unfolding execute storePayload statusNumber
   carry-number c b e = rw (carry (k .kind) c, e) (go b)
     where
       go : (b : Bool) → statusNumber (cond b status.Acknowledged status.Executed) ≡ cond b 1 0
@@ -141,25 +141,25 @@ module _ (k : Packet) (t under : OpenMessage) (entry region : List ℕ) (pmtu : 
 expected-by : (q : Pair) (regions entries : List (List ℕ)) (k : Packet) (t : OpenMessage) → Sound q → Place (k .place) → IsCurrent (q .message) k t
     → Expects q regions entries k t
     (statusNumber (expectedDecision k (q .setup) (q .message) (q .entries .count) (headEntry q entries) (regionFor (k .kind) (current (q .message) k .key) regions) .status))
-unfolding expectedDecision settled
+unfolding expectedDecision checkedDecision
 expected-by q regions entries k t S P C =
     record {
       code = c;
       judged =
           subst (λ x. JudgedAt x t c) (head-first q entries S)
-          (subst (λ n. JudgedAt (headEntry q entries) t n) (sym c-is) (order s under k t (q .entries .count) (headEntry q entries) (regionOf (t .key) regions) P C));
-      fails = λ n. rw (ne-eqb c 0 n) (failed-number c (k .psn) (s .timer) (codes s under k (q .entries .count) (headEntry q entries) (regionFor (k .kind) (current under k .key) regions)) n);
-      reads = λ z e. rw (eq-eqb c 0 z) (read-number k (current under k) under (headEntry q entries) region (s .pmtu) e);
-      swaps = λ z a. rw (eq-eqb c 0 z) (swap-number k (current under k) under (headEntry q entries) region (s .pmtu) a);
-      asked = λ z x a. rw (eq-eqb c 0 z) (carry-number k (current under k) under (headEntry q entries) region (s .pmtu) x true a);
-      unasked = λ z x a. rw (eq-eqb c 0 z) (carry-number k (current under k) under (headEntry q entries) region (s .pmtu) x false a);
+          (subst (λ n. JudgedAt (headEntry q entries) t n) (sym c-is) (order s opened k t (q .entries .count) (headEntry q entries) (regionOf (t .key) regions) P C));
+      fails = λ n. rw (ne-eqb c 0 n) (failed-number c (k .psn) (s .timer) (codes s opened k (q .entries .count) (headEntry q entries) (regionFor (k .kind) (current opened k .key) regions)) n);
+      reads = λ z e. rw (eq-eqb c 0 z) (read-number k (current opened k) opened (headEntry q entries) region (s .pmtu) e);
+      swaps = λ z a. rw (eq-eqb c 0 z) (swap-number k (current opened k) opened (headEntry q entries) region (s .pmtu) a);
+      asked = λ z x a. rw (eq-eqb c 0 z) (carry-number k (current opened k) opened (headEntry q entries) region (s .pmtu) x true a);
+      unasked = λ z x a. rw (eq-eqb c 0 z) (carry-number k (current opened k) opened (headEntry q entries) region (s .pmtu) x false a);
     }
   where
     s : Setup
     s = q .setup
 
-    under : OpenMessage
-    under = q .message
+    opened : OpenMessage
+    opened = q .message
 
     region : List ℕ
     region = regionFor (k .kind) (current (q .message) k .key) regions
@@ -175,8 +175,8 @@ expected-by q regions entries k t S P C =
         code-by (q .setup) (q .message) k (q .entries .count) (headEntry q entries) regions
         ∙ ap (λ x. expectedCode (q .setup) (q .message) k (q .entries .count) (headEntry q entries) (regionOf (x .key) regions)) (sym (current-one (q .message) k t P C))
 
-ahead-by : (mark : Bool) (expected : Psn) → Aheads mark (statusNumber (aheadDecision mark expected .status))
-unfolding aheadDecision statusNumber quietly acknowledging
+ahead-by : (nakmark : Bool) (expected : Psn) → Aheads nakmark (statusNumber (aheadDecision nakmark expected .status))
+unfolding aheadDecision statusNumber noReply acknowledging
 ahead-by true expected = record { quiet = λ e. refl; naks = λ e. absurd (true≢false e) }
 ahead-by false expected = record { quiet = λ e. absurd (true≢false (sym e)); naks = λ e. refl }
 
@@ -186,37 +186,37 @@ is-on true h = refl
 is-on false h = sym h
 
 pub again-tested : (q : Pair) (regions : List (List ℕ)) (k : Packet) (t : OpenMessage)
-    → Says (againFails k (q .setup) t (q .expected) (regionOf (t .key) regions)) (Again q regions k t)
-unfolding againFails notEnabled
+    → AnswersWith (duplicateReadFails k (q .setup) t (q .expected) (regionOf (t .key) regions)) (Again q regions k t)
+unfolding duplicateReadFails notEnabled
 again-tested q regions k t = (forth, back)
   where
     region : List ℕ
     region = regionOf (t .key) regions
 
-    K : Says (keyFails (q .setup .memory) 12 t (regionOf (t .key) regions)) (KeyGood 12 (q .setup .memory) t (regionOf (t .key) regions))
+    K : AnswersWith (keyFails (q .setup .memory) 12 t (regionOf (t .key) regions)) (KeyGood 12 (q .setup .memory) t (regionOf (t .key) regions))
     K = key-tested 12 (q .setup .memory) t (regionOf (t .key) regions) (inr (inl refl))
 
-    forth : againFails k (q .setup) t (q .expected) (regionOf (t .key) regions) ≡ false → Again q regions k t
+    forth : duplicateReadFails k (q .setup) t (q .expected) (regionOf (t .key) regions) ≡ false → Again q regions k t
     forth h =
         let a = or-right (not (q .setup .read)) _ h in
         let b = or-right (overLimit (t .length)) _ a in
-        let c = or-right (not (eqb (k .raw) 0)) _ b in
+        let c = or-right (not (eqb (k .padded) 0)) _ b in
         let d = or-right (not (eqb (k .pad) 0)) _ c in
         let e = or-right (keyFails (q .setup .memory) 12 t region) _ d in
         record {
           on = is-on (q .setup .read) (or-left (not (q .setup .read)) _ h);
           limit = limit-tested (t .length) .0 (or-left (overLimit (t .length)) _ a);
-          raw = of-not (k .raw) 0 (or-left (not (eqb (k .raw) 0)) _ b);
+          padded = of-not (k .padded) 0 (or-left (not (eqb (k .padded) 0)) _ b);
           pad = of-not (k .pad) 0 (or-left (not (eqb (k .pad) 0)) _ c);
           key = K .0 (or-left (keyFails (q .setup .memory) 12 t region) _ d) .reads refl;
           before = ltb-false (distance (q .expected .0) (k .psn .0)) (pieces (t .length) (q .setup .pmtu)) e;
         }
 
-    back : Again q regions k t → againFails k (q .setup) t (q .expected) (regionOf (t .key) regions) ≡ false
+    back : Again q regions k t → duplicateReadFails k (q .setup) t (q .expected) (regionOf (t .key) regions) ≡ false
     back A =
         neither (ap not (A .on))
         (neither (limit-tested (t .length) .1 (A .limit))
-        (neither (ap not (eq-eqb (k .raw) 0 (A .raw)))
+        (neither (ap not (eq-eqb (k .padded) 0 (A .padded)))
         (neither (ap not (eq-eqb (k .pad) 0 (A .pad)))
         (neither (K .1 (record { writes = λ e. absurd (omega arith); reads = λ e. A .key; atomics = λ e. absurd (none e) }))
         (le-ltb (distance (q .expected .0) (k .psn .0)) (pieces (t .length) (q .setup .pmtu)) (A .before))))))
@@ -273,7 +273,7 @@ duplicate-by : (q : Pair) (regions : List (List ℕ)) (rows : List (List ℕ)) (
     → current (q .message) k ≡ t
     → Repeats q regions rows k t
     (statusNumber (duplicateDecision k (q .setup) (q .expected) (current (q .message) k) (regionFor (k .kind) (current (q .message) k .key) regions) (newestSaved (k .psn .0) rows (q .saved)) .status))
-unfolding duplicateDecision readAgain statusNumber quietly acknowledging
+unfolding duplicateDecision duplicateRead statusNumber noReply acknowledging
 duplicate-by q regions rows k t K e =
     subst (λ x. Repeats q regions rows k t (statusNumber (duplicateDecision k (q .setup) (q .expected) x (regionFor (k .kind) (x .key) regions) (newestSaved (k .psn .0) rows (q .saved)) .status))) (sym e)
     (record {
@@ -285,8 +285,8 @@ duplicate-by q regions rows k t K e =
       other = λ n. rw (bare (k .kind) (over n K), ne-eqb (k .kind) 12 (λ z. n (inr (inl z))), plain n);
     })
   where
-    failing : (Again q regions k t → ⊥) → againFails k (q .setup) t (q .expected) (regionOf (t .key) regions) ≡ true
-    failing n = go (againFails k (q .setup) t (q .expected) (regionOf (t .key) regions)) (again-tested q regions k t .0)
+    failing : (Again q regions k t → ⊥) → duplicateReadFails k (q .setup) t (q .expected) (regionOf (t .key) regions) ≡ true
+    failing n = go (duplicateReadFails k (q .setup) t (q .expected) (regionOf (t .key) regions)) (again-tested q regions k t .0)
       where
         go : (b : Bool) → (b ≡ false → Again q regions k t) → b ≡ true
         go true f = refl
@@ -302,11 +302,11 @@ duplicate-by q regions rows k t K e =
 -- by the class of the PSN
 classed-by : (q : Pair) (regions entries rows : List (List ℕ)) (k : Packet) (c : Class) → q .setup .service ≡ 0 → psnClass (k .psn .0) (q .expected .0) ≡ c
     → packetDecision q regions entries rows k
-    ≡ classed c q k (headEntry q entries) (regionFor (k .kind) (current (q .message) k .key) regions) (newestSaved (k .psn .0) rows (q .saved))
+    ≡ decisionByClass c q k (headEntry q entries) (regionFor (k .kind) (current (q .message) k .key) regions) (newestSaved (k .psn .0) rows (q .saved))
 unfolding packetDecision rcDecision
 classed-by q regions entries rows k c r e =
     rw (ne-eqb (q .setup .service) 1 (λ z. absurd (omega arith)))
-    (ap (λ x. classed x q k (headEntry q entries) (regionFor (k .kind) (current (q .message) k .key) regions) (newestSaved (k .psn .0) rows (q .saved))) e)
+    (ap (λ x. decisionByClass x q k (headEntry q entries) (regionFor (k .kind) (current (q .message) k .key) regions) (newestSaved (k .psn .0) rows (q .saved))) e)
 
 packet-by : (q : Pair) (regions entries rows : List (List ℕ)) (k : Packet) (t : OpenMessage) → q .setup .service ≡ 0 → Sound q → Place (k .place)
     → Carries (k .kind) ⊎ (12 ≤ k .kind)
@@ -318,24 +318,24 @@ packet-by q regions entries rows k t r S P K C =
           λ e. subst (λ d. Expects q regions entries k t (statusNumber (d .status))) (sym (classed-by q regions entries rows k class.Expected r e))
           (expected-by q regions entries k t S P C);
       ahead =
-          λ e. subst (λ d. Aheads (q .mark) (statusNumber (d .status))) (sym (classed-by q regions entries rows k class.Ahead r e))
-          (ahead-by (q .mark) (q .expected));
+          λ e. subst (λ d. Aheads (q .nakmark) (statusNumber (d .status))) (sym (classed-by q regions entries rows k class.Ahead r e))
+          (ahead-by (q .nakmark) (q .expected));
       duplicate =
           λ e. subst (λ d. Repeats q regions rows k t (statusNumber (d .status))) (sym (classed-by q regions entries rows k class.Duplicate r e))
           (duplicate-by q regions rows k t K (sym (current-one (q .message) k t P C)));
     }
 
 -- what is sent again
-read-sent : (k : Packet) (q : Pair) (t : OpenMessage) (region : List ℕ) → readAgain k (q .setup) t (q .expected) region .sent ≡ 0
-unfolding readAgain quietly
-read-sent k q t region = go (againFails k (q .setup) t (q .expected) region)
+read-sent : (k : Packet) (q : Pair) (t : OpenMessage) (region : List ℕ) → duplicateRead k (q .setup) t (q .expected) region .outgoing ≡ 0
+unfolding duplicateRead noReply
+read-sent k q t region = go (duplicateReadFails k (q .setup) t (q .expected) region)
   where
-    go : (b : Bool) → cond b (quietly status.Dropped) (reading status.DuplicateAnswered noMessage (spot region (t .address) (t .length)) (t .length) 0 false (pieces (t .length) (q .setup .pmtu)) (k .psn)) .sent ≡ 0
+    go : (b : Bool) → cond b (noReply status.Dropped) (beginRead status.DuplicateAnswered noMessage (memoryOffset region (t .address) (t .length)) (t .length) 0 false (pieces (t .length) (q .setup .pmtu)) (k .psn)) .outgoing ≡ 0
     go true = refl
     go false = refl
 
 sent-by : (q : Pair) (rows : List (List ℕ)) (k : Packet) (t : OpenMessage) (region : List ℕ)
-    → SentAgain q rows k (duplicateDecision k (q .setup) (q .expected) t region (newestSaved (k .psn .0) rows (q .saved)) .sent)
+    → SentAgain q rows k (duplicateDecision k (q .setup) (q .expected) t region (newestSaved (k .psn .0) rows (q .saved)) .outgoing)
 unfolding duplicateDecision acknowledging
 sent-by q rows k t region =
     record {
@@ -348,7 +348,7 @@ pub repeated-sent : RepeatedSent
 unfolding inbound outcomeBy decision decided
 repeated-sent q regions entries saved m p out W r h e c =
     rw (goes q m out W, e)
-    (subst (λ d. SentAgain q saved (packetOf h (length p)) (d .sent)) (sym (classed-by q regions entries saved (packetOf h (length p)) class.Duplicate r c))
+    (subst (λ d. SentAgain q saved (packetOf h (length p)) (d .outgoing)) (sym (classed-by q regions entries saved (packetOf h (length p)) class.Duplicate r c))
     (sent-by q saved (packetOf h (length p)) (current (q .message) (packetOf h (length p))) _))
 
 pub header-passed : HeaderPassed

@@ -20,8 +20,8 @@ use Rattle.request_spec.proofs.Taken.{any-place}
 use Rattle.request_spec.specs.declared.Packet.{Packet}
 use Rattle.responder_spec.specs.Inbound.{inbound}
 use Rattle.responder_spec.specs.Answers.{headerBy, packetIn}
-use Rattle.responder_spec.specs.Unreliable.{Strays, Meets, Fails, UcChecked, UcComes, UcExamined, UcCause, UcReason}
-use Rattle.responder_spec.specs.Unreliable.Meets.{begins, onward}
+use Rattle.responder_spec.specs.Unreliable.{Strays, CheckedUnder, Fails, UcChecked, UcComes, UcExamined, UcCause, UcReason}
+use Rattle.responder_spec.specs.Unreliable.CheckedUnder.{begins, onward}
 use Rattle.responder_spec.specs.Unreliable.UcCause.{unread, orphan, stray, dropped, closed, outside, executed}
 use Rattle.responder_spec.proofs.Answers.{header-dropped}
 use Rattle.responder_spec.proofs.Unreliable.{uc-kinds, uc-passed}
@@ -34,9 +34,9 @@ module _ (q : Pair) (regions entries : List (List ℕ)) (p : List ℕ) (t : Open
   abbrev k : Packet
   k = packetIn p
 
-  module _ (under : OpenMessage) (M : Meets q k under) (Y : UcChecked q regions entries under k t n) where
+  module _ (opened : OpenMessage) (M : CheckedUnder q k opened) (Y : UcChecked q regions entries opened k t n) where
     examined : UcExamined q regions entries p t (Y .code)
-    examined = record { passes = f; under = under; meets = M; judged = Y .judged }
+    examined = record { passes = f; opened = opened; meets = M; judged = Y .judged }
 
     failed : Fails (Y .code) → R n
     failed F = go (eqb (q .message .kind) 255) refl
@@ -52,8 +52,8 @@ module _ (q : Pair) (regions entries : List (List ℕ)) (p : List ℕ) (t : Open
     by-code (inr (inr (inr (inl e)))) = failed (inr (inr e))
     by-code (inr (inr (inr (inr e)))) = subst R (sym (Y .outside e)) (outside (subst (UcExamined q regions entries p t) e examined))
 
-  checked-cause : (under : OpenMessage) → Meets q k under → R n
-  checked-cause under M = let Y = X .checked under M in by-code under M Y (Y .judged .codes)
+  checked-cause : (opened : OpenMessage) → CheckedUnder q k opened → R n
+  checked-cause opened M = let Y = X .checked opened M in by-code opened M Y (Y .judged .codes)
 
   onward-cause : GoesOn (k .place) → R n
   onward-cause g = go (eqb (q .message .kind) 255) refl (eqb psn expected) refl (eqb (q .message .kind) (k .kind)) refl

@@ -15,34 +15,34 @@ use Rattle.pair.specs.declared.Setup.{Setup}
 use Rattle.pair.specs.declared.OpenMessage.{OpenMessage}
 use Rattle.request_spec.proofs.Conditions.{of-not}
 use Rattle.request_spec.specs.declared.Packet.{Packet}
-use Rattle.request_spec.specs.Verdict.{carrying, outOfSequence, notEnabled, padEarly, overLimit, noneWaiting, entryOutside, rightOf, lacks, keyLacking, keyFails, spot, lengthsOff, current, requestCode, expectedCode}
+use Rattle.request_spec.specs.Verdict.{carrying, outOfSequence, notEnabled, padEarly, overLimit, noneWaiting, entryOutside, rightOf, lacks, keyLacking, keyFails, memoryOffset, lengthsOff, current, requestCode, expectedCode}
 
 -- each check, passed
-pub record Checked (s : Setup) (under : OpenMessage) (p : Packet) (count : ℕ) (entry region : List ℕ) : Type 0 where
-  pub sequence : outOfSequence (under .kind) (p .kind) (p .place) ≡ false
+pub record Checked (s : Setup) (opened : OpenMessage) (p : Packet) (count : ℕ) (entry region : List ℕ) : Type 0 where
+  pub sequence : outOfSequence (opened .kind) (p .kind) (p .place) ≡ false
   pub enabled : notEnabled s (p .kind) ≡ false
   pub limit : overLimit (p .operands .length) ≡ false
-  pub waiting : noneWaiting (p .kind) (p .place) (p .operands .immediate) (under .kind) count ≡ false
+  pub waiting : noneWaiting (p .kind) (p .place) (p .operands .immediate) (opened .kind) count ≡ false
   pub inside : entryOutside (p .kind) (p .operands .immediate) entry (s .memory) ≡ false
-  pub key : keyFails (s .memory) (p .kind) (current under p) region ≡ false
-  pub lengths : lengthsOff p (s .pmtu) (current under p) (getD entry 2 0) ≡ false
+  pub key : keyFails (s .memory) (p .kind) (current opened p) region ≡ false
+  pub lengths : lengthsOff p (s .pmtu) (current opened p) (getD entry 2 0) ≡ false
 
 pass : (b : Bool) (n x : ℕ) → 0 < n → cond b n x ≡ 0 → (b ≡ false) × (x ≡ 0)
 pass true n x h e = absurd (omega arith)
 pass false n x h e = (refl, e)
 
-module _ (s : Setup) (under : OpenMessage) (p : Packet) (count : ℕ) (entry region : List ℕ) where
-  pub checked : expectedCode s under p count entry region ≡ 0 → Checked s under p count entry region
+module _ (s : Setup) (opened : OpenMessage) (p : Packet) (count : ℕ) (entry region : List ℕ) where
+  pub checked : expectedCode s opened p count entry region ≡ 0 → Checked s opened p count entry region
   unfolding expectedCode requestCode
   checked h =
-      let a = pass (outOfSequence (under .kind) (p .kind) (p .place)) 17 _ (omega arith) h in
+      let a = pass (outOfSequence (opened .kind) (p .kind) (p .place)) 17 _ (omega arith) h in
       let b = pass (notEnabled s (p .kind)) 17 _ (omega arith) (a .1) in
       let c = pass (padEarly (p .place) (p .pad)) 17 _ (omega arith) (b .1) in
       let d = pass (overLimit (p .operands .length)) 17 _ (omega arith) (c .1) in
-      let e = pass (noneWaiting (p .kind) (p .place) (p .operands .immediate) (under .kind) count) 19 _ (omega arith) (d .1) in
+      let e = pass (noneWaiting (p .kind) (p .place) (p .operands .immediate) (opened .kind) count) 19 _ (omega arith) (d .1) in
       let f = pass (entryOutside (p .kind) (p .operands .immediate) entry (s .memory)) 34 _ (omega arith) (e .1) in
-      let g = pass (keyFails (s .memory) (p .kind) (current under p) region) 18 _ (omega arith) (f .1) in
-      let k = pass (lengthsOff p (s .pmtu) (current under p) (getD entry 2 0)) 17 _ (omega arith) (g .1) in
+      let g = pass (keyFails (s .memory) (p .kind) (current opened p) region) 18 _ (omega arith) (f .1) in
+      let k = pass (lengthsOff p (s .pmtu) (current opened p) (getD entry 2 0)) 17 _ (omega arith) (g .1) in
       record { sequence = a .0; enabled = b .0; limit = d .0; waiting = e .0; inside = f .0; key = g .0; lengths = k .0 }
 
 -- of the kinds that carry bytes only SEND and WRITE are ever enabled
@@ -65,23 +65,23 @@ send-or-write s kind h c = go (eqb kind 0) refl (eqb kind 6) refl (eqb kind 12) 
 
 -- the message that a packet begins
 abbrev pub begins : Packet → OpenMessage
-begins p = record { kind = p .kind; placed = 0; address = p .operands .address; key = p .operands .key; length = p .operands .length }
+begins p = record { kind = p .kind; stored = 0; address = p .operands .address; key = p .operands .key; length = p .operands .length }
 
 -- in sequence: none is open and the packet begins one, or it is of the open one
 abbrev pub Follows : OpenMessage → Packet → Type 0
-Follows under p =
-    ((starts (p .place) ≡ true) × (current under p ≡ begins p) × (under .kind ≡ 255))
-    ⊎ ((starts (p .place) ≡ false) × (current under p ≡ under) × (under .kind ≡ p .kind))
+Follows opened p =
+    ((starts (p .place) ≡ true) × (current opened p ≡ begins p) × (opened .kind ≡ 255))
+    ⊎ ((starts (p .place) ≡ false) × (current opened p ≡ opened) × (opened .kind ≡ p .kind))
 
-pub follows : (under : OpenMessage) (p : Packet) → outOfSequence (under .kind) (p .kind) (p .place) ≡ false → Follows under p
+pub follows : (opened : OpenMessage) (p : Packet) → outOfSequence (opened .kind) (p .kind) (p .place) ≡ false → Follows opened p
 unfolding outOfSequence current
-follows under p h = go (starts (p .place)) refl h
+follows opened p h = go (starts (p .place)) refl h
   where
-    go : (b : Bool) → starts (p .place) ≡ b → cond b (not (eqb (under .kind) 255)) (not (eqb (under .kind) (p .kind))) ≡ false
-        → ((b ≡ true) × (cond b (begins p) under ≡ begins p) × (under .kind ≡ 255))
-        ⊎ ((b ≡ false) × (cond b (begins p) under ≡ under) × (under .kind ≡ p .kind))
-    go true e k = inl (refl, refl, of-not (under .kind) 255 k)
-    go false e k = inr (refl, refl, of-not (under .kind) (p .kind) k)
+    go : (b : Bool) → starts (p .place) ≡ b → cond b (not (eqb (opened .kind) 255)) (not (eqb (opened .kind) (p .kind))) ≡ false
+        → ((b ≡ true) × (cond b (begins p) opened ≡ begins p) × (opened .kind ≡ 255))
+        ⊎ ((b ≡ false) × (cond b (begins p) opened ≡ opened) × (opened .kind ≡ p .kind))
+    go true e k = inl (refl, refl, of-not (opened .kind) 255 k)
+    go false e k = inr (refl, refl, of-not (opened .kind) (p .kind) k)
 
 -- a row that does not lack bytes holds them, lies in memory and ends below 2^64
 pub record Holds (region : List ℕ) (memory address n : ℕ) : Type 0 where
@@ -114,8 +114,8 @@ holds kind region memory address n k z h = go (eqb kind 0) refl (eqb n 0) refl h
 
 -- so the bytes lie in memory, and no bytes do anyway
 pub spot-in : (kind : ℕ) (region : List ℕ) (memory address n : ℕ) → (kind ≡ 0 → ⊥) → keyLacking kind region memory address n ≡ false
-    → spot region address n + n ≤ memory
-unfolding spot
+    → memoryOffset region address n + n ≤ memory
+unfolding memoryOffset
 spot-in kind region memory address n k h = go (eqb n 0) refl
   where
     go : (b : Bool) → eqb n 0 ≡ b → cond b 0 (getD region 3 0 + (address - getD region 1 0)) + n ≤ memory

@@ -53,18 +53,18 @@ only-34 false false false false false false true h z = absurd (omega arith)
 only-34 false false false false false false false true z = absurd (omega arith)
 only-34 false false false false false false false false z = absurd (omega arith)
 
-pub codes : (s : Setup) (under : OpenMessage) (p : Packet) (count : ℕ) (entry region : List ℕ) → Codes (expectedCode s under p count entry region)
+pub codes : (s : Setup) (opened : OpenMessage) (p : Packet) (count : ℕ) (entry region : List ℕ) → Codes (expectedCode s opened p count entry region)
 unfolding expectedCode requestCode
-codes s under p count entry region =
-    known (outOfSequence (under .kind) (p .kind) (p .place)) (notEnabled s (p .kind)) (padEarly (p .place) (p .pad)) (overLimit (p .operands .length))
-    (noneWaiting (p .kind) (p .place) (p .operands .immediate) (under .kind) count)
+codes s opened p count entry region =
+    known (outOfSequence (opened .kind) (p .kind) (p .place)) (notEnabled s (p .kind)) (padEarly (p .place) (p .pad)) (overLimit (p .operands .length))
+    (noneWaiting (p .kind) (p .place) (p .operands .immediate) (opened .kind) count)
     (entryOutside (p .kind) (p .operands .immediate) entry (s .memory))
-    (keyFails (s .memory) (p .kind) (current under p) region) (lengthsOff p (s .pmtu) (current under p) (getD entry 2 0))
+    (keyFails (s .memory) (p .kind) (current opened p) region) (lengthsOff p (s .pmtu) (current opened p) (getD entry 2 0))
 
 -- where one waits there is one
-waits : (under count : ℕ) → eqb (entriesWaiting under count) 0 ≡ false → 1 ≤ count
+waits : (opened count : ℕ) → eqb (entriesWaiting opened count) 0 ≡ false → 1 ≤ count
 unfolding entriesWaiting
-waits under count h = go (eqb under 0) h
+waits opened count h = go (eqb opened 0) h
   where
     go : (b : Bool) → eqb (cond b (count - 1) count) 0 ≡ false → 1 ≤ count
     go true e = let n : count - 1 ≡ 0 → ⊥ = eqb-false (count - 1) 0 e in omega arith
@@ -109,10 +109,10 @@ pub never-34 : (q : Pair) (entries : List (List ℕ)) (p : Packet) (region : Lis
     → expectedCode (q .setup) (q .message) p (q .entries .count) (headEntry q entries) region ≡ 34 → ⊥
 unfolding expectedCode requestCode entryOutside
 never-34 q entries p region S E h =
-    let under = q .message in
+    let opened = q .message in
     let s = q .setup in
     let entry = headEntry q entries in
-    let T = only-34 (outOfSequence (under .kind) (p .kind) (p .place)) (notEnabled s (p .kind)) (padEarly (p .place) (p .pad)) (overLimit (p .operands .length)) (noneWaiting (p .kind) (p .place) (p .operands .immediate) (under .kind) (q .entries .count)) (entryOutside (p .kind) (p .operands .immediate) entry (s .memory)) (keyFails (s .memory) (p .kind) (current under p) region) (lengthsOff p (s .pmtu) (current under p) (getD entry 2 0)) h in
+    let T = only-34 (outOfSequence (opened .kind) (p .kind) (p .place)) (notEnabled s (p .kind)) (padEarly (p .place) (p .pad)) (overLimit (p .operands .length)) (noneWaiting (p .kind) (p .place) (p .operands .immediate) (opened .kind) (q .entries .count)) (entryOutside (p .kind) (p .operands .immediate) entry (s .memory)) (keyFails (s .memory) (p .kind) (current opened p) region) (lengthsOff p (s .pmtu) (current opened p) (getD entry 2 0)) h in
     let u = and-left (usesEntry (p .kind) (p .operands .immediate)) (outside (getD entry 1 0) (getD entry 2 0) (s .memory)) (T .2) in
     let o = and-right (usesEntry (p .kind) (p .operands .immediate)) (outside (getD entry 1 0) (getD entry 2 0) (s .memory)) (T .2) in
     row-inside (s .memory) entry (E .each 0 (some-entry q p S (T .0) (T .1) u)) o
@@ -129,28 +129,28 @@ passed-all false false false false false false true h z = absurd (omega arith)
 passed-all false false false false false false false true z = absurd (omega arith)
 passed-all false false false false false false false false z = (refl, refl, refl, refl)
 
-pub record Passed (s : Setup) (under : OpenMessage) (p : Packet) (entry region : List ℕ) : Type 0 where
+pub record Passed (s : Setup) (opened : OpenMessage) (p : Packet) (entry region : List ℕ) : Type 0 where
   pub enabled : notEnabled s (p .kind) ≡ false
   pub entries : entryOutside (p .kind) (p .operands .immediate) entry (s .memory) ≡ false
-  pub key : keyFails (s .memory) (p .kind) (current under p) region ≡ false
-  pub lengths : lengthsOff p (s .pmtu) (current under p) (getD entry 2 0) ≡ false
+  pub key : keyFails (s .memory) (p .kind) (current opened p) region ≡ false
+  pub lengths : lengthsOff p (s .pmtu) (current opened p) (getD entry 2 0) ≡ false
 
 -- without the first check, and with it
-pub request-passes : (s : Setup) (under : OpenMessage) (p : Packet) (count : ℕ) (entry region : List ℕ) → requestCode s under p count entry region ≡ 0
-    → Passed s under p entry region
+pub request-passes : (s : Setup) (opened : OpenMessage) (p : Packet) (count : ℕ) (entry region : List ℕ) → requestCode s opened p count entry region ≡ 0
+    → Passed s opened p entry region
 unfolding requestCode
-request-passes s under p count entry region h =
-    let T = passed-all false (notEnabled s (p .kind)) (padEarly (p .place) (p .pad)) (overLimit (p .operands .length)) (noneWaiting (p .kind) (p .place) (p .operands .immediate) (under .kind) count) (entryOutside (p .kind) (p .operands .immediate) entry (s .memory)) (keyFails (s .memory) (p .kind) (current under p) region) (lengthsOff p (s .pmtu) (current under p) (getD entry 2 0)) h in
+request-passes s opened p count entry region h =
+    let T = passed-all false (notEnabled s (p .kind)) (padEarly (p .place) (p .pad)) (overLimit (p .operands .length)) (noneWaiting (p .kind) (p .place) (p .operands .immediate) (opened .kind) count) (entryOutside (p .kind) (p .operands .immediate) entry (s .memory)) (keyFails (s .memory) (p .kind) (current opened p) region) (lengthsOff p (s .pmtu) (current opened p) (getD entry 2 0)) h in
     record { enabled = T .0; entries = T .1; key = T .2; lengths = T .3 }
 
-pub passes : (s : Setup) (under : OpenMessage) (p : Packet) (count : ℕ) (entry region : List ℕ) → expectedCode s under p count entry region ≡ 0
-    → Passed s under p entry region
+pub passes : (s : Setup) (opened : OpenMessage) (p : Packet) (count : ℕ) (entry region : List ℕ) → expectedCode s opened p count entry region ≡ 0
+    → Passed s opened p entry region
 unfolding expectedCode
-passes s under p count entry region h = go (outOfSequence (under .kind) (p .kind) (p .place)) h
+passes s opened p count entry region h = go (outOfSequence (opened .kind) (p .kind) (p .place)) h
   where
-    go : (b : Bool) → cond b 17 (requestCode s under p count entry region) ≡ 0 → Passed s under p entry region
+    go : (b : Bool) → cond b 17 (requestCode s opened p count entry region) ≡ 0 → Passed s opened p entry region
     go true e = absurd (omega arith)
-    go false e = request-passes s under p count entry region e
+    go false e = request-passes s opened p count entry region e
 
 -- an opcode's number is that of its kind, or the kind is one of four that several have
 many : ℕ → Type 0

@@ -12,7 +12,7 @@ use Rattle.sequence.specs.Sequence.{distance, psnClass}
 use Rattle.sequence.specs.declared.Psn.{Psn}
 use Rattle.sequence.specs.declared.Class.{Class}
 use Rattle.sequence.specs.declared.Class.the-variants as class
-use Rattle.opcode.specs.Opcode.{serviceOf, lowOf, kindOf, placeOf, lowClass, reservedClass, ucHas, classOf}
+use Rattle.opcode.specs.Opcode.{serviceOf, lowOf, kindOf, targetOffset, lowClass, reservedClass, ucHas, classOf}
 use Rattle.header.specs.Read.{bthOf, headerOf, readBy}
 use Rattle.header.specs.Check.{headerReason, admitted}
 use Rattle.header.specs.declared.HeaderRead.the-variants as read
@@ -29,7 +29,7 @@ use Rattle.pair.specs.declared.Status.the-variants as status
 use Rattle.request_spec.specs.Packet.{packetOf}
 use Rattle.request_spec.specs.declared.Packet.{Packet}
 use Rattle.request_spec.specs.Verdict.{carrying, notEnabled, overLimit, keyFails, current, requestCode, expectedCode}
-use Rattle.responder_spec.specs.Decide.{aheadDecision, failed, settled, expectedDecision, psnBefore, againFails, readAgain, atomicAgain, isAtomic, duplicateDecision, regionFor, headEntry, ackSyndrome, classed, rcDecision, orphaned, strays, closedBy, abandoning, unanswered, placing, delivering, ucSettled, ucDecision, packetDecision, orDrop, readsFull, inboundRefusal, decided}
+use Rattle.responder_spec.specs.Decide.{aheadDecision, failed, checkedDecision, expectedDecision, psnBefore, duplicateReadFails, duplicateRead, duplicateAtomic, isAtomic, duplicateDecision, regionFor, headEntry, ackSyndrome, decisionByClass, rcDecision, orphaned, strays, closedBy, abandoning, unanswered, storePayload, ucExecute, ucCheckedDecision, ucDecision, packetDecision, orDrop, readsFull, inboundRefusal, decided}
 use Rattle.responder_spec.specs.Kept.{Steady}
 use Rattle.responder_spec.proofs.Checked.{Checked, checked, begins}
 use Rattle.responder_spec.proofs.Leads.{beside, Leads, branch, Does, does-leads, still-leads, quiet-leads, ack-leads, again-leads}
@@ -37,16 +37,16 @@ use Rattle.responder_spec.proofs.Executes.{whole-in, placing-does, exec
 use Rattle.responder_spec.proofs.Views.{viewed, viewed-sound, current-closed, same-code}
 
 -- a READ begins a message
-read-low : (low : ℕ) → kindOf low ≡ 12 → starts (placeOf low) ≡ true
-unfolding kindOf placeOf starts
+read-low : (low : ℕ) → kindOf low ≡ 12 → starts (targetOffset low) ≡ true
+unfolding kindOf targetOffset starts
 read-low low h = go (ltb low 6) (ltb low 12) (eqb low 12) refl (ltb low 17) (eqb low 17) (eqb low 18) (eqb low 19) (eqb low 20) h
   where
     go : (a b c : Bool) → eqb low 12 ≡ c → (d e f g k : Bool)
         → _≡_ {A = ℕ} (cond a 0 (cond b 6 (cond c 12 (cond d 13 (cond e 17 (cond f 18 (cond g 19 (cond k 20 21)))))))) 12
-        → starts (placeOf low) ≡ true
+        → starts (targetOffset low) ≡ true
     go true b c x d e f g k h = absurd (omega arith)
     go false true c x d e f g k h = absurd (omega arith)
-    go false false true x d e f g k h = ap (λ n. starts (placeOf n)) (eqb-true low 12 x)
+    go false false true x d e f g k h = ap (λ n. starts (targetOffset n)) (eqb-true low 12 x)
     go false false false x true e f g k h = absurd (omega arith)
     go false false false x false true f g k h = absurd (omega arith)
     go false false false x false false true g k h = absurd (omega arith)
@@ -79,7 +79,7 @@ viewed-steady w W place =
     }
   where
     go : (b : Bool) → cond b noMessage (w .pair .message) .kind ≡ 0
-        → cond b noMessage (w .pair .message) .placed ≤ getD (headEntry (w .pair) (w .entries)) 2 0
+        → cond b noMessage (w .pair .message) .stored ≤ getD (headEntry (w .pair) (w .entries)) 2 0
     go true e = absurd (omega arith)
     go false e = W .held e
 
@@ -91,7 +91,7 @@ module _ (w : Whole) (W : Steady w) (p : Packet) where
       → carrying (p .kind) ≡ true
       → Does w
       (unanswered (1 + distance (p .psn .0) (w .pair .expected .0))
-      (placing p m (headEntry (w .pair) (w .entries)) (regionFor (p .kind) (m .key) (w .regions))))
+      (storePayload p m (headEntry (w .pair) (w .entries)) (regionFor (p .kind) (m .key) (w .regions))))
 
   took-closed : At (current (closedBy (p .place) (w .pair .message)) p)
   unfolding statusNumber
@@ -105,10 +105,10 @@ module _ (w : Whole) (W : Steady w) (p : Packet) where
   took = subst At (current-closed (w .pair .message) p) took-closed
 
 module _ (w : Whole) (W : Steady w) where
-  ahead-leads : Leads w (aheadDecision (w .pair .mark) (w .pair .expected))
+  ahead-leads : Leads w (aheadDecision (w .pair .nakmark) (w .pair .expected))
   unfolding aheadDecision statusNumber
   ahead-leads =
-      branch w (w .pair .mark) _ _ (λ e. quiet-leads w W status.Dropped refl) (λ e. ack-leads w W status.SequenceNak (w .pair .expected) 96 refl)
+      branch w (w .pair .nakmark) _ _ (λ e. quiet-leads w W status.Dropped refl) (λ e. ack-leads w W status.SequenceNak (w .pair .expected) 96 refl)
 
   failed-leads : (code : ℕ) (psn : Psn) (timer : ℕ) → Leads w (failed code psn timer)
   unfolding failed statusNumber
@@ -117,7 +117,7 @@ module _ (w : Whole) (W : Steady w) where
       (λ e. branch w (eqb code 18) _ _ (λ f. ack-leads w W status.AccessNak psn 98 refl)
       (λ f. branch w (eqb code 19) _ _ (λ g. ack-leads w W status.NotReadyNak psn (32 + timer) refl) (λ g. quiet-leads w W status.OutOfRange refl)))
 
-  atomic-leads : (s : Saved) (psn : Psn) → Leads w (atomicAgain s psn)
+  atomic-leads : (s : Saved) (psn : Psn) → Leads w (duplicateAtomic s psn)
   unfolding statusNumber
   atomic-leads (Value v) psn = still-leads w W status.DuplicateAnswered 24 psn ackSyndrome v refl
   atomic-leads Nothing psn = quiet-leads w W status.Dropped refl
@@ -130,24 +130,24 @@ module _ (w : Whole) (W : Steady w) where
     region = regionFor (p .kind) (message .key) (w .regions)
 
     expected-leads : Leads w (expectedDecision p (w .pair .setup) (w .pair .message) (w .pair .entries .count) (headEntry (w .pair) (w .entries)) region)
-    unfolding expectedDecision settled
+    unfolding expectedDecision checkedDecision
     expected-leads =
         let code = expectedCode (w .pair .setup) (w .pair .message) p (w .pair .entries .count) (headEntry (w .pair) (w .entries)) region in
         branch w (eqb code 0) _ _
         (λ e. executing-leads w W p (checked (w .pair .setup) (w .pair .message) p (w .pair .entries .count) (headEntry (w .pair) (w .entries)) region (eqb-true code 0 e)) n)
         (λ e. failed-leads code (p .psn) (w .pair .setup .timer))
 
-    again : p .kind ≡ 12 → Leads w (readAgain p (w .pair .setup) message (w .pair .expected) region)
-    unfolding readAgain againFails current statusNumber
+    again : p .kind ≡ 12 → Leads w (duplicateRead p (w .pair .setup) message (w .pair .expected) region)
+    unfolding duplicateRead duplicateReadFails current statusNumber
     again k =
-        branch w (againFails p (w .pair .setup) message (w .pair .expected) region) _ _ (λ e. quiet-leads w W status.Dropped refl)
+        branch w (duplicateReadFails p (w .pair .setup) message (w .pair .expected) region) _ _ (λ e. quiet-leads w W status.Dropped refl)
         (λ e.
         let a = or-right (notEnabled (w .pair .setup) 12) _ e in
         let b = or-right (overLimit (message .length)) _ a in
-        let c = or-right (not (eqb (p .raw) 0)) _ b in
+        let c = or-right (not (eqb (p .padded) 0)) _ b in
         let d = or-right (not (eqb (p .pad) 0)) _ c in
         let f = or-left (keyFails (w .pair .setup .memory) 12 message region) _ d in
-        let z : message .placed ≡ 0 = ap (λ t. cond t (begins p) (w .pair .message) .placed) (s k) in
+        let z : message .stored ≡ 0 = ap (λ t. cond t (begins p) (w .pair .message) .stored) (s k) in
         again-leads w W _ (message .length) (pieces (message .length) (w .pair .setup .pmtu)) (p .psn) (omega arith)
         (whole-in (w .pair .setup .memory) 12 message region (λ o. omega arith) z f) n)
 
@@ -162,23 +162,23 @@ module _ (w : Whole) (W : Steady w) where
     unfolding rcDecision
     rc-leads = go (psnClass (p .psn .0) (w .pair .expected .0))
       where
-        go : (c : Class) → Leads w (classed c (w .pair) p (headEntry (w .pair) (w .entries)) region (newestSaved (p .psn .0) (w .saved) (w .pair .saved)))
+        go : (c : Class) → Leads w (decisionByClass c (w .pair) p (headEntry (w .pair) (w .entries)) region (newestSaved (p .psn .0) (w .saved) (w .pair .saved)))
         go class.Expected = expected-leads
         go class.Ahead = ahead-leads
         go class.Duplicate = duplicate-leads (newestSaved (p .psn .0) (w .saved) (w .pair .saved))
 
     -- on the unreliable connection it finds the message that it leaves open
     uc-leads : Leads w (ucDecision p (w .pair .setup) (w .pair .expected) (w .pair .message) (w .pair .entries .count) (headEntry (w .pair) (w .entries)) region)
-    unfolding ucDecision ucSettled delivering abandoning statusNumber
+    unfolding ucDecision ucCheckedDecision ucExecute abandoning statusNumber
     uc-leads =
         let entry = headEntry (w .pair) (w .entries) in
-        let under = closedBy (p .place) (w .pair .message) in
-        let code = requestCode (w .pair .setup) under p (w .pair .entries .count) entry region in
+        let opened = closedBy (p .place) (w .pair .message) in
+        let code = requestCode (w .pair .setup) opened p (w .pair .entries .count) entry region in
         branch w (orphaned (p .place) (w .pair .message .kind)) _ _ (λ o. quiet-leads w W status.Dropped refl)
         (λ o. branch w (strays p (w .pair .expected) (w .pair .message .kind)) _ _ (λ t. quiet-leads w W status.Abandoned refl)
         (λ t. branch w (eqb code 0) _ _
         (λ z. branch w (carrying (p .kind)) _ _
-        (λ c. does-leads w W _ (took w W p (checked (w .pair .setup) under p (w .pair .entries .count) entry region
+        (λ c. does-leads w W _ (took w W p (checked (w .pair .setup) opened p (w .pair .entries .count) entry region
         (same-code (w .pair .setup) (w .pair .message) p (w .pair .expected) (w .pair .entries .count) entry region t ∙ eqb-true code 0 z)) c))
         (λ c. quiet-leads w W status.Dropped refl))
         (λ z. branch w (eqb code 34) _ _ (λ e. quiet-leads w W status.OutOfRange refl)

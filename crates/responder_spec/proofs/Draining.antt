@@ -23,7 +23,7 @@ use Rattle.responder_spec.proofs.Responses.{responses-join}
 
 -- the pair after one response
 abbrev stepped : Pair → Pair
-stepped q = with q (q .state) (q .mark) (oneFewer (q .read))
+stepped q = with q (q .state) (q .nakmark) (oneFewer (q .read))
 
 pair-of : (q : Pair) (m out : List ℕ) → NextDone q m out → nextResponse q m out .pair ≡ stepped q
 pair-of q m out D =
@@ -32,7 +32,7 @@ pair-of q m out D =
       state = D .state i;
       expected = D .fixed .expected i;
       msn = D .fixed .msn i;
-      mark = D .mark i;
+      nakmark = D .nakmark i;
       message = D .fixed .message i;
       entries = D .fixed .entries i;
       read = record { remaining = D .read .remaining i; offset = D .read .offset i; length = D .read .length i; psn = D .read .psn i; msn = D .read .msn i };
@@ -59,23 +59,23 @@ still-sound q S =
 
 -- what one call writes
 packet-of : (q : Pair) (m out : List ℕ) (i : ℕ) → NextDone q m out → i + q .read .remaining ≡ pieces (q .read .length) (q .setup .pmtu)
-    → take (nextResponse q m out .sent) (nextOut q m out) ≡ responseBytes (q .setup) (q .read) m i
+    → take (nextResponse q m out .outgoing) (nextOut q m out) ≡ responseBytes (q .setup) (q .read) m i
 unfolding nextBytes indexOf
 packet-of q m out i D e =
     let b = nextBytes q m out in
     let at : pieces (q .read .length) (q .setup .pmtu) - q .read .remaining ≡ i = omega arith in
-    ap (take (nextResponse q m out .sent)) (D .out)
-    ∙ (take-at b (drop (length b) out) (nextResponse q m out .sent) (sym (D .sent))
+    ap (take (nextResponse q m out .outgoing)) (D .out)
+    ∙ (take-at b (drop (length b) out) (nextResponse q m out .outgoing) (sym (D .outgoing))
     ∙ ap (responseBytes (q .setup) (q .read) m) at)
 
 -- the last n calls, from response i on
 record From (q : Pair) (bytes : List ℕ) (d : Drain) (n i : ℕ) : Type 0 where
-  done : (k : ℕ) → k < n → getD (d .numbers) k 1 ≡ 0
+  done : (k : ℕ) → k < n → getD (d .psns) k 1 ≡ 0
   written : (k : ℕ) → k < n → getD (d .packets) k [] ≡ responseBytes (q .setup) (q .read) bytes (i + k)
   none : d .pair .read .remaining ≡ 0
   fixed : Fixed q (d .pair)
   state : d .pair .state ≡ q .state
-  mark : d .pair .mark ≡ q .mark
+  nakmark : d .pair .nakmark ≡ q .nakmark
   whole : flat (map payloadOf (d .packets)) ≡ joined (λ k. payloadOf (responseBytes (q .setup) (q .read) bytes k)) i n
 
 abbrev Roomy : Pair → List (List ℕ) → Type 0
@@ -84,7 +84,7 @@ Roomy q outs = (i : ℕ) → i < length outs → 16 + q .setup .pmtu ≤ length 
 -- one call more before them; a response says nothing of how many remain
 more : (q : Pair) (m : List ℕ) (d : Drain) (n i x : ℕ) (b : List ℕ) → x ≡ 0 → b ≡ responseBytes (q .setup) (q .read) m i
     → From (stepped q) m d n (suc i)
-    → From q m (record { numbers = x ∷ d .numbers; packets = b ∷ d .packets; pair = d .pair }) (suc n) i
+    → From q m (record { psns = x ∷ d .psns; packets = b ∷ d .packets; pair = d .pair }) (suc n) i
 unfolding responseBytes responseHeader responsePayload responseExtension joined flat
 more q m d n i x b ex eb I =
     record {
@@ -101,11 +101,11 @@ more q m d n i x b ex eb I =
             saved = I .fixed .saved;
           };
       state = I .state;
-      mark = I .mark;
+      nakmark = I .nakmark;
       whole = λ z. payloadOf (eb z) ++ I .whole z;
     }
   where
-    dones : (k : ℕ) → k < suc n → getD (x ∷ d .numbers) k 1 ≡ 0
+    dones : (k : ℕ) → k < suc n → getD (x ∷ d .psns) k 1 ≡ 0
     dones zero h = ex
     dones (suc k) h = I .done k (omega arith)
 
@@ -126,13 +126,13 @@ from [] q m i S e r c R =
       none = r;
       fixed = record { setup = refl; expected = refl; msn = refl; message = refl; entries = refl; saved = refl };
       state = refl;
-      mark = refl;
+      nakmark = refl;
       whole = refl;
     }
 from (out ∷ outs) q m i S e r c R =
     let D = next-answers q m out (λ z. omega arith) (R 0 (omega arith)) e S in
     let I = from outs (stepped q) m (suc i) (still-sound q S) e (omega arith) (omega arith) (λ k h. R (suc k) (omega arith)) in
-    more q m (drain (nextResponse q m out .pair) m outs) (length outs) i (statusNumber (nextResponse q m out .status)) (take (nextResponse q m out .sent) (nextOut q m out)) (D .number) (packet-of q m out i D (omega arith))
+    more q m (drain (nextResponse q m out .pair) m outs) (length outs) i (statusNumber (nextResponse q m out .status)) (take (nextResponse q m out .outgoing) (nextOut q m out)) (D .number) (packet-of q m out i D (omega arith))
     (subst (λ x. From (stepped q) m (drain x m outs) (length outs) (suc i)) (sym (pair-of q m out D)) I)
 
 pub read-drained : ReadDrained
@@ -144,7 +144,7 @@ read-drained q m outs A all n R =
       none = F .none;
       fixed = F .fixed;
       state = F .state;
-      mark = F .mark;
+      nakmark = F .nakmark;
       whole =
           F .whole
           ∙ (ap (joined (λ k. payloadOf (responseBytes (q .setup) (q .read) m k)) 0) (n ∙ all) ∙ responses-join q m A .0);
@@ -166,7 +166,7 @@ read-served q regions entries saved m p out outs h S P e n R = go h
         (n ∙ (ap (λ k. pieces k (q .setup .pmtu)) (sym (B .length)) ∙ sym (B .all)))
         (subst (λ x. (i : ℕ) → i < length outs → 16 + x .pmtu ≤ length (getD outs i [])) (sym s) R)
 
-    go : (l .number ≡ 2) ⊎ ((l .number ≡ 4) × (l .sent ≡ 0)) → Drains (l .pair) m outs
+    go : (l .number ≡ 2) ⊎ ((l .number ≡ 4) × (l .outgoing ≡ 0)) → Drains (l .pair) m outs
     go (inl two) = serve (msnNext (q .msn)) (T .accepts two .executed .setup) (T .accepts two .begun)
     go (inr (four, none)) = again (T .repeats four .answer)
       where

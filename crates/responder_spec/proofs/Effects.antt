@@ -13,7 +13,7 @@ use Rattle.sequence.specs.declared.Psn.{Psn}
 use Rattle.sequence.specs.declared.Msn.{Msn}
 use Rattle.opcode.specs.Opcode.{followsOf, lowClass}
 use Rattle.header.specs.Read.{bthOf, rethOf, extensionOf, headerOf}
-use Rattle.memory.specs.Memory.{placed}
+use Rattle.memory.specs.Memory.{store}
 use Rattle.memory.specs.Word.{wordAt, fetchAdded, swapped}
 use Rattle.memory.specs.Claims.{OnlyWord}
 use Rattle.memory.proofs.Words.{fetch-within, swap-within}
@@ -31,11 +31,11 @@ use Rattle.pair.specs.declared.OpenMessage.{OpenMessage}
 use Rattle.pair.specs.declared.ReadAnswer.{ReadAnswer}
 use Rattle.pair.proofs.Known.{number-back}
 use Rattle.request_spec.specs.Packet.{remote, operandsOf, packetOf}
-use Rattle.request_spec.specs.Verdict.{spot, netOf}
+use Rattle.request_spec.specs.Verdict.{memoryOffset, payloadSize}
 use Rattle.request_spec.specs.declared.Operands.{Operands}
 use Rattle.request_spec.specs.declared.Packet.{Packet}
 use Rattle.responder_spec.specs.declared.Decision.{Decision}
-use Rattle.responder_spec.specs.Decide.{noCompletion, noPsn, still, quietly, acknowledging, psnBefore, completes, completionOf, grown, placeOf, reading, placing, swapping, unanswered, decided}
+use Rattle.responder_spec.specs.Decide.{noCompletion, noPsn, replyOnly, noReply, acknowledging, psnBefore, completes, completionOf, messageAfter, targetOffset, beginRead, storePayload, runAtomic, unanswered, decided}
 use Rattle.responder_spec.specs.Apply.{memoryBy, actsAtomic, savedBy, savedRingBy, ringTaken, entriesBy, msnBy, readBy, executedPair, with, after, pairBy}
 use Rattle.responder_spec.specs.Reply.{answerBytes, valueBy, over, outBy}
 use Rattle.responder_spec.specs.Inbound.{outcomeBy, decision, inbound, inboundMemory, inboundSaved, inboundOut}
@@ -71,8 +71,8 @@ module _ (q : Pair) (regions saved : List (List ℕ)) (m p out : List ℕ) where
 
   -- the row of each answer; those that do not come have none
   abbrev Effect : Status → Left → Type 0
-  Effect status.Executed l = Places q saved m p l × (l .sent ≡ 0) × (l .out ≡ out)
-  Effect status.Acknowledged l = Places q saved m p l × (l .sent ≡ 16)
+  Effect status.Executed l = Places q saved m p l × (l .outgoing ≡ 0) × (l .out ≡ out)
+  Effect status.Acknowledged l = Places q saved m p l × (l .outgoing ≡ 16)
   Effect status.ReadAccepted l = Accepts q regions saved m p out l
   Effect status.AtomicExecuted l = Swaps q saved m p l
   Effect status.DuplicateAnswered l = Repeated q regions saved m p out l
@@ -91,19 +91,19 @@ module _ (q : Pair) (regions saved : List (List ℕ)) (m p out : List ℕ) where
   Effect status.KeyInUse l = ⊥
   Effect status.BadNumber l = ⊥
 
-  still-by : (a : Status) (sent : ℕ) (psn : Psn) (syndrome value : ℕ) → Still saved m (L (still a sent psn syndrome value))
+  still-by : (a : Status) (outgoing : ℕ) (psn : Psn) (syndrome value : ℕ) → Still saved m (L (replyOnly a outgoing psn syndrome value))
   unfolding leftBy memoryBy savedBy actsAtomic outcomeBy
-  still-by a sent psn syndrome value = record { memory = refl; saved = refl; completion = silent }
+  still-by a outgoing psn syndrome value = record { memory = refl; saved = refl; completion = silent }
 
-  quiet-by : (a : Status) → Quiet a → Effect a (L (quietly a))
-  unfolding leftBy memoryBy savedBy actsAtomic outcomeBy pairBy after statusNumber quietly outBy answerBytes over valueBy
-  quiet-by status.Dropped dropped = record { pair = refl; still = still-by status.Dropped 0 noPsn 0 0; sent = refl; out = refl }
-  quiet-by status.OutputShort short = record { pair = refl; still = still-by status.OutputShort 0 noPsn 0 0; sent = refl; out = refl }
-  quiet-by status.OutOfRange range = record { pair = refl; still = still-by status.OutOfRange 0 noPsn 0 0; sent = refl; out = refl }
-  quiet-by status.ReadUnfinished unfinished = record { pair = refl; still = still-by status.ReadUnfinished 0 noPsn 0 0; sent = refl; out = refl }
+  quiet-by : (a : Status) → Quiet a → Effect a (L (noReply a))
+  unfolding leftBy memoryBy savedBy actsAtomic outcomeBy pairBy after statusNumber noReply outBy answerBytes over valueBy
+  quiet-by status.Dropped dropped = record { pair = refl; replyOnly = still-by status.Dropped 0 noPsn 0 0; outgoing = refl; out = refl }
+  quiet-by status.OutputShort short = record { pair = refl; replyOnly = still-by status.OutputShort 0 noPsn 0 0; outgoing = refl; out = refl }
+  quiet-by status.OutOfRange range = record { pair = refl; replyOnly = still-by status.OutOfRange 0 noPsn 0 0; outgoing = refl; out = refl }
+  quiet-by status.ReadUnfinished unfinished = record { pair = refl; replyOnly = still-by status.ReadUnfinished 0 noPsn 0 0; outgoing = refl; out = refl }
 
-  fixed-with : (state : ℕ) (mark : Bool) (a : ReadAnswer) → Fixed q (with q state mark a)
-  fixed-with state mark a = record { setup = refl; expected = refl; msn = refl; message = refl; entries = refl; saved = refl }
+  fixed-with : (state : ℕ) (nakmark : Bool) (a : ReadAnswer) → Fixed q (with q state nakmark a)
+  fixed-with state nakmark a = record { setup = refl; expected = refl; msn = refl; message = refl; entries = refl; saved = refl }
 
   fixed-by : (d : Decision) → 3 < statusNumber (d .status) → (statusNumber (d .status) ≡ 6 → ⊥) → Fixed q (pairBy q d)
   unfolding pairBy after
@@ -112,19 +112,19 @@ module _ (q : Pair) (regions saved : List (List ℕ)) (m p out : List ℕ) where
       rw (lt-leb n 3 h, ne-eqb n 6 k)
       (either (Fixed q) (eqb n 4) (fixed-with _ _ _)
       (either (Fixed q) (eqb n 16 || eqb n 19) (fixed-with _ _ _)
-      (either (Fixed q) (eqb n 17 || eqb n 18) (fixed-with _ _ _) (fixed-with (q .state) (q .mark) (q .read)))))
+      (either (Fixed q) (eqb n 17 || eqb n 18) (fixed-with _ _ _) (fixed-with (q .state) (q .nakmark) (q .read)))))
 
   -- a READ that begins: its operands are those of the RETH
   operands-by : numbersOf p .kind ≡ 12 → numbersOf p .operands ≡ remote (rethOf p) false 0
   unfolding packetOf headerOf extensionOf operandsOf lowClass followsOf
   operands-by e = ap (λ c. operandsOf (extensionOf (c .follows) p)) (class-is (bthOf p .opcode) 12 reads e)
 
-  spot-some : (region : List ℕ) (address n : ℕ) → 0 < n → spot region address n ≡ getD region 3 0 + (address - getD region 1 0)
-  unfolding spot
+  spot-some : (region : List ℕ) (address n : ℕ) → 0 < n → memoryOffset region address n ≡ getD region 3 0 + (address - getD region 1 0)
+  unfolding memoryOffset
   spot-some region address n h = rw (ne-eqb n 0 (λ z. omega arith))
 
-  spot-none : (region : List ℕ) (address n : ℕ) → n ≡ 0 → spot region address n ≡ 0
-  unfolding spot
+  spot-none : (region : List ℕ) (address n : ℕ) → n ≡ 0 → memoryOffset region address n ≡ 0
+  unfolding memoryOffset
   spot-none region address n h = rw (eq-eqb n 0 h)
 
   begun-by : (d : Decision) (old : ReadAnswer) (msn : Msn) → 0 < d .responses → d .responses ≡ pieces (d .length) (q .setup .pmtu)
@@ -134,8 +134,8 @@ module _ (q : Pair) (regions saved : List (List ℕ)) (m p out : List ℕ) where
   begun-by d old msn h e n A =
       let o = operands-by (A .kind) in
       let l : d .length ≡ rethOf p .length = A .length ∙ ap (λ x. x .length) o in
-      let t : d .at ≡ spot (regionOf (rethOf p .key) regions) (rethOf p .address) (rethOf p .length) =
-      A .at ∙ ap (λ x. spot (regionOf (x .key) regions) (x .address) (x .length)) o in
+      let t : d .at ≡ memoryOffset (regionOf (rethOf p .key) regions) (rethOf p .address) (rethOf p .length) =
+      A .at ∙ ap (λ x. memoryOffset (regionOf (x .key) regions) (x .address) (x .length)) o in
       rw (ne-eqb (d .responses) 0 (λ z. omega arith))
       (record {
         some = h;
@@ -154,7 +154,7 @@ module _ (q : Pair) (regions saved : List (List ℕ)) (m p out : List ℕ) where
 
   -- the decision with another answer, another count of PSNs taken and of bytes sent
   abbrev answering : Status → ℕ → ℕ → Decision → Decision
-  answering a numbers sent d =
+  answering a psns outgoing d =
       record {
         status = a;
         act = d .act;
@@ -164,18 +164,18 @@ module _ (q : Pair) (regions saved : List (List ℕ)) (m p out : List ℕ) where
         swap = d .swap;
         compare = d .compare;
         message = d .message;
-        numbers = numbers;
+        psns = psns;
         ends = d .ends;
         completion = d .completion;
         responses = d .responses;
         length = d .length;
-        sent = sent;
+        outgoing = outgoing;
         psn = d .psn;
         syndrome = d .syndrome;
         value = d .value;
       }
 
-  status-of : (ackreq : Bool) (l : Left) → Places q saved m p l → l .sent ≡ cond ackreq 16 0 → (ackreq ≡ false → l .out ≡ out)
+  status-of : (ackreq : Bool) (l : Left) → Places q saved m p l → l .outgoing ≡ cond ackreq 16 0 → (ackreq ≡ false → l .out ≡ out)
       → Effect (cond ackreq status.Acknowledged status.Executed) l
   status-of true l P s o = (P, s)
   status-of false l P s o = (P, s, o refl)
@@ -187,9 +187,9 @@ module _ (q : Pair) (regions saved : List (List ℕ)) (m p out : List ℕ) where
 
   executes-by : (d : Decision) → Executes q (executedPair q d)
   unfolding executedPair
-  executes-by d = record { mark = refl; setup = refl; state = refl }
+  executes-by d = record { nakmark = refl; setup = refl; state = refl }
 
-  nothing-out : (d : Decision) (msn : Msn) → d .sent ≡ 0 → outBy (q .setup) d msn m out ≡ out
+  nothing-out : (d : Decision) (msn : Msn) → d .outgoing ≡ 0 → outBy (q .setup) d msn m out ≡ out
   unfolding outBy over answerBytes
   nothing-out d msn e = rw e
 
@@ -199,22 +199,22 @@ module _ (q : Pair) (regions saved : List (List ℕ)) (m p out : List ℕ) where
   place-few false = omega arith
 
   -- no more bytes than the packet carries
-  payload-most : length (payloadOf p) ≤ netOf (numbersOf p)
-  unfolding netOf
+  payload-most : length (payloadOf p) ≤ payloadSize (numbersOf p)
+  unfolding payloadSize
   payload-most = omega (arith, payload-size p)
 
   -- what a message's end does
-  message-by : (t : OpenMessage) (spot net : ℕ) → 2 ≤ spot → grown spot t net ≡ noMessage
-  unfolding grown ends
-  message-by t spot net h = rw (le-leb 2 spot h)
+  message-by : (t : OpenMessage) (memoryOffset size : ℕ) → 2 ≤ memoryOffset → messageAfter memoryOffset t size ≡ noMessage
+  unfolding messageAfter ends
+  message-by t memoryOffset size h = rw (le-leb 2 memoryOffset h)
 
-  ended : (spot : ℕ) → 2 ≤ spot → msnBy (ends spot) (q .msn) ≡ msnNext (q .msn)
+  ended : (memoryOffset : ℕ) → 2 ≤ memoryOffset → msnBy (ends memoryOffset) (q .msn) ≡ msnNext (q .msn)
   unfolding msnBy ends
-  ended spot h = rw (le-leb 2 spot h)
+  ended memoryOffset h = rw (le-leb 2 memoryOffset h)
 
-  goes-on : (spot : ℕ) → spot < 2 → msnBy (ends spot) (q .msn) ≡ q .msn
+  goes-on : (memoryOffset : ℕ) → memoryOffset < 2 → msnBy (ends memoryOffset) (q .msn) ≡ q .msn
   unfolding msnBy ends
-  goes-on spot h = rw (lt-leb 2 spot h)
+  goes-on memoryOffset h = rw (lt-leb 2 memoryOffset h)
 
   silent-by : (k : Packet) (t : OpenMessage) (number : ℕ) → k .place < 2 → Silent (completionOf k t number)
   unfolding completionOf completes ends
@@ -225,22 +225,22 @@ module _ (q : Pair) (regions saved : List (List ℕ)) (m p out : List ℕ) where
   entries-by b c e = rw e
 
   -- whatever the answer and however many PSNs are taken, by the rule of the service
-  places-by : (a : Status) (n sent : ℕ) (t : OpenMessage) (entry region : List ℕ) → statusNumber a ≤ 3
+  places-by : (a : Status) (n outgoing : ℕ) (t : OpenMessage) (entry region : List ℕ) → statusNumber a ≤ 3
       → ((q .setup .service ≡ 1 → ⊥) → psnAfter (q .expected) n ≡ psnAfter (q .expected) 1)
       → (q .setup .service ≡ 1 → psnAfter (q .expected) n ≡ psnAfter (bthOf p .psn) 1)
-      → placeOf (numbersOf p .kind) t entry region + netOf (numbersOf p) ≤ q .setup .memory
-      → Places q saved m p (L (answering a n sent (placing (numbersOf p) t entry region)))
-  unfolding leftBy outcomeBy placing executedPair readBy savedRingBy savedBy actsAtomic memoryBy ringTaken slotAt packetOf headerOf
-  places-by a n sent t entry region few rc uc w =
+      → targetOffset (numbersOf p .kind) t entry region + payloadSize (numbersOf p) ≤ q .setup .memory
+      → Places q saved m p (L (answering a n outgoing (storePayload (numbersOf p) t entry region)))
+  unfolding leftBy outcomeBy storePayload executedPair readBy savedRingBy savedBy actsAtomic memoryBy ringTaken slotAt packetOf headerOf
+  places-by a n outgoing t entry region few rc uc w =
       let k = numbersOf p in
-      let d = answering a n sent (placing k t entry region) in
+      let d = answering a n outgoing (storePayload k t entry region) in
       let e : pairBy q d ≡ executedPair q d = ran d few in
       record {
         executed = subst (Executes q) (sym e) (executes-by d);
         expected = λ h. ap (λ x. x .expected) e ∙ rc h;
         taken = λ h. ap (λ x. x .expected) e ∙ uc h;
-        memory = (d .at, omega (arith, w, payload-most), ap (placed m (d .at)) (payload-is p));
-        ends = λ h. (ap (λ x. x .msn) e ∙ ended (k .place) h, ap (λ x. x .message) e ∙ message-by t (k .place) (netOf k) h);
+        memory = (d .at, omega (arith, w, payload-most), ap (store m (d .at)) (payload-is p));
+        ends = λ h. (ap (λ x. x .msn) e ∙ ended (k .place) h, ap (λ x. x .message) e ∙ message-by t (k .place) (payloadSize k) h);
         onward = λ h. (ap (λ x. x .msn) e ∙ goes-on (k .place) h, silent-by k t _ h);
         completes = λ h. ap (λ x. x .entries) e ∙ entries-by (d .completion .some) true h;
         silent = λ h. ap (λ x. x .entries) e ∙ entries-by (d .completion .some) false h;
@@ -250,23 +250,23 @@ module _ (q : Pair) (regions saved : List (List ℕ)) (m p out : List ℕ) where
       }
 
   place-by : eqb (q .setup .service) 1 ≡ false → (t : OpenMessage) (entry region : List ℕ)
-      → placeOf (numbersOf p .kind) t entry region + netOf (numbersOf p) ≤ q .setup .memory
-      → Effect (cond (numbersOf p .ackreq) status.Acknowledged status.Executed) (L (placing (numbersOf p) t entry region))
-  unfolding leftBy outcomeBy placing
+      → targetOffset (numbersOf p .kind) t entry region + payloadSize (numbersOf p) ≤ q .setup .memory
+      → Effect (cond (numbersOf p .ackreq) status.Acknowledged status.Executed) (L (storePayload (numbersOf p) t entry region))
+  unfolding leftBy outcomeBy storePayload
   place-by r t entry region w =
       let k = numbersOf p in
-      let d = placing k t entry region in
+      let d = storePayload k t entry region in
       status-of (k .ackreq) (L d)
-      (places-by (d .status) 1 (d .sent) t entry region (place-few (k .ackreq)) (λ h. refl) (λ h. absurd (eqb-false (q .setup .service) 1 r h)) w) refl
+      (places-by (d .status) 1 (d .outgoing) t entry region (place-few (k .ackreq)) (λ h. refl) (λ h. absurd (eqb-false (q .setup .service) 1 r h)) w) refl
       (λ e. nothing-out d (pairBy q d .msn) (ap (λ b. cond b 16 0) e))
 
   deliver-by : eqb (q .setup .service) 1 ≡ true → (t : OpenMessage) (entry region : List ℕ)
-      → placeOf (numbersOf p .kind) t entry region + netOf (numbersOf p) ≤ q .setup .memory
-      → Effect status.Executed (L (unanswered (1 + distance (bthOf p .psn .0) (q .expected .0)) (placing (numbersOf p) t entry region)))
+      → targetOffset (numbersOf p .kind) t entry region + payloadSize (numbersOf p) ≤ q .setup .memory
+      → Effect status.Executed (L (unanswered (1 + distance (bthOf p .psn .0) (q .expected .0)) (storePayload (numbersOf p) t entry region)))
   unfolding leftBy outcomeBy statusNumber
   deliver-by r t entry region w =
       let n = 1 + distance (bthOf p .psn .0) (q .expected .0) in
-      let d = unanswered n (placing (numbersOf p) t entry region) in (
+      let d = unanswered n (storePayload (numbersOf p) t entry region) in (
         places-by status.Executed n 0 t entry region (omega arith) (λ h. absurd (h (eqb-true (q .setup .service) 1 r))) (λ h. number-taken (bthOf p .psn) (q .expected)) w,
         refl,
         nothing-out d (pairBy q d .msn) refl,
@@ -277,12 +277,12 @@ module _ (q : Pair) (regions saved : List (List ℕ)) (m p out : List ℕ) where
   unfolding packetOf headerOf
   operand-by f k B e = ap (λ c. f (operandsOf (extensionOf (c .follows) p))) (class-is (bthOf p .opcode) k B e)
 
-  word-by : (t : OpenMessage) (region : List ℕ) → spot region (t .address) (t .length) + 8 ≤ q .setup .memory
-      → OnWord q saved m p (L (swapping (numbersOf p) t (q .message) region)) (spot region (t .address) (t .length))
-  unfolding leftBy swapping memoryBy savedBy actsAtomic packetOf headerOf lowClass followsOf extensionOf operandsOf
+  word-by : (t : OpenMessage) (region : List ℕ) → memoryOffset region (t .address) (t .length) + 8 ≤ q .setup .memory
+      → OnWord q saved m p (L (runAtomic (numbersOf p) t (q .message) region)) (memoryOffset region (t .address) (t .length))
+  unfolding leftBy runAtomic memoryBy savedBy actsAtomic packetOf headerOf lowClass followsOf extensionOf operandsOf
   word-by t region w =
       let k = numbersOf p in
-      let d = swapping k t (q .message) region in
+      let d = runAtomic k t (q .message) region in
       record {
         within = w;
         only = act-by (λ a. OnlyWord m (memory a) (d .at)) (fetch-within m (d .at) (d .swap)) (swap-within m (d .at) (d .compare) (d .swap)) (eqb (k .kind) 20);
@@ -294,33 +294,33 @@ module _ (q : Pair) (regions saved : List (List ℕ)) (m p out : List ℕ) where
     where
       memory : ℕ → List ℕ
       memory a =
-          let d = swapping (numbersOf p) t (q .message) region in
-          cond (eqb a 1) (placed m (d .at) (take 0 (drop 0 p)))
+          let d = runAtomic (numbersOf p) t (q .message) region in
+          cond (eqb a 1) (store m (d .at) (take 0 (drop 0 p)))
           (cond (eqb a 2) (fetchAdded m (d .at) (d .swap)) (cond (eqb a 3) (swapped m (d .at) (d .compare) (d .swap)) m))
 
-  swap-by : (t : OpenMessage) (region : List ℕ) → spot region (t .address) (t .length) + 8 ≤ q .setup .memory
-      → Swaps q saved m p (L (swapping (numbersOf p) t (q .message) region))
-  unfolding leftBy outcomeBy swapping pairBy after statusNumber executedPair readBy msnBy entriesBy savedRingBy actsAtomic
+  swap-by : (t : OpenMessage) (region : List ℕ) → memoryOffset region (t .address) (t .length) + 8 ≤ q .setup .memory
+      → Swaps q saved m p (L (runAtomic (numbersOf p) t (q .message) region))
+  unfolding leftBy outcomeBy runAtomic pairBy after statusNumber executedPair readBy msnBy entriesBy savedRingBy actsAtomic
   swap-by t region w =
       record {
-        executed = executes-by (swapping (numbersOf p) t (q .message) region);
+        executed = executes-by (runAtomic (numbersOf p) t (q .message) region);
         expected = refl;
         msn = refl;
         message = refl;
         entries = refl;
         read = refl;
-        word = (spot region (t .address) (t .length), word-by t region w);
+        word = (memoryOffset region (t .address) (t .length), word-by t region w);
         ring = act-by (λ a. cond (actsAtomic a) (savedRing (q .saved)) (q .saved) ≡ savedRing (q .saved)) refl refl (eqb (numbersOf p .kind) 20);
         completion = silent;
-        sent = refl;
+        outgoing = refl;
       }
 
   begin-by : (at n : ℕ) → Asks (q .setup .memory) regions (numbersOf p) at n → 0 < pieces n (q .setup .pmtu) → Accepts q regions saved m p out
-      (L (reading status.ReadAccepted (q .message) at n (pieces n (q .setup .pmtu)) true (pieces n (q .setup .pmtu)) (bthOf p .psn)))
+      (L (beginRead status.ReadAccepted (q .message) at n (pieces n (q .setup .pmtu)) true (pieces n (q .setup .pmtu)) (bthOf p .psn)))
   unfolding leftBy outcomeBy pairBy after statusNumber executedPair msnBy entriesBy savedRingBy actsAtomic memoryBy savedBy outBy over answerBytes
   begin-by at n a s =
       let k = pieces n (q .setup .pmtu) in
-      let d = reading status.ReadAccepted (q .message) at n k true k (bthOf p .psn) in
+      let d = beginRead status.ReadAccepted (q .message) at n k true k (bthOf p .psn) in
       record {
         executed = executes-by d;
         begun = begun-by d (q .read) (msnNext (q .msn)) s refl refl a;
@@ -329,60 +329,60 @@ module _ (q : Pair) (regions saved : List (List ℕ)) (m p out : List ℕ) where
         message = refl;
         entries = refl;
         ring = refl;
-        still = record { memory = refl; saved = refl; completion = silent };
-        sent = refl;
+        replyOnly = record { memory = refl; saved = refl; completion = silent };
+        outgoing = refl;
         out = refl;
       }
 
   effect : eqb (q .setup .service) 1 ≡ false → (d : Decision) → Row Quiet q regions saved (numbersOf p) d → Effect (d .status) (L d)
-  unfolding leftBy outcomeBy acknowledging pairBy after statusNumber memoryBy savedBy actsAtomic quietly placing swapping outBy over answerBytes readBy packetOf headerOf
+  unfolding leftBy outcomeBy acknowledging pairBy after statusNumber memoryBy savedBy actsAtomic noReply storePayload runAtomic outBy over answerBytes readBy packetOf headerOf
   effect c d (quiet a k) = quiet-by a k
   effect c d ahead =
-      record { mark = refl; fixed = fixed-by d (omega arith) (λ e. absurd (omega arith)); state = refl; read = refl; still = still-by status.SequenceNak 16 (q .expected) 96 0; sent = refl }
+      record { nakmark = refl; fixed = fixed-by d (omega arith) (λ e. absurd (omega arith)); state = refl; read = refl; replyOnly = still-by status.SequenceNak 16 (q .expected) 96 0; outgoing = refl }
   effect c d invalid =
-      record { state = refl; fixed = fixed-by d (omega arith) (λ e. absurd (omega arith)); mark = refl; read = refl; still = still-by status.InvalidRequestNak 16 (bthOf p .psn) 97 0; sent = refl }
+      record { state = refl; fixed = fixed-by d (omega arith) (λ e. absurd (omega arith)); nakmark = refl; read = refl; replyOnly = still-by status.InvalidRequestNak 16 (bthOf p .psn) 97 0; outgoing = refl }
   effect c d access =
-      record { state = refl; fixed = fixed-by d (omega arith) (λ e. absurd (omega arith)); mark = refl; read = refl; still = still-by status.AccessNak 16 (bthOf p .psn) 98 0; sent = refl }
+      record { state = refl; fixed = fixed-by d (omega arith) (λ e. absurd (omega arith)); nakmark = refl; read = refl; replyOnly = still-by status.AccessNak 16 (bthOf p .psn) 98 0; outgoing = refl }
   effect c d unready =
-      record { mark = refl; fixed = fixed-by d (omega arith) (λ e. absurd (omega arith)); state = refl; read = refl; still = still-by status.NotReadyNak 16 (bthOf p .psn) (32 + q .setup .timer) 0; sent = refl }
+      record { nakmark = refl; fixed = fixed-by d (omega arith) (λ e. absurd (omega arith)); state = refl; read = refl; replyOnly = still-by status.NotReadyNak 16 (bthOf p .psn) (32 + q .setup .timer) 0; outgoing = refl }
   effect c d again =
-      record { fixed = fixed-by d (omega arith) (λ e. absurd (omega arith)); state = refl; mark = refl; still = still-by status.DuplicateAnswered 16 (psnBefore (q .expected)) 31 0; answer = inl (inl refl, refl) }
+      record { fixed = fixed-by d (omega arith) (λ e. absurd (omega arith)); state = refl; nakmark = refl; replyOnly = still-by status.DuplicateAnswered 16 (psnBefore (q .expected)) 31 0; answer = inl (inl refl, refl) }
   effect c d (reread at n a s) =
       record {
         fixed = fixed-by d (omega arith) (λ e. absurd (omega arith));
         state = refl;
-        mark = refl;
-        still = record { memory = refl; saved = refl; completion = silent };
+        nakmark = refl;
+        replyOnly = record { memory = refl; saved = refl; completion = silent };
         answer = inr (refl, refl, begun-by d (q .read) (q .msn) s refl refl a);
       }
   effect c d (reswap v e) =
-      record { fixed = fixed-by d (omega arith) (λ e. absurd (omega arith)); state = refl; mark = refl; still = still-by status.DuplicateAnswered 24 (bthOf p .psn) 31 v; answer = inl (inr refl, refl) }
+      record { fixed = fixed-by d (omega arith) (λ e. absurd (omega arith)); state = refl; nakmark = refl; replyOnly = still-by status.DuplicateAnswered 24 (bthOf p .psn) 31 v; answer = inl (inr refl, refl) }
   effect c d (place t entry region w) = place-by c t entry region w
   effect c d (begin at n a s) = begin-by at n a s
   effect c d (swap t region w) = swap-by t region w
 
   -- and on the unreliable connection
-  abandoned : Still saved m (L (quietly status.Abandoned))
-  unfolding quietly
+  abandoned : Still saved m (L (noReply status.Abandoned))
+  unfolding noReply
   abandoned = still-by status.Abandoned 0 noPsn 0 0
 
   uc-effect : eqb (q .setup .service) 1 ≡ true → (d : Decision) → UcRow Quiet q (numbersOf p) d → Effect (d .status) (L d)
-  unfolding leftBy outcomeBy pairBy after statusNumber quietly outBy over answerBytes packetOf headerOf
+  unfolding leftBy outcomeBy pairBy after statusNumber noReply outBy over answerBytes packetOf headerOf
   uc-effect c d (unheard a k) = quiet-by a k
   uc-effect c d (abandon h) =
       record {
-        under = h;
+        opened = h;
         message = refl;
         setup = refl;
         state = refl;
         expected = refl;
         msn = refl;
-        mark = refl;
+        nakmark = refl;
         entries = refl;
         read = refl;
         ring = refl;
-        still = abandoned;
-        sent = refl;
+        replyOnly = abandoned;
+        outgoing = refl;
         out = refl;
       }
   uc-effect c d (deliver t entry region w) = deliver-by c t entry region w
@@ -422,7 +422,7 @@ module _ (q : Pair) (regions saved : List (List ℕ)) (m p out : List ℕ) where
   table a l e x =
       record {
         quiet = λ h. quiets h;
-        marks = λ h. mark h;
+        marks = λ h. nakmark h;
         errs = λ h. err h;
         abandons = λ h. is a l 6 (sym e ∙ h) x;
         repeats = λ h. is a l 4 (sym e ∙ h) x;
@@ -436,9 +436,9 @@ module _ (q : Pair) (regions saved : List (List ℕ)) (m p out : List ℕ) where
       quiets (inl h) = is a l 5 (sym e ∙ h) x
       quiets (inr h) = over-32 a l (subst (λ n. 32 ≤ n) e h) x
 
-      mark : (l .number ≡ 16) ⊎ (l .number ≡ 19) → MarkAlone q saved m l
-      mark (inl h) = is a l 16 (sym e ∙ h) x
-      mark (inr h) = is a l 19 (sym e ∙ h) x
+      nakmark : (l .number ≡ 16) ⊎ (l .number ≡ 19) → MarkAlone q saved m l
+      nakmark (inl h) = is a l 16 (sym e ∙ h) x
+      nakmark (inr h) = is a l 19 (sym e ∙ h) x
 
       err : (l .number ≡ 17) ⊎ (l .number ≡ 18) → ErrorAlone q saved m l
       err (inl h) = is a l 17 (sym e ∙ h) x

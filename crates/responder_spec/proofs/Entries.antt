@@ -23,7 +23,7 @@ use Rattle.request_spec.specs.Packet.{packetOf}
 use Rattle.request_spec.specs.Claims.{Begins, GoesOn}
 use Rattle.responder_spec.specs.Inbound.{inbound}
 use Rattle.responder_spec.specs.Effects.{Left, inboundLeft, Unchanged, Abandons, Places, Table, OneOf}
-use Rattle.responder_spec.specs.Answers.{firstEntry, packetIn, Completes, Puts}
+use Rattle.responder_spec.specs.Answers.{entryAtHead, packetIn, Completes, Puts}
 use Rattle.responder_spec.specs.Unreliable.{UcKeeps, UcLeaves, EntryBack, TakenAgain}
 use Rattle.responder_spec.proofs.Effects.{inbound-table}
 use Rattle.responder_spec.proofs.Numbers.{uc-answers}
@@ -38,11 +38,11 @@ module _ (q : Pair) (rows : List (List ℕ)) (bytes p output : List ℕ) (l : Le
       record {
         setup = ap (λ x. x .setup) (U .pair);
         state = ap (λ x. x .state) (U .pair);
-        mark = λ e. ap (λ x. x .mark) (U .pair) ∙ e;
+        nakmark = λ e. ap (λ x. x .nakmark) (U .pair) ∙ e;
         read = ap (λ x. x .read) (U .pair);
         ring = ap (λ x. x .saved) (U .pair);
-        saved = U .still .saved;
-        sent = U .sent;
+        saved = U .replyOnly .saved;
+        outgoing = U .outgoing;
         out = U .out;
       }
 
@@ -51,24 +51,24 @@ module _ (q : Pair) (rows : List (List ℕ)) (bytes p output : List ℕ) (l : Le
       record {
         setup = A .setup;
         state = A .state;
-        mark = λ e. A .mark ∙ e;
+        nakmark = λ e. A .nakmark ∙ e;
         read = A .read;
         ring = A .ring;
-        saved = A .still .saved;
-        sent = A .sent;
+        saved = A .replyOnly .saved;
+        outgoing = A .outgoing;
         out = A .out;
       }
 
-  places-keeps : Places q rows bytes p l → l .sent ≡ 0 → l .out ≡ output → UcKeeps q rows output l
+  places-keeps : Places q rows bytes p l → l .outgoing ≡ 0 → l .out ≡ output → UcKeeps q rows output l
   places-keeps X s o =
       record {
         setup = X .executed .setup;
         state = X .executed .state;
-        mark = λ e. X .executed .mark;
+        nakmark = λ e. X .executed .nakmark;
         read = X .read;
         ring = X .ring;
         saved = X .saved;
-        sent = s;
+        outgoing = s;
         out = o;
       }
 
@@ -93,7 +93,7 @@ uc-leaves q regions entries saved m p out s = go (uc-answers q regions entries s
     go (inr (inr (inr (inr (inr (inl e)))))) = quiet (inr (omega (arith, e)))
 
 -- with no message open nothing is held; with a SEND open the first is
-none-held : (r : Pair) (rows : List (List ℕ)) → r .message ≡ (record { kind = 255; placed = 0; address = 0; key = 0; length = 0 })
+none-held : (r : Pair) (rows : List (List ℕ)) → r .message ≡ (record { kind = 255; stored = 0; address = 0; key = 0; length = 0 })
     → (heldOf r rows ≡ []) × (waitingOf r rows ≡ entriesOf r rows)
 unfolding heldOf waitingOf
 none-held r rows e =
@@ -135,7 +135,7 @@ module _ (q : Pair) (regions entries saved : List (List ℕ)) (m p out : List �
   own =
       record {
         kind = packetIn p .kind;
-        placed = 0;
+        stored = 0;
         address = packetIn p .operands .address;
         key = packetIn p .operands .key;
         length = packetIn p .operands .length;
@@ -146,8 +146,8 @@ module _ (q : Pair) (regions entries saved : List (List ℕ)) (m p out : List �
       inbound-puts q regions entries saved m p out own
       (record { own = λ g. refl; old = λ g. absurd (apart (packetIn p .place) b g) }) (inl e)
 
-  placing : Places q saved m p l
-  placing = inbound-table q regions entries saved m p out .executes e .0
+  storePayload : Places q saved m p l
+  storePayload = inbound-table q regions entries saved m p out .executes e .0
 
   sound : Sound q
   sound = inbound-meant q regions entries saved m p out (omega (arith, e)) .2
@@ -157,20 +157,20 @@ module _ (q : Pair) (regions entries saved : List (List ℕ)) (m p out : List �
   first-kept z =
       let H = one-held (l .pair) entries (ap (λ x. x .kind) (puts .opens (inl z)) ∙ send) in
       let G = one-held q entries open-send in
-      let s = ap (inRing entries) (placing .silent (puts .onward (inl z) .some)) in
+      let s = ap (inRing entries) (storePayload .silent (puts .onward (inl z) .some)) in
       (H .0 ∙ (ap (take 1) s ∙ sym (G .0)), H .1 ∙ (ap (drop 1) s ∙ sym (G .1)))
 
   -- an Only: the first of the ring is done with, and no message open
-  told : packetIn p .place ≡ 4 → Completes (packetIn p) (getD (firstEntry q entries) 0 0) (length (payloadOf p)) (l .completion)
+  told : packetIn p .place ≡ 4 → Completes (packetIn p) (getD (entryAtHead q entries) 0 0) (length (payloadOf p)) (l .completion)
   told z =
       let n : 0 + length (payloadOf p) ≡ length (payloadOf p) = omega arith in
-      subst (λ x. Completes (packetIn p) (getD (firstEntry q entries) 0 0) x (l .completion)) n (puts .sent send (inr z))
+      subst (λ x. Completes (packetIn p) (getD (entryAtHead q entries) 0 0) x (l .completion)) n (puts .outgoing send (inr z))
 
   only-taken : packetIn p .place ≡ 4 → (heldOf (l .pair) entries ≡ []) × (waitingOf (l .pair) entries ≡ waitingOf q entries)
   unfolding packetOf headerOf
   only-taken z =
-      let N = none-held (l .pair) entries (placing .ends (omega (arith, z)) .1) in
-      let s = ap (inRing entries) (placing .completes (told z .some)) in
+      let N = none-held (l .pair) entries (storePayload .ends (omega (arith, z)) .1) in
+      let s = ap (inRing entries) (storePayload .completes (told z .some)) in
       (N .0, N .1 ∙ (s ∙ (rest-ring entries (q .entries) (held-some q sound open-send) ∙ sym (one-held q entries open-send .1))))
 
 pub taken-again : TakenAgain

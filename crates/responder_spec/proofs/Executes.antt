@@ -20,30 +20,30 @@ use Rattle.pair.proofs.Posting.{held-some}
 use Rattle.pair.specs.declared.OpenMessage.{OpenMessage}
 use Rattle.pair.specs.declared.Status.the-variants as status
 use Rattle.request_spec.specs.declared.Packet.{Packet}
-use Rattle.request_spec.specs.Verdict.{carrying, overLimit, needsEntry, entriesWaiting, noneWaiting, usesEntry, entryOutside, keySpan, keyFails, spot, sizeOff, totalOff, bareOff, netOf, lengthsOff, current}
-use Rattle.responder_spec.specs.Decide.{noCompletion, completes, completionOf, grown, placing, swapping, accepting, executing, regionFor, headEntry}
+use Rattle.request_spec.specs.Verdict.{carrying, overLimit, needsEntry, entriesWaiting, noneWaiting, usesEntry, entryOutside, bytesToCome, keyFails, memoryOffset, sizeOff, totalOff, bareOff, payloadSize, lengthsOff, current}
+use Rattle.responder_spec.specs.Decide.{noCompletion, completes, completionOf, messageAfter, storePayload, runAtomic, acceptRead, execute, regionFor, headEntry}
 use Rattle.responder_spec.specs.Apply.{actsAtomic}
 use Rattle.responder_spec.specs.Kept.{Steady}
 use Rattle.responder_spec.proofs.Checked.{Checked, Follows, follows, send-or-write, holds, spot-in}
 use Rattle.responder_spec.proofs.Leads.{Leads, branch, Opens, Does, does-leads}
 
 -- a key that holds the whole of a message
-pub whole-in : (memory kind : ℕ) (m : OpenMessage) (region : List ℕ) → (kind ≡ 0 → ⊥) → m .placed ≡ 0 → keyFails memory kind m region ≡ false
-    → spot region (m .address) (m .length) + m .length ≤ memory
-unfolding keyFails keySpan
+pub whole-in : (memory kind : ℕ) (m : OpenMessage) (region : List ℕ) → (kind ≡ 0 → ⊥) → m .stored ≡ 0 → keyFails memory kind m region ≡ false
+    → memoryOffset region (m .address) (m .length) + m .length ≤ memory
+unfolding keyFails bytesToCome
 whole-in memory kind m region k z h =
-    let a : m .address + m .placed ≡ m .address = omega arith in
-    let b : m .length - m .placed ≡ m .length = omega arith in
-    subst (λ n. spot region (m .address) n + n ≤ memory) b
-    (subst (λ x. spot region x (m .length - m .placed) + (m .length - m .placed) ≤ memory) a
-    (spot-in kind region memory (m .address + m .placed) (m .length - m .placed) k h))
+    let a : m .address + m .stored ≡ m .address = omega arith in
+    let b : m .length - m .stored ≡ m .length = omega arith in
+    subst (λ n. memoryOffset region (m .address) n + n ≤ memory) b
+    (subst (λ x. memoryOffset region x (m .length - m .stored) + (m .length - m .stored) ≤ memory) a
+    (spot-in kind region memory (m .address + m .stored) (m .length - m .stored) k h))
 
 -- where an entry is needed and one waits, there is one
-waits : (kind place under count : ℕ) (immediate : Bool) → needsEntry kind place immediate ≡ true
-    → noneWaiting kind place immediate under count ≡ false
+waits : (kind place opened count : ℕ) (immediate : Bool) → needsEntry kind place immediate ≡ true
+    → noneWaiting kind place immediate opened count ≡ false
     → 1 ≤ count
 unfolding noneWaiting entriesWaiting
-waits kind place under count immediate h k = go (needsEntry kind place immediate) h (eqb under 0) k
+waits kind place opened count immediate h k = go (needsEntry kind place immediate) h (eqb opened 0) k
   where
     go : (a : Bool) → a ≡ true → (b : Bool) → (a && eqb (cond b (count - 1) count) 0) ≡ false → 1 ≤ count
     go true h true k = let ne = eqb-false (count - 1) 0 k in omega arith
@@ -123,14 +123,14 @@ module _ (w : Whole) (W : Steady w) where
           go (inl (a, e, k)) = subst (λ x. x .length ≤ 1048576) (sym e) (ltb-false memoryLimit (p .operands .length) (C .limit))
           go (inr (a, e, k)) = subst (λ x. x .length ≤ 1048576) (sym e) (under-limit (k ∙ z))
 
-      total : carrying (p .kind) ≡ true → totalOff (p .kind) (p .place) (message .placed) (netOf p) (message .length) (getD entry 2 0) ≡ false
+      total : carrying (p .kind) ≡ true → totalOff (p .kind) (p .place) (message .stored) (payloadSize p) (message .length) (getD entry 2 0) ≡ false
       unfolding lengthsOff
-      total c = go (carrying (p .kind)) c (or-right (ltb (p .raw) (p .pad)) _ (C .lengths))
+      total c = go (carrying (p .kind)) c (or-right (ltb (p .padded) (p .pad)) _ (C .lengths))
         where
           go : (t : Bool) → t ≡ true
-              → cond t (sizeOff (p .place) (w .pair .setup .pmtu) (netOf p) || totalOff (p .kind) (p .place) (message .placed) (netOf p) (message .length) (getD entry 2 0)) (bareOff (p .kind) (p .raw) (message .address)) ≡ false
-              → totalOff (p .kind) (p .place) (message .placed) (netOf p) (message .length) (getD entry 2 0) ≡ false
-          go true e h = or-right (sizeOff (p .place) (w .pair .setup .pmtu) (netOf p)) _ h
+              → cond t (sizeOff (p .place) (w .pair .setup .pmtu) (payloadSize p) || totalOff (p .kind) (p .place) (message .stored) (payloadSize p) (message .length) (getD entry 2 0)) (bareOff (p .kind) (p .padded) (message .address)) ≡ false
+              → totalOff (p .kind) (p .place) (message .stored) (payloadSize p) (message .length) (getD entry 2 0) ≡ false
+          go true e h = or-right (sizeOff (p .place) (w .pair .setup .pmtu) (payloadSize p)) _ h
           go false e h = absurd (true≢false (sym e))
 
       -- a SEND fits its entry, and that lies in memory
@@ -143,47 +143,47 @@ module _ (w : Whole) (W : Steady w) where
           go true e h = omega (arith, ltb-false (w .pair .setup .memory) (getD entry 1 0 + getD entry 2 0) h, W .pair .setup .1)
           go false e h = absurd (true≢false (sym e))
 
-      send-fits : p .kind ≡ 0 → carrying (p .kind) ≡ true → message .placed + netOf p ≤ getD entry 2 0
+      send-fits : p .kind ≡ 0 → carrying (p .kind) ≡ true → message .stored + payloadSize p ≤ getD entry 2 0
       unfolding totalOff
       send-fits z c = go (eqb (p .kind) 0) (eq-eqb (p .kind) 0 z) (total c)
         where
           go : (a : Bool) → a ≡ true
-              → cond a (ltb (getD entry 2 0) (message .placed + netOf p)) (cond (ends (p .place)) (not (eqb (message .placed + netOf p) (message .length))) (not (ltb (message .placed + netOf p) (message .length)))) ≡ false
-              → message .placed + netOf p ≤ getD entry 2 0
-          go true e h = ltb-false (getD entry 2 0) (message .placed + netOf p) h
+              → cond a (ltb (getD entry 2 0) (message .stored + payloadSize p)) (cond (ends (p .place)) (not (eqb (message .stored + payloadSize p) (message .length))) (not (ltb (message .stored + payloadSize p) (message .length)))) ≡ false
+              → message .stored + payloadSize p ≤ getD entry 2 0
+          go true e h = ltb-false (getD entry 2 0) (message .stored + payloadSize p) h
           go false e h = absurd (true≢false (sym e))
 
       -- a WRITE leaves bytes to come before its last packet
-      write-fits : p .kind ≡ 6 → carrying (p .kind) ≡ true → ends (p .place) ≡ false → message .placed + netOf p < message .length
+      write-fits : p .kind ≡ 6 → carrying (p .kind) ≡ true → ends (p .place) ≡ false → message .stored + payloadSize p < message .length
       unfolding totalOff
-      write-fits z c n = go (eqb (p .kind) 0) refl (ends (p .place)) n (ltb (message .placed + netOf p) (message .length)) refl (total c)
+      write-fits z c n = go (eqb (p .kind) 0) refl (ends (p .place)) n (ltb (message .stored + payloadSize p) (message .length)) refl (total c)
         where
-          go : (a : Bool) → eqb (p .kind) 0 ≡ a → (b : Bool) → b ≡ false → (c : Bool) → ltb (message .placed + netOf p) (message .length) ≡ c
-              → cond a (ltb (getD entry 2 0) (message .placed + netOf p)) (cond b (not (eqb (message .placed + netOf p) (message .length))) (not c)) ≡ false
-              → message .placed + netOf p < message .length
+          go : (a : Bool) → eqb (p .kind) 0 ≡ a → (b : Bool) → b ≡ false → (c : Bool) → ltb (message .stored + payloadSize p) (message .length) ≡ c
+              → cond a (ltb (getD entry 2 0) (message .stored + payloadSize p)) (cond b (not (eqb (message .stored + payloadSize p) (message .length))) (not c)) ≡ false
+              → message .stored + payloadSize p < message .length
           go true e b f c g h = absurd (omega (arith, z, eqb-true (p .kind) 0 e))
           go false e true f c g h = absurd (true≢false f)
-          go false e false f true g h = ltb-true (message .placed + netOf p) (message .length) g
+          go false e false f true g h = ltb-true (message .stored + payloadSize p) (message .length) g
           go false e false f false g h = absurd (true≢false h)
 
       -- and they have addresses
-      write-top : p .kind ≡ 6 → message .placed + netOf p < message .length → message .address + (message .placed + netOf p) < 2 ^ 64
-      unfolding keyFails keySpan
+      write-top : p .kind ≡ 6 → message .stored + payloadSize p < message .length → message .address + (message .stored + payloadSize p) < 2 ^ 64
+      unfolding keyFails bytesToCome
       write-top z l =
           let H =
-          holds (p .kind) region (w .pair .setup .memory) (message .address + message .placed) (message .length - message .placed) (λ e. omega arith)
+          holds (p .kind) region (w .pair .setup .memory) (message .address + message .stored) (message .length - message .stored) (λ e. omega arith)
           (λ e. omega arith) (C .key) in
           omega (arith, H .to, H .top, l)
 
       opens : carrying (p .kind) ≡ true
-          → Opens w (completes (p .kind) (p .place) (p .operands .immediate)) (grown (p .place) message (netOf p))
-      unfolding completes grown
+          → Opens w (completes (p .kind) (p .place) (p .operands .immediate)) (messageAfter (p .place) message (payloadSize p))
+      unfolding completes messageAfter
       opens c = go (ends (p .place)) refl (send-or-write (w .pair .setup) (p .kind) (C .enabled) c)
         where
           go : (t : Bool) → ends (p .place) ≡ t → (p .kind ≡ 0) ⊎ (p .kind ≡ 6)
               → Opens w (t && (eqb (p .kind) 0 || p .operands .immediate))
               (cond t noMessage
-              (record { kind = message .kind; placed = message .placed + netOf p; address = message .address; key = message .key; length = message .length }))
+              (record { kind = message .kind; stored = message .stored + payloadSize p; address = message .address; key = message .key; length = message .length }))
           go true e k = inl refl
           go false e (inl k) =
               let a = send-fits k c in
@@ -193,13 +193,13 @@ module _ (w : Whole) (W : Steady w) where
               let a = write-fits k c e in
               inr (inr (same-kind ∙ k, a, write-limit k, write-top k a))
 
-      pub placing-does : carrying (p .kind) ≡ true → Does w (placing p message entry region)
-      unfolding placing completionOf actsAtomic statusNumber
+      pub placing-does : carrying (p .kind) ≡ true → Does w (storePayload p message entry region)
+      unfolding storePayload completionOf actsAtomic statusNumber
       placing-does c =
           record {
             number = acks (p .ackreq);
             entry = λ e. done-entry (sym (same (completes (p .kind) (p .place) (p .operands .immediate)) _) ∙ e);
-            message = subst (λ t. Opens w t (grown (p .place) message (netOf p))) (sym (same (completes (p .kind) (p .place) (p .operands .immediate)) _)) (opens c);
+            message = subst (λ t. Opens w t (messageAfter (p .place) message (payloadSize p))) (sym (same (completes (p .kind) (p .place) (p .operands .immediate)) _)) (opens c);
             read = inl refl;
             psn = λ e. absurd (true≢false (sym e));
           }
@@ -213,7 +213,7 @@ module _ (w : Whole) (W : Steady w) where
               (record {
                 some = true;
                 number = number;
-                length = cond (eqb (p .kind) 0) (message .placed + netOf p) (message .length);
+                length = cond (eqb (p .kind) 0) (message .stored + payloadSize p) (message .length);
                 immediate = p .operands .immediate;
                 value = p .operands .value;
               })
@@ -222,8 +222,8 @@ module _ (w : Whole) (W : Steady w) where
           same false number = refl
 
       module _ (n : p .psn .0 < 2 ^ 24) where
-        accepting-does : p .kind ≡ 12 → Does w (accepting p message (w .pair .message) region (w .pair .setup .pmtu))
-        unfolding accepting actsAtomic statusNumber
+        accepting-does : p .kind ≡ 12 → Does w (acceptRead p message (w .pair .message) region (w .pair .setup .pmtu))
+        unfolding acceptRead actsAtomic statusNumber
         accepting-does k =
             record {
               number = refl;
@@ -233,17 +233,17 @@ module _ (w : Whole) (W : Steady w) where
               psn = λ e. absurd (true≢false (sym e));
             }
           where
-            go : Follows (w .pair .message) p → current (w .pair .message) p .placed ≡ 0
-            go (inl (a, e, x)) = ap (λ y. y .placed) e
+            go : Follows (w .pair .message) p → current (w .pair .message) p .stored ≡ 0
+            go (inl (a, e, x)) = ap (λ y. y .stored) e
             go (inr (a, e, x)) = absurd (no-read (x ∙ k))
 
-        swapping-does : Does w (swapping p message (w .pair .message) region)
-        unfolding swapping statusNumber
+        swapping-does : Does w (runAtomic p message (w .pair .message) region)
+        unfolding runAtomic statusNumber
         swapping-does =
             record { number = refl; entry = λ e. absurd (true≢false (sym e)); message = under-opens; read = inl refl; psn = λ e. n }
 
-        pub executing-leads : Leads w (executing p message (w .pair .message) entry region (w .pair .setup .pmtu))
-        unfolding executing
+        pub executing-leads : Leads w (execute p message (w .pair .message) entry region (w .pair .setup .pmtu))
+        unfolding execute
         executing-leads =
             branch w (carrying (p .kind)) _ _ (λ c. does-leads w W _ (placing-does c))
             (λ c. branch w (eqb (p .kind) 12) _ _ (λ e. does-leads w W _ (accepting-does (eqb-true (p .kind) 12 e))) (λ e. does-leads w W _ swapping-does))

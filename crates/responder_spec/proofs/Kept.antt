@@ -44,7 +44,7 @@ drained-lasting : (w : Whole) (m out : List ℕ) → Steady w → Lasting w (nex
 unfolding nextResponse
 drained-lasting w m out W =
     either w (executed (nextStatus (w .pair) (length m) (length out))) _ _
-    (record { steady = with-steady w (w .pair .state) (w .pair .mark) (oneFewer (w .pair .read)) W (W .pair .state) (fewer w W); saved = refl })
+    (record { steady = with-steady w (w .pair .state) (w .pair .nakmark) (oneFewer (w .pair .read)) W (W .pair .state) (fewer w W); saved = refl })
     (record { steady = W; saved = refl })
 
 pub next-steady : NextSteady

@@ -26,7 +26,7 @@ use Rattle.pair.specs.declared.Status.{Status}
 use Rattle.pair.specs.declared.Status.the-variants as status
 use Rattle.pair.specs.Pair.{noMessage}
 use Rattle.responder_spec.specs.declared.Decision.{Decision}
-use Rattle.responder_spec.specs.Decide.{noPsn, still, quietly, acknowledging, reading, headEntry}
+use Rattle.responder_spec.specs.Decide.{noPsn, replyOnly, noReply, acknowledging, beginRead, headEntry}
 use Rattle.responder_spec.specs.Apply.{actsAtomic, savedRingBy, ringTaken, entriesBy, msnBy, readBy, executedPair, with, closing, after, pairBy}
 use Rattle.responder_spec.specs.Kept.{Steady}
 use Rattle.responder_spec.proofs.Views.{closes}
@@ -57,9 +57,9 @@ Answering q a =
     × (a .msn .0 < 2 ^ 24))
 
 -- another state, mark and READ
-pub with-steady : (w : Whole) (state : ℕ) (mark : Bool) (a : ReadAnswer) → Steady w → state ≤ 2 → Answering (w .pair) a
-    → Steady (beside w (with (w .pair) state mark a))
-with-steady w state mark a W h r =
+pub with-steady : (w : Whole) (state : ℕ) (nakmark : Bool) (a : ReadAnswer) → Steady w → state ≤ 2 → Answering (w .pair) a
+    → Steady (beside w (with (w .pair) state nakmark a))
+with-steady w state nakmark a W h r =
     let S = W .pair in
     record {
       pair =
@@ -111,16 +111,16 @@ either w false x y f g = g
 
 -- Nothing executed
 module _ (w : Whole) (W : Steady w) where
-  lasts : (state : ℕ) (mark : Bool) → state ≤ 2 → Lasting w (with (w .pair) state mark (w .pair .read))
-  lasts state mark h = record { steady = with-steady w state mark (w .pair .read) W h (W .pair .read); saved = refl }
+  lasts : (state : ℕ) (nakmark : Bool) → state ≤ 2 → Lasting w (with (w .pair) state nakmark (w .pair .read))
+  lasts state nakmark h = record { steady = with-steady w state nakmark (w .pair .read) W h (W .pair .read); saved = refl }
 
-  pub still-leads : (s : Status) (sent : ℕ) (psn : Psn) (syndrome value : ℕ) → leb (statusNumber s) 3 ≡ false
-      → Leads w (still s sent psn syndrome value)
+  pub still-leads : (s : Status) (outgoing : ℕ) (psn : Psn) (syndrome value : ℕ) → leb (statusNumber s) 3 ≡ false
+      → Leads w (replyOnly s outgoing psn syndrome value)
   unfolding pairBy after readBy savedRingBy actsAtomic
-  still-leads s sent psn syndrome value h =
+  still-leads s outgoing psn syndrome value h =
       record { steady = L .steady; entry = λ e. absurd (true≢false (sym e)); saved = L .saved; psn = λ e. absurd (true≢false (sym e)) }
     where
-      L : Lasting w (pairBy (w .pair) (still s sent psn syndrome value))
+      L : Lasting w (pairBy (w .pair) (replyOnly s outgoing psn syndrome value))
       L =
           rw h
           (either w (eqb (statusNumber s) 4) _ _ (lasts (w .pair .state) _ (W .pair .state))
@@ -128,8 +128,8 @@ module _ (w : Whole) (W : Steady w) where
           (either w (eqb (statusNumber s) 17 || eqb (statusNumber s) 18) _ _ (lasts 2 _ (omega arith))
           (either w (eqb (statusNumber s) 6) _ _ (record { steady = closed-steady w W; saved = refl }) (lasts (w .pair .state) _ (W .pair .state))))))
 
-  pub quiet-leads : (s : Status) → leb (statusNumber s) 3 ≡ false → Leads w (quietly s)
-  unfolding quietly
+  pub quiet-leads : (s : Status) → leb (statusNumber s) 3 ≡ false → Leads w (noReply s)
+  unfolding noReply
   quiet-leads s h = still-leads s 0 noPsn 0 0 h
 
   pub ack-leads : (s : Status) (psn : Psn) (syndrome : ℕ) → leb (statusNumber s) 3 ≡ false → Leads w (acknowledging s psn syndrome)
@@ -139,7 +139,7 @@ module _ (w : Whole) (W : Steady w) where
   -- a READ answered again
   pub again-leads : (at length responses : ℕ) (psn : Psn)
       → responses ≤ pieces length (w .pair .setup .pmtu) → at + length ≤ w .pair .setup .memory → psn .0 < 2 ^ 24
-      → Leads w (reading status.DuplicateAnswered noMessage at length 0 false responses psn)
+      → Leads w (beginRead status.DuplicateAnswered noMessage at length 0 false responses psn)
   unfolding pairBy after readBy savedRingBy actsAtomic statusNumber
   again-leads at length responses psn a b c =
       record {
@@ -159,8 +159,8 @@ module _ (w : Whole) (W : Steady w) where
 abbrev pub Opens : Whole → Bool → OpenMessage → Type 0
 Opens w some m =
     (m .kind ≡ 255)
-    ⊎ (((m .kind ≡ 0) × (some ≡ false) × (1 ≤ w .pair .entries .count) × (m .placed ≤ 1048576) × (m .placed ≤ getD (headEntry (w .pair) (w .entries)) 2 0))
-    ⊎ ((m .kind ≡ 6) × (m .placed < m .length) × (m .length ≤ 1048576) × (m .address + m .placed < 2 ^ 64)))
+    ⊎ (((m .kind ≡ 0) × (some ≡ false) × (1 ≤ w .pair .entries .count) × (m .stored ≤ 1048576) × (m .stored ≤ getD (headEntry (w .pair) (w .entries)) 2 0))
+    ⊎ ((m .kind ≡ 6) × (m .stored < m .length) × (m .length ≤ 1048576) × (m .address + m .stored < 2 ^ 64)))
 
 pub record Does (w : Whole) (d : Decision) : Type 0 where
   pub number : leb (statusNumber (d .status)) 3 ≡ true
@@ -218,19 +218,19 @@ module _ (w : Whole) (W : Steady w) (d : Decision) (D : Does w d) where
     where
       go : (t : Bool) → Opens w t (d .message)
           → (d .message .kind ≡ 255)
-          ⊎ (((d .message .kind ≡ 0) × (1 ≤ cond t (ringTaken (w .pair .entries)) (w .pair .entries) .count) × (d .message .placed ≤ 1048576))
-          ⊎ ((d .message .kind ≡ 6) × (d .message .placed < d .message .length) × (d .message .length ≤ 1048576) × (d .message .address + d .message .placed < 2 ^ 64)))
+          ⊎ (((d .message .kind ≡ 0) × (1 ≤ cond t (ringTaken (w .pair .entries)) (w .pair .entries) .count) × (d .message .stored ≤ 1048576))
+          ⊎ ((d .message .kind ≡ 6) × (d .message .stored < d .message .length) × (d .message .length ≤ 1048576) × (d .message .address + d .message .stored < 2 ^ 64)))
       go t (inl e) = inl e
       go true (inr (inl (e, f, x, y, z))) = absurd (true≢false f)
       go false (inr (inl (e, f, x, y, z))) = inr (inl (e, x, y))
       go t (inr (inr x)) = inr (inr x)
 
-  done-held : done .message .kind ≡ 0 → done .message .placed ≤ getD (headEntry done (w .entries)) 2 0
+  done-held : done .message .kind ≡ 0 → done .message .stored ≤ getD (headEntry done (w .entries)) 2 0
   unfolding executedPair entriesBy
   done-held k = go (d .completion .some) (D .message)
     where
       go : (t : Bool) → Opens w t (d .message)
-          → d .message .placed ≤ getD (getD (w .entries) (slotAt (cond t (ringTaken (w .pair .entries)) (w .pair .entries) .head) 0) []) 2 0
+          → d .message .stored ≤ getD (getD (w .entries) (slotAt (cond t (ringTaken (w .pair .entries)) (w .pair .entries) .head) 0) []) 2 0
       go t (inl e) = absurd (omega arith)
       go true (inr (inl (e, f, x, y, z))) = absurd (true≢false f)
       go false (inr (inl (e, f, x, y, z))) = z
@@ -259,7 +259,7 @@ module _ (w : Whole) (W : Steady w) (d : Decision) (D : Does w d) where
             record {
               setup = S .setup;
               state = S .state;
-              expected = after-below (w .pair .expected) (d .numbers);
+              expected = after-below (w .pair .expected) (d .psns);
               msn = msn-below (d .ends) (w .pair .msn) (S .msn);
               entries = entries-within (w .pair .entries) (d .completion .some) (S .entries);
               saved = saved-within (w .pair .saved) (d .act) (S .saved);

@@ -13,7 +13,7 @@ use Rattle.pair.specs.declared.Status.{Status}
 use Rattle.pair.specs.declared.Status.the-variants as status
 use Rattle.request_spec.specs.declared.Packet.{Packet}
 use Rattle.responder_spec.specs.declared.Decision.{Decision}
-use Rattle.responder_spec.specs.Decide.{quietly, acknowledging, placing, swapping, decided}
+use Rattle.responder_spec.specs.Decide.{noReply, acknowledging, storePayload, runAtomic, decided}
 use Rattle.responder_spec.specs.Inbound.{outcomeBy, decision, inbound}
 use Rattle.responder_spec.specs.Effects.{OneOf, InboundNumbers, UcNumbers}
 use Rattle.responder_spec.proofs.Rows.Quiet.{dropped, short, range, unfinished}
@@ -42,29 +42,29 @@ place-numbers true = inr (inl refl)
 place-numbers false = inl refl
 
 module _ (q : Pair) (regions saved : List (List ℕ)) (k : Packet) where
-  numbers : (d : Decision) → Row Quiet q regions saved k d → Rc (statusNumber (d .status))
-  unfolding statusNumber quietly acknowledging placing swapping
-  numbers d (quiet a z) = quiet-numbers a z .0
-  numbers d ahead = inr (inr (inr (inr (inr (inr (inl refl))))))
-  numbers d invalid = inr (inr (inr (inr (inr (inr (inr (inl refl)))))))
-  numbers d access = inr (inr (inr (inr (inr (inr (inr (inr (inl refl))))))))
-  numbers d unready = inr (inr (inr (inr (inr (inr (inr (inr (inr (inl refl)))))))))
-  numbers d again = inr (inr (inr (inr (inl refl))))
-  numbers d (reread at n a s) = inr (inr (inr (inr (inl refl))))
-  numbers d (reswap v e) = inr (inr (inr (inr (inl refl))))
-  numbers d (place t entry region w) = place-numbers (k .ackreq)
-  numbers d (begin at n a s) = inr (inr (inl refl))
-  numbers d (swap t region w) = inr (inr (inr (inl refl)))
+  psns : (d : Decision) → Row Quiet q regions saved k d → Rc (statusNumber (d .status))
+  unfolding statusNumber noReply acknowledging storePayload runAtomic
+  psns d (quiet a z) = quiet-numbers a z .0
+  psns d ahead = inr (inr (inr (inr (inr (inr (inl refl))))))
+  psns d invalid = inr (inr (inr (inr (inr (inr (inr (inl refl)))))))
+  psns d access = inr (inr (inr (inr (inr (inr (inr (inr (inl refl))))))))
+  psns d unready = inr (inr (inr (inr (inr (inr (inr (inr (inr (inl refl)))))))))
+  psns d again = inr (inr (inr (inr (inl refl))))
+  psns d (reread at n a s) = inr (inr (inr (inr (inl refl))))
+  psns d (reswap v e) = inr (inr (inr (inr (inl refl))))
+  psns d (place t entry region w) = place-numbers (k .ackreq)
+  psns d (begin at n a s) = inr (inr (inl refl))
+  psns d (swap t region w) = inr (inr (inr (inl refl)))
 
   uc-numbers : (d : Decision) → UcRow Quiet q k d → Uc (statusNumber (d .status))
-  unfolding statusNumber quietly
+  unfolding statusNumber noReply
   uc-numbers d (unheard a z) = quiet-numbers a z .1
   uc-numbers d (abandon h) = inr (inr (inl refl))
   uc-numbers d (deliver t entry region w) = inl refl
 
   any-numbers : (d : Decision) → AnyRow Quiet q regions saved k d
       → ((q .setup .service ≡ 1 → ⊥) → Rc (statusNumber (d .status))) × (q .setup .service ≡ 1 → Uc (statusNumber (d .status)))
-  any-numbers d (reliable c r) = (λ h. numbers d r, λ h. absurd (eqb-false (q .setup .service) 1 c h))
+  any-numbers d (reliable c r) = (λ h. psns d r, λ h. absurd (eqb-false (q .setup .service) 1 c h))
   any-numbers d (unreliable c r) = (λ h. absurd (h (eqb-true (q .setup .service) 1 c)), λ h. uc-numbers d r)
 
 pub inbound-numbers : InboundNumbers

@@ -24,7 +24,7 @@ use Rattle.pair.specs.declared.Pair.{Pair}
 use Rattle.request_spec.specs.Claims.{Carries, IsAtomic, Served}
 use Rattle.request_spec.proofs.Order.{served}
 use Rattle.request_spec.specs.declared.Packet.{Packet}
-use Rattle.responder_spec.specs.Decide.{againFails}
+use Rattle.responder_spec.specs.Decide.{duplicateReadFails}
 use Rattle.responder_spec.specs.Inbound.{inbound}
 use Rattle.responder_spec.specs.Answers.{headerBy, Expects, Aheads, Again, Repeats, Classed, packetIn, Recalled, Comes, Examined, Reason, InboundReason}
 use Rattle.responder_spec.specs.Answers.Reason.{unread, marked, ahead, again, forgotten, refused, executed, acknowledged, accepted, exchanged}
@@ -58,10 +58,10 @@ module _ (q : Pair) (regions entries saved : List (List ℕ)) (p : List ℕ) (t 
           let z = eqb-false (X .code) 0 e in
           subst R (sym (X .fails z)) (refused (X .code) (record { comes = c; judged = X .judged }) z)
 
-  ahead-reason : (n : ℕ) → Comes q p class.Ahead → Aheads (q .mark) n → R n
-  ahead-reason n c A = go (q .mark) refl
+  ahead-reason : (n : ℕ) → Comes q p class.Ahead → Aheads (q .nakmark) n → R n
+  ahead-reason n c A = go (q .nakmark) refl
     where
-      go : (b : Bool) → q .mark ≡ b → R n
+      go : (b : Bool) → q .nakmark ≡ b → R n
       go true e = subst R (sym (A .quiet e)) (marked c e)
       go false e = subst R (sym (A .naks e)) (ahead c e)
 
@@ -102,7 +102,7 @@ module _ (q : Pair) (regions entries saved : List (List ℕ)) (p : List ℕ) (t 
   duplicate-reason : (n : ℕ) → Comes q p class.Duplicate → Repeats q regions saved k t n → R n
   duplicate-reason n c D = go (kinds (k .kind))
     where
-      reread : k .kind ≡ 12 → (b : Bool) → againFails k (q .setup) t (q .expected) (regionOf (t .key) regions) ≡ b → R n
+      reread : k .kind ≡ 12 → (b : Bool) → duplicateReadFails k (q .setup) t (q .expected) (regionOf (t .key) regions) ≡ b → R n
       reread r false e =
           let A = again-tested q regions k t .0 e in
           subst R (sym (D .reads r A)) (again c (inr (inl (r, A))))
@@ -130,7 +130,7 @@ module _ (q : Pair) (regions entries saved : List (List ℕ)) (p : List ℕ) (t 
 
       go : Served (k .kind) ⊎ (Served (k .kind) → ⊥) → R n
       go (inl (inl x)) = subst R (sym (D .carried x)) (again c (inl x))
-      go (inl (inr (inl r))) = reread r (againFails k (q .setup) t (q .expected) (regionOf (t .key) regions)) refl
+      go (inl (inr (inl r))) = reread r (duplicateReadFails k (q .setup) t (q .expected) (regionOf (t .key) regions)) refl
       go (inl (inr (inr a))) = reswap a (newestSaved (k .psn .0) saved (q .saved)) refl
       go (inr s) = subst R (sym (D .other s)) (forgotten c none)
         where

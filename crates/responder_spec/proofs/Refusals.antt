@@ -18,7 +18,7 @@ use Rattle.pair.proofs.Known.{unsound, sound}
 use Rattle.pair.proofs.Tests.{tested}
 use Rattle.request_spec.specs.declared.Packet.{Packet}
 use Rattle.responder_spec.specs.declared.Decision.{Decision}
-use Rattle.responder_spec.specs.Decide.{quietly, acknowledging, placing, swapping, readsFull, inboundRefusal, decided}
+use Rattle.responder_spec.specs.Decide.{noReply, acknowledging, storePayload, runAtomic, readsFull, inboundRefusal, decided}
 use Rattle.responder_spec.specs.Reply.{over}
 use Rattle.responder_spec.specs.Response.{nextStatus, nextResponse, nextOut}
 use Rattle.responder_spec.specs.Inbound.{outcomeBy, decision, inbound}
@@ -36,7 +36,7 @@ use Rattle.responder_spec.proofs.Effects.{silent}
 refused : (q : Pair) (regions entries saved : List (List ℕ)) (m p out : List ℕ) (a : Status)
     → inboundRefusal q (length m) (length out) ≡ a → executed a ≡ false
     → statusNumber (inbound q regions entries saved m p out .status) ≡ statusNumber a
-unfolding inbound outcomeBy decision decided quietly
+unfolding inbound outcomeBy decision decided noReply
 refused q regions entries saved m p out a e n = rw (e, n)
 
 -- both ways to 34
@@ -69,7 +69,7 @@ inbound-unfinished q regions entries saved m p out h e S r =
 -- the answer of a packet that is looked at: a quiet one, or one up to 19
 late : (Q T : Status → Type 0) → ((a : Status) → Q a → T a) → ((a : Status) → statusNumber a ≤ 19 → T a)
     → (q : Pair) (regions saved : List (List ℕ)) (k : Packet) (d : Decision) → Row Q q regions saved k d → T (d .status)
-unfolding statusNumber quietly acknowledging placing swapping
+unfolding statusNumber noReply acknowledging storePayload runAtomic
 late Q T f g q regions saved k d (quiet a x) = f a x
 late Q T f g q regions saved k d ahead = g status.SequenceNak (omega arith)
 late Q T f g q regions saved k d invalid = g status.InvalidRequestNak (omega arith)
@@ -88,7 +88,7 @@ late Q T f g q regions saved k d (swap t region w) = g status.AtomicExecuted (om
 
 uc-late : (Q T : Status → Type 0) → ((a : Status) → Q a → T a) → ((a : Status) → statusNumber a ≤ 19 → T a)
     → (q : Pair) (k : Packet) (d : Decision) → UcRow Q q k d → T (d .status)
-unfolding statusNumber quietly
+unfolding statusNumber noReply
 uc-late Q T f g q k d (unheard a x) = f a x
 uc-late Q T f g q k d (abandon h) = g status.Abandoned (omega arith)
 uc-late Q T f g q k d (deliver t entry region w) = g status.Executed (omega arith)
@@ -165,7 +165,7 @@ module _ (q : Pair) (m out : List ℕ) where
   next-refused : (a : Status) → nextStatus q (length m) (length out) ≡ a → executed a ≡ false → NextRefused q m out (statusNumber a)
   unfolding nextResponse nextOut
   next-refused a e n =
-      record { number = ap statusNumber e; pair = rw (e, n); completion = silent; sent = rw (e, n); out = rw (e, n) }
+      record { number = ap statusNumber e; pair = rw (e, n); completion = silent; outgoing = rw (e, n); out = rw (e, n) }
 
   next-done : nextStatus q (length m) (length out) ≡ status.Executed → NextDone q m out
   unfolding nextResponse nextOut executed statusNumber over
@@ -174,10 +174,10 @@ module _ (q : Pair) (m out : List ℕ) where
         number = rw e;
         fixed = rw e (record { setup = refl; expected = refl; msn = refl; message = refl; entries = refl; saved = refl });
         state = rw e;
-        mark = rw e;
+        nakmark = rw e;
         read = rw e (record { remaining = refl; offset = refl; length = refl; psn = refl; msn = refl });
         completion = silent;
-        sent = rw e;
+        outgoing = rw e;
         out = rw e;
       }
 

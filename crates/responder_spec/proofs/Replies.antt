@@ -53,7 +53,7 @@ use Rattle.responder_spec.proofs.Rows.UcRow.{unheard, abandon, deliver}
 use Rattle.responder_spec.proofs.Rows.AnyRow.{reliable, unreliable}
 use Rattle.responder_spec.proofs.Rows.{UcRow, AnyRow, Quiet, Late, Row, either, numbersOf, passed, refusal-quiet, taken-row}
 use Rattle.responder_spec.proofs.Effects.{leftBy, act-by}
-use Rattle.responder_spec.specs.Decide.{acknowledging, still, psnBefore, placing, swapping, quietly, inboundRefusal, decided}
+use Rattle.responder_spec.specs.Decide.{acknowledging, replyOnly, psnBefore, storePayload, runAtomic, noReply, inboundRefusal, decided}
 use Rattle.responder_spec.specs.Reply.{replyHeader, ackHeader, atomicHeader, answerBytes, valueBy, over, outBy}
 
 -- a header alone, written into an output: it reads back, and the rest stays
@@ -105,14 +105,14 @@ value-fits s psn syndrome msn v w b =
     (extension-fits (classOf 18 .follows) (h .extension) refl ((w .byte, w .msn24), b))
 
 -- what a decision that sends 16 or 24 bytes writes
-ack-out : (s : Setup) (d : Decision) (msn : Msn) (m out : List ℕ) → d .sent ≡ 16 → Wide s (d .psn) (d .syndrome) msn
+ack-out : (s : Setup) (d : Decision) (msn : Msn) (m out : List ℕ) → d .outgoing ≡ 16 → Wide s (d .psn) (d .syndrome) msn
     → (readHeader (take 16 (outBy s d msn m out)) ≡ Accepted (ackHeader s (d .psn) (d .syndrome) msn))
     × (drop 16 (outBy s d msn m out) ≡ drop 16 out)
 unfolding outBy answerBytes headerLength ackHeader replyHeader classOf lowClass followsOf lengthOf
 ack-out s d msn m out e w =
     rw e (alone (ackHeader s (d .psn) (d .syndrome) msn) out 16 (ack-fits s (d .psn) (d .syndrome) msn w) refl (omega arith))
 
-value-out : (s : Setup) (d : Decision) (msn : Msn) (m out : List ℕ) → d .sent ≡ 24 → Wide s (d .psn) (d .syndrome) msn → valueBy d m < 2 ^ 64
+value-out : (s : Setup) (d : Decision) (msn : Msn) (m out : List ℕ) → d .outgoing ≡ 24 → Wide s (d .psn) (d .syndrome) msn → valueBy d m < 2 ^ 64
     → (readHeader (take 24 (outBy s d msn m out)) ≡ Accepted (atomicHeader s (d .psn) (d .syndrome) msn (valueBy d m)))
     × (drop 24 (outBy s d msn m out) ≡ drop 24 out)
 unfolding outBy answerBytes headerLength atomicHeader replyHeader classOf lowClass followsOf lengthOf valueBy
@@ -178,21 +178,21 @@ module _ (q : Pair) (saved : List (List ℕ)) (m p out : List ℕ) (S : Sound q)
   wide d x y =
       record { pkey = P; dest = S .setup .0 .theirs; psn24 = x; byte = y; msn24 = msn-small q d S }
 
-  ack-sent : (d : Decision) → d .sent ≡ 16 → d .psn .0 < 2 ^ 24 → d .syndrome < 2 ^ 8
+  ack-sent : (d : Decision) → d .outgoing ≡ 16 → d .psn .0 < 2 ^ 24 → d .syndrome < 2 ^ 8
       → AckSent q out (leftBy q saved m p out d) (d .psn) (d .syndrome)
   unfolding leftBy outcomeBy ackHeader replyHeader
   ack-sent d e x y =
       let O = ack-out (q .setup) d (pairBy q d .msn) m out e (wide d x y) in
-      record { sent = e; packet = O .0; behind = O .1 }
+      record { outgoing = e; packet = O .0; behind = O .1 }
 
-  value-sent : (d : Decision) (v : ℕ) → d .sent ≡ 24 → d .psn .0 < 2 ^ 24 → d .syndrome ≡ 31 → valueBy d m ≡ v → v < 2 ^ 64
+  value-sent : (d : Decision) (v : ℕ) → d .outgoing ≡ 24 → d .psn .0 < 2 ^ 24 → d .syndrome ≡ 31 → valueBy d m ≡ v → v < 2 ^ 64
       → ValueSent q out (leftBy q saved m p out d) (d .psn) v
   unfolding leftBy outcomeBy atomicHeader replyHeader
   value-sent d v e x y ev b =
       let O = value-out (q .setup) d (pairBy q d .msn) m out e (wide d x (omega arith)) (subst (λ z. z < 2 ^ 64) (sym ev) b) in
       let h : Accepted (atomicHeader (q .setup) (d .psn) (d .syndrome) (pairBy q d .msn) (valueBy d m)) ≡ Accepted (atomicHeader (q .setup) (d .psn) 31 (pairBy q d .msn) v) =
       λ i. Accepted (atomicHeader (q .setup) (d .psn) (y i) (pairBy q d .msn) (ev i)) in
-      record { sent = e; packet = O .0 ∙ h; behind = O .1 }
+      record { outgoing = e; packet = O .0 ∙ h; behind = O .1 }
 
 -- what each answer sends
 module _ (q : Pair) (saved : List (List ℕ)) (m p out : List ℕ) where
@@ -203,7 +203,7 @@ module _ (q : Pair) (saved : List (List ℕ)) (m p out : List ℕ) where
   abbrev Repeated : Left → Type 0
   Repeated l =
       AckSent q out l (psnAfter (q .expected) 16777215) 31
-      ⊎ (((v : ℕ) × (newestSaved (bthOf p .psn .0) saved (q .saved) ≡ Value v) × ValueSent q out l (bthOf p .psn) v) ⊎ (l .sent ≡ 0))
+      ⊎ (((v : ℕ) × (newestSaved (bthOf p .psn .0) saved (q .saved) ≡ Value v) × ValueSent q out l (bthOf p .psn) v) ⊎ (l .outgoing ≡ 0))
 
   abbrev Reply : Status → Left → Type 0
   Reply status.Executed l = Unit {0}
@@ -228,17 +228,17 @@ module _ (q : Pair) (saved : List (List ℕ)) (m p out : List ℕ) where
 
   module _ (S : Sound q) (P : q .setup .pkey < 2 ^ 16) (M : Bytes m) (B : Bytes p) (W : SavedSound saved (q .saved)) where
     place-reply : (t : OpenMessage) (entry region : List ℕ) (b : Bool) → numbersOf p .ackreq ≡ b
-        → Reply (cond b status.Acknowledged status.Executed) (leftBy q saved m p out (placing (numbersOf p) t entry region))
-    unfolding placing packetOf headerOf
+        → Reply (cond b status.Acknowledged status.Executed) (leftBy q saved m p out (storePayload (numbersOf p) t entry region))
+    unfolding storePayload packetOf headerOf
     place-reply t entry region true e =
-        ack-sent q saved m p out S P (placing (numbersOf p) t entry region) (ap (λ b. cond b 16 0) e) (psn-small p B) (omega arith)
+        ack-sent q saved m p out S P (storePayload (numbersOf p) t entry region) (ap (λ b. cond b 16 0) e) (psn-small p B) (omega arith)
     place-reply t entry region false e = tt
 
-    swap-reply : (t : OpenMessage) (region : List ℕ) → Swapped (leftBy q saved m p out (swapping (numbersOf p) t (q .message) region))
-    unfolding leftBy valueBy savedBy actsAtomic swapping packetOf headerOf
+    swap-reply : (t : OpenMessage) (region : List ℕ) → Swapped (leftBy q saved m p out (runAtomic (numbersOf p) t (q .message) region))
+    unfolding leftBy valueBy savedBy actsAtomic runAtomic packetOf headerOf
     swap-reply t region =
         let k = numbersOf p in
-        let d = swapping k t (q .message) region in
+        let d = runAtomic k t (q .message) region in
         let w = wordAt m (d .at) in (
           d .at,
           value-sent q saved m p out S P d w refl (psn-small p B) refl (act-by (λ a. cond (actsAtomic a) w 0 ≡ w) refl refl (eqb (k .kind) 20)) (word-below m (d .at) M),
@@ -246,7 +246,7 @@ module _ (q : Pair) (saved : List (List ℕ)) (m p out : List ℕ) where
         )
 
     reply : (regions : List (List ℕ)) (d : Decision) → Row Late q regions saved (numbersOf p) d → Reply (d .status) (leftBy q saved m p out d)
-    unfolding quietly acknowledging placing swapping packetOf headerOf leftBy outcomeBy psnBefore valueBy actsAtomic
+    unfolding noReply acknowledging storePayload runAtomic packetOf headerOf leftBy outcomeBy psnBefore valueBy actsAtomic
     reply regions d (quiet a unread) = tt
     reply regions d (quiet a outside) = tt
     reply regions d ahead = ack-sent q saved m p out S P (acknowledging status.SequenceNak (q .expected) 96) refl (S .expected) (omega arith)
@@ -259,14 +259,14 @@ module _ (q : Pair) (saved : List (List ℕ)) (m p out : List ℕ) where
         inl (ack-sent q saved m p out S P (acknowledging status.DuplicateAnswered (psnBefore (q .expected)) 31) refl (after-below (q .expected) _) (omega arith))
     reply regions d (reread at n a s) = inr (inr refl)
     reply regions d (reswap v e) =
-        inr (inl (v, e, value-sent q saved m p out S P (still status.DuplicateAnswered 24 (bthOf p .psn) 31 v) v refl (psn-small p B) refl refl (subst Small e (saved-small (bthOf p .psn .0) saved (q .saved) W))))
+        inr (inl (v, e, value-sent q saved m p out S P (replyOnly status.DuplicateAnswered 24 (bthOf p .psn) 31 v) v refl (psn-small p B) refl refl (subst Small e (saved-small (bthOf p .psn .0) saved (q .saved) W))))
     reply regions d (place t entry region w) = place-reply t entry region (numbersOf p .ackreq) refl
     reply regions d (begin at n a s) = tt
     reply regions d (swap t region w) = swap-reply t region
 
     -- the unreliable connection sends nothing
     uc-reply : (d : Decision) → UcRow Late q (numbersOf p) d → Reply (d .status) (leftBy q saved m p out d)
-    unfolding quietly
+    unfolding noReply
     uc-reply d (unheard a unread) = tt
     uc-reply d (unheard a outside) = tt
     uc-reply d (abandon h) = tt
@@ -302,7 +302,7 @@ module _ (q : Pair) (saved : List (List ℕ)) (m p out : List ℕ) where
 refused-status : (q : Pair) (regions entries saved : List (List ℕ)) (memory : ℕ) (p : List ℕ) (room : ℕ)
     → executed (inboundRefusal q memory room) ≡ false
     → decided q regions entries saved memory p room .status ≡ inboundRefusal q memory room
-unfolding decided quietly
+unfolding decided noReply
 refused-status q regions entries saved memory p room e = rw e
 
 pub inbound-replies : InboundReplies

@@ -35,10 +35,10 @@ use Rattle.pair.specs.declared.Status.{Status}
 use Rattle.pair.specs.declared.Status.the-variants as status
 use Rattle.pair.proofs.Tests.{tested}
 use Rattle.request_spec.specs.Packet.{operandsOf, packetOf}
-use Rattle.request_spec.specs.Verdict.{carrying, notEnabled, overLimit, keyFails, spot, netOf, current, requestCode, expectedCode}
+use Rattle.request_spec.specs.Verdict.{carrying, notEnabled, overLimit, keyFails, memoryOffset, payloadSize, current, requestCode, expectedCode}
 use Rattle.request_spec.specs.declared.Packet.{Packet}
 use Rattle.responder_spec.specs.declared.Decision.{Decision}
-use Rattle.responder_spec.specs.Decide.{still, quietly, acknowledging, aheadDecision, failed, placeOf, placing, swapping, reading, accepting, executing, settled, expectedDecision, psnBefore, againFails, readAgain, atomicAgain, isAtomic, duplicateDecision, regionFor, headEntry, classed, rcDecision, orphaned, strays, closedBy, abandoning, unanswered, delivering, ucSettled, ucDecision, packetDecision, orDrop, readsFull, inboundRefusal, decided}
+use Rattle.responder_spec.specs.Decide.{replyOnly, noReply, acknowledging, aheadDecision, failed, targetOffset, storePayload, runAtomic, beginRead, acceptRead, execute, checkedDecision, expectedDecision, psnBefore, duplicateReadFails, duplicateRead, duplicateAtomic, isAtomic, duplicateDecision, regionFor, headEntry, decisionByClass, rcDecision, orphaned, strays, closedBy, abandoning, unanswered, ucExecute, ucCheckedDecision, ucDecision, packetDecision, orDrop, readsFull, inboundRefusal, decided}
 use Rattle.responder_spec.proofs.Codes.Bare.{reads, swaps, adds}
 use Rattle.responder_spec.proofs.Codes.{Codes, codes, Passed, passes, Bare, class-is}
 use Rattle.responder_spec.proofs.Inside.{own-inside, place-inside}
@@ -59,26 +59,26 @@ pub data Late : Status → Type 0 where
 pub record Asks (memory : ℕ) (regions : List (List ℕ)) (p : Packet) (spots n : ℕ) : Type 0 where
   pub kind : p .kind ≡ 12
   pub length : n ≡ p .operands .length
-  pub at : spots ≡ spot (regionOf (p .operands .key) regions) (p .operands .address) (p .operands .length)
+  pub at : spots ≡ memoryOffset (regionOf (p .operands .key) regions) (p .operands .address) (p .operands .length)
   pub within : spots + n ≤ memory
 
 -- by which answers may be quiet, the pair, regions, the saved atomics and the packet
 pub data Row (Q : Status → Type 0) (q : Pair) (regions saved : List (List ℕ)) (p : Packet) : Decision → Type 0 where
-  quiet : (a : Status) → Q a → Row Q q regions saved p (quietly a)
+  quiet : (a : Status) → Q a → Row Q q regions saved p (noReply a)
   ahead : Row Q q regions saved p (acknowledging status.SequenceNak (q .expected) 96)
   invalid : Row Q q regions saved p (acknowledging status.InvalidRequestNak (p .psn) 97)
   access : Row Q q regions saved p (acknowledging status.AccessNak (p .psn) 98)
   unready : Row Q q regions saved p (acknowledging status.NotReadyNak (p .psn) (32 + q .setup .timer))
   again : Row Q q regions saved p (acknowledging status.DuplicateAnswered (psnBefore (q .expected)) 31)
   reread : (at n : ℕ) → Asks (q .setup .memory) regions p at n → 0 < pieces n (q .setup .pmtu)
-      → Row Q q regions saved p (reading status.DuplicateAnswered noMessage at n 0 false (pieces n (q .setup .pmtu)) (p .psn))
-  reswap : (v : ℕ) → newestSaved (p .psn .0) saved (q .saved) ≡ Value v → Row Q q regions saved p (still status.DuplicateAnswered 24 (p .psn) 31 v)
-  place : (m : OpenMessage) (entry region : List ℕ) → placeOf (p .kind) m entry region + netOf p ≤ q .setup .memory
-      → Row Q q regions saved p (placing p m entry region)
+      → Row Q q regions saved p (beginRead status.DuplicateAnswered noMessage at n 0 false (pieces n (q .setup .pmtu)) (p .psn))
+  reswap : (v : ℕ) → newestSaved (p .psn .0) saved (q .saved) ≡ Value v → Row Q q regions saved p (replyOnly status.DuplicateAnswered 24 (p .psn) 31 v)
+  place : (m : OpenMessage) (entry region : List ℕ) → targetOffset (p .kind) m entry region + payloadSize p ≤ q .setup .memory
+      → Row Q q regions saved p (storePayload p m entry region)
   begin : (at n : ℕ) → Asks (q .setup .memory) regions p at n → 0 < pieces n (q .setup .pmtu)
-      → Row Q q regions saved p (reading status.ReadAccepted (q .message) at n (pieces n (q .setup .pmtu)) true (pieces n (q .setup .pmtu)) (p .psn))
-  swap : (m : OpenMessage) (region : List ℕ) → spot region (m .address) (m .length) + 8 ≤ q .setup .memory
-      → Row Q q regions saved p (swapping p m (q .message) region)
+      → Row Q q regions saved p (beginRead status.ReadAccepted (q .message) at n (pieces n (q .setup .pmtu)) true (pieces n (q .setup .pmtu)) (p .psn))
+  swap : (m : OpenMessage) (region : List ℕ) → memoryOffset region (m .address) (m .length) + 8 ≤ q .setup .memory
+      → Row Q q regions saved p (runAtomic p m (q .message) region)
 
 -- a fact of both sides of a test is one of the test
 pub either : {A : Type 0} (P : A → Type 0) (b : Bool) {x y : A} → P x → P y → P (cond b x y)
@@ -135,13 +135,13 @@ module _ (Q : Status → Type 0) (shut : Q status.Dropped) (q : Pair) (regions e
   M = current (q .message) p
 
   own : starts (p .place) ≡ true
-      → M ≡ (record { kind = p .kind; placed = 0; address = p .operands .address; key = p .operands .key; length = p .operands .length })
+      → M ≡ (record { kind = p .kind; stored = 0; address = p .operands .address; key = p .operands .key; length = p .operands .length })
   unfolding current
   own h = rw h
 
   -- a READ whose key is good
   asks : p .kind ≡ 12 → (k : ℕ) → eqb k 0 ≡ false → keyFails (q .setup .memory) k M (regionBy q regions p) ≡ false
-      → Asks (q .setup .memory) regions p (spot (regionBy q regions p) (M .address) (M .length)) (M .length)
+      → Asks (q .setup .memory) regions p (memoryOffset (regionBy q regions p) (M .address) (M .length)) (M .length)
   unfolding regionFor
   asks e k n h =
       let c = own (F .one 12 reads e) in
@@ -149,18 +149,18 @@ module _ (Q : Status → Type 0) (shut : Q status.Dropped) (q : Pair) (regions e
         kind = e;
         length = ap (λ x. x .length) c;
         at =
-            ap (λ x. spot (regionFor (p .kind) (x .key) regions) (x .address) (x .length)) c
-            ∙ ap (λ k. spot (regionFor k (p .operands .key) regions) (p .operands .address) (p .operands .length)) e;
-        within = own-inside k (q .setup .memory) M (regionBy q regions p) n h (ap (λ x. x .placed) c);
+            ap (λ x. memoryOffset (regionFor (p .kind) (x .key) regions) (x .address) (x .length)) c
+            ∙ ap (λ k. memoryOffset (regionFor k (p .operands .key) regions) (p .operands .address) (p .operands .length)) e;
+        within = own-inside k (q .setup .memory) M (regionBy q regions p) n h (ap (λ x. x .stored) c);
       }
 
   -- an atomic, whose key holds 8 bytes
   eight-inside : (p .kind ≡ 19) ⊎ (p .kind ≡ 20) → keyFails (q .setup .memory) (p .kind) M (regionBy q regions p) ≡ false
-      → spot (regionBy q regions p) (M .address) (M .length) + 8 ≤ q .setup .memory
+      → memoryOffset (regionBy q regions p) (M .address) (M .length) + 8 ≤ q .setup .memory
   eight-inside e h =
       let c = own (first e) in
       let n : M .length ≡ 8 = ap (λ x. x .length) c ∙ F .eight e in
-      omega (arith, n, own-inside (p .kind) (q .setup .memory) M (regionBy q regions p) (not-send e) h (ap (λ x. x .placed) c))
+      omega (arith, n, own-inside (p .kind) (q .setup .memory) M (regionBy q regions p) (not-send e) h (ap (λ x. x .stored) c))
     where
       first : (p .kind ≡ 19) ⊎ (p .kind ≡ 20) → starts (p .place) ≡ true
       first (inl x) = F .one 19 swaps x
@@ -171,28 +171,28 @@ module _ (Q : Status → Type 0) (shut : Q status.Dropped) (q : Pair) (regions e
       not-send (inr x) = ne-eqb (p .kind) 0 (λ z. omega arith)
 
   executing-row : (entry : List ℕ) → Passed (q .setup) (q .message) p entry (regionBy q regions p)
-      → R (executing p M (q .message) entry (regionBy q regions p) (q .setup .pmtu))
-  unfolding executing accepting
+      → R (execute p M (q .message) entry (regionBy q regions p) (q .setup .pmtu))
+  unfolding execute acceptRead
   executing-row entry P =
       branch R (carrying (p .kind))
       (λ c. place M entry (regionBy q regions p) (place-inside (q .setup) (q .message) p entry (regionBy q regions p) P c))
       (λ c. branch R (eqb (p .kind) 12)
-      (λ e. begin (spot (regionBy q regions p) (M .address) (M .length)) (M .length) (asks (eqb-true (p .kind) 12 e) (p .kind) (not-send e) (P .key)) (count-some q S (M .length)))
+      (λ e. begin (memoryOffset (regionBy q regions p) (M .address) (M .length)) (M .length) (asks (eqb-true (p .kind) 12 e) (p .kind) (not-send e) (P .key)) (count-some q S (M .length)))
       (λ e. swap M (regionBy q regions p) (eight-inside (atomic-kind (q .setup) (p .kind) (P .enabled) c e) (P .key))))
     where
       not-send : eqb (p .kind) 12 ≡ true → eqb (p .kind) 0 ≡ false
       not-send e = let k : p .kind ≡ 12 = eqb-true (p .kind) 12 e in ne-eqb (p .kind) 0 (λ z. omega arith)
 
   settled-row : (entry : List ℕ) (code : ℕ) → Codes code → (code ≡ 0 → Passed (q .setup) (q .message) p entry (regionBy q regions p))
-      → (code ≡ 34 → Q status.OutOfRange) → R (settled code p (q .setup) (q .message) entry (regionBy q regions p))
-  unfolding settled failed
+      → (code ≡ 34 → Q status.OutOfRange) → R (checkedDecision code p (q .setup) (q .message) entry (regionBy q regions p))
+  unfolding checkedDecision failed
   settled-row entry code (inl e) P o =
-      subst (λ c. R (settled c p (q .setup) (q .message) entry (regionBy q regions p))) (sym e) (executing-row entry (P e))
-  settled-row entry code (inr (inl e)) P o = subst (λ c. R (settled c p (q .setup) (q .message) entry (regionBy q regions p))) (sym e) invalid
-  settled-row entry code (inr (inr (inl e))) P o = subst (λ c. R (settled c p (q .setup) (q .message) entry (regionBy q regions p))) (sym e) access
-  settled-row entry code (inr (inr (inr (inl e)))) P o = subst (λ c. R (settled c p (q .setup) (q .message) entry (regionBy q regions p))) (sym e) unready
+      subst (λ c. R (checkedDecision c p (q .setup) (q .message) entry (regionBy q regions p))) (sym e) (executing-row entry (P e))
+  settled-row entry code (inr (inl e)) P o = subst (λ c. R (checkedDecision c p (q .setup) (q .message) entry (regionBy q regions p))) (sym e) invalid
+  settled-row entry code (inr (inr (inl e))) P o = subst (λ c. R (checkedDecision c p (q .setup) (q .message) entry (regionBy q regions p))) (sym e) access
+  settled-row entry code (inr (inr (inr (inl e)))) P o = subst (λ c. R (checkedDecision c p (q .setup) (q .message) entry (regionBy q regions p))) (sym e) unready
   settled-row entry code (inr (inr (inr (inr (inl e))))) P o =
-      subst (λ c. R (settled c p (q .setup) (q .message) entry (regionBy q regions p))) (sym e) (quiet status.OutOfRange (o e))
+      subst (λ c. R (checkedDecision c p (q .setup) (q .message) entry (regionBy q regions p))) (sym e) (quiet status.OutOfRange (o e))
 
   expected-row : R (expectedDecision p (q .setup) (q .message) (q .entries .count) (headEntry q entries) (regionBy q regions p))
   unfolding expectedDecision
@@ -201,30 +201,30 @@ module _ (Q : Status → Type 0) (shut : Q status.Dropped) (q : Pair) (regions e
       (codes (q .setup) (q .message) p (q .entries .count) (headEntry q entries) (regionBy q regions p))
       (passes (q .setup) (q .message) p (q .entries .count) (headEntry q entries) (regionBy q regions p)) (off (regionBy q regions p))
 
-  ahead-row : R (aheadDecision (q .mark) (q .expected))
+  ahead-row : R (aheadDecision (q .nakmark) (q .expected))
   unfolding aheadDecision
-  ahead-row = either R (q .mark) (quiet status.Dropped shut) ahead
+  ahead-row = either R (q .nakmark) (quiet status.Dropped shut) ahead
 
-  atomic-row : (s : Saved) → newestSaved (p .psn .0) saved (q .saved) ≡ s → R (atomicAgain s (p .psn))
+  atomic-row : (s : Saved) → newestSaved (p .psn .0) saved (q .saved) ≡ s → R (duplicateAtomic s (p .psn))
   atomic-row (Value v) e = reswap v e
   atomic-row Nothing e = quiet status.Dropped shut
 
-  again-key : againFails p (q .setup) M (q .expected) (regionBy q regions p) ≡ false → keyFails (q .setup .memory) 12 M (regionBy q regions p) ≡ false
-  unfolding againFails
+  again-key : duplicateReadFails p (q .setup) M (q .expected) (regionBy q regions p) ≡ false → keyFails (q .setup .memory) 12 M (regionBy q regions p) ≡ false
+  unfolding duplicateReadFails
   again-key h =
       or-left (keyFails (q .setup .memory) 12 M (regionBy q regions p)) _
-      (or-right (not (eqb (p .pad) 0)) _ (or-right (not (eqb (p .raw) 0)) _ (or-right (overLimit (M .length)) _ (or-right (notEnabled (q .setup) 12) _ h))))
+      (or-right (not (eqb (p .pad) 0)) _ (or-right (not (eqb (p .padded) 0)) _ (or-right (overLimit (M .length)) _ (or-right (notEnabled (q .setup) 12) _ h))))
 
   duplicate-row : R (duplicateDecision p (q .setup) (q .expected) M (regionBy q regions p) (newestSaved (p .psn .0) saved (q .saved)))
-  unfolding duplicateDecision readAgain
+  unfolding duplicateDecision duplicateRead
   duplicate-row =
       either R (carrying (p .kind)) again
       (branch R (eqb (p .kind) 12)
-      (λ e. branch R (againFails p (q .setup) M (q .expected) (regionBy q regions p)) (λ f. quiet status.Dropped shut)
-      (λ f. reread (spot (regionBy q regions p) (M .address) (M .length)) (M .length) (asks (eqb-true (p .kind) 12 e) 12 refl (again-key f)) (count-some q S (M .length))))
+      (λ e. branch R (duplicateReadFails p (q .setup) M (q .expected) (regionBy q regions p)) (λ f. quiet status.Dropped shut)
+      (λ f. reread (memoryOffset (regionBy q regions p) (M .address) (M .length)) (M .length) (asks (eqb-true (p .kind) 12 e) 12 refl (again-key f)) (count-some q S (M .length))))
       (λ e. either R (isAtomic (p .kind)) (atomic-row (newestSaved (p .psn .0) saved (q .saved)) refl) (quiet status.Dropped shut)))
 
-  classed-row : (c : Class) → R (classed c q p (headEntry q entries) (regionBy q regions p) (newestSaved (p .psn .0) saved (q .saved)))
+  classed-row : (c : Class) → R (decisionByClass c q p (headEntry q entries) (regionBy q regions p) (newestSaved (p .psn .0) saved (q .saved)))
   classed-row class.Expected = expected-row
   classed-row class.Ahead = ahead-row
   classed-row class.Duplicate = duplicate-row
@@ -235,10 +235,10 @@ module _ (Q : Status → Type 0) (shut : Q status.Dropped) (q : Pair) (regions e
 
 -- on the unreliable connection: quiet, abandoned, or placed
 pub data UcRow (Q : Status → Type 0) (q : Pair) (p : Packet) : Decision → Type 0 where
-  unheard : (a : Status) → Q a → UcRow Q q p (quietly a)
-  abandon : (q .message .kind ≡ 255 → ⊥) → UcRow Q q p (quietly status.Abandoned)
-  deliver : (m : OpenMessage) (entry region : List ℕ) → placeOf (p .kind) m entry region + netOf p ≤ q .setup .memory
-      → UcRow Q q p (unanswered (1 + distance (p .psn .0) (q .expected .0)) (placing p m entry region))
+  unheard : (a : Status) → Q a → UcRow Q q p (noReply a)
+  abandon : (q .message .kind ≡ 255 → ⊥) → UcRow Q q p (noReply status.Abandoned)
+  deliver : (m : OpenMessage) (entry region : List ℕ) → targetOffset (p .kind) m entry region + payloadSize p ≤ q .setup .memory
+      → UcRow Q q p (unanswered (1 + distance (p .psn .0) (q .expected .0)) (storePayload p m entry region))
 
 module _ (Q : Status → Type 0) (shut : Q status.Dropped) (q : Pair) (regions entries : List (List ℕ)) (p : Packet)
     (off : Off Q (viewed (p .place) q) entries p) where
@@ -247,13 +247,13 @@ module _ (Q : Status → Type 0) (shut : Q status.Dropped) (q : Pair) (regions e
 
   uc-settled : (entry region : List ℕ) (code : ℕ) → (code ≡ 0 → Passed (q .setup) (closedBy (p .place) (q .message)) p entry region)
       → (code ≡ 34 → Q status.OutOfRange)
-      → U (ucSettled code p (q .expected) (q .message) entry region)
-  unfolding ucSettled delivering abandoning
+      → U (ucCheckedDecision code p (q .expected) (q .message) entry region)
+  unfolding ucCheckedDecision ucExecute abandoning
   uc-settled entry region code P o =
       branch U (eqb code 0)
       (λ z. branch U (carrying (p .kind))
       (λ c. deliver (current (q .message) p) entry region
-      (subst (λ m. placeOf (p .kind) m entry region + netOf p ≤ q .setup .memory) (current-closed (q .message) p)
+      (subst (λ m. targetOffset (p .kind) m entry region + payloadSize p ≤ q .setup .memory) (current-closed (q .message) p)
       (place-inside (q .setup) (closedBy (p .place) (q .message)) p entry region (P (eqb-true code 0 z)) c)))
       (λ c. unheard status.Dropped shut))
       (λ z. branch U (eqb code 34) (λ e. unheard status.OutOfRange (o (eqb-true code 34 e)))
@@ -264,13 +264,13 @@ module _ (Q : Status → Type 0) (shut : Q status.Dropped) (q : Pair) (regions e
   uc-row =
       let entry = headEntry q entries in
       let region = regionBy q regions p in
-      let under = closedBy (p .place) (q .message) in
-      let code = requestCode (q .setup) under p (q .entries .count) entry region in
+      let opened = closedBy (p .place) (q .message) in
+      let code = requestCode (q .setup) opened p (q .entries .count) entry region in
       branch U (orphaned (p .place) (q .message .kind)) (λ h. unheard status.Dropped shut)
       (λ h. branch U (strays p (q .expected) (q .message .kind)) (λ t. abandon (stray-open p (q .expected) (q .message .kind) h t))
       (λ t.
       let e = same-code (q .setup) (q .message) p (q .expected) (q .entries .count) entry region t in
-      uc-settled entry region code (λ z. passes (q .setup) under p (q .entries .count) entry region (e ∙ z)) (λ z. off region (e ∙ z))))
+      uc-settled entry region code (λ z. passes (q .setup) opened p (q .entries .count) entry region (e ∙ z)) (λ z. off region (e ∙ z))))
 
 -- by the service
 pub data AnyRow (Q : Status → Type 0) (q : Pair) (regions saved : List (List ℕ)) (p : Packet) (d : Decision) : Type 0 where
@@ -282,10 +282,10 @@ pub record AnyOff (Q : Status → Type 0) (q : Pair) (entries : List (List ℕ))
   pub rc : Off Q q entries p
   pub uc : Off Q (viewed (p .place) q) entries p
 
-quiet-row : (Q : Status → Type 0) (q : Pair) (regions saved : List (List ℕ)) (p : Packet) (a : Status) → Q a → AnyRow Q q regions saved p (quietly a)
+quiet-row : (Q : Status → Type 0) (q : Pair) (regions saved : List (List ℕ)) (p : Packet) (a : Status) → Q a → AnyRow Q q regions saved p (noReply a)
 quiet-row Q q regions saved p a h = go (eqb (q .setup .service) 1) refl
   where
-    go : (b : Bool) → eqb (q .setup .service) 1 ≡ b → AnyRow Q q regions saved p (quietly a)
+    go : (b : Bool) → eqb (q .setup .service) 1 ≡ b → AnyRow Q q regions saved p (noReply a)
     go true e = unreliable e (unheard a h)
     go false e = reliable e (quiet a h)
 
@@ -329,7 +329,7 @@ abbrev pub numbersOf : List ℕ → Packet
 numbersOf p = packetOf (headerOf p) (length p)
 
 starting : (k : ℕ) → Bare k → starts (lowClass k .place) ≡ true
-unfolding lowClass Opcode.placeOf starts
+unfolding lowClass Opcode.targetOffset starts
 starting k reads = refl
 starting k swaps = refl
 starting k adds = refl
@@ -375,7 +375,7 @@ decided-row q regions entries saved memory p room = go (executed (inboundRefusal
     A = admitted (q .setup .service) (q .setup .ours) (q .setup .pkey) (eqb (q .state) 1) p
 
     go : (b : Bool) → executed (inboundRefusal q memory room) ≡ b
-        → AnyRow Quiet q regions saved (numbersOf p) (cond b (D A) (quietly (inboundRefusal q memory room)))
+        → AnyRow Quiet q regions saved (numbersOf p) (cond b (D A) (noReply (inboundRefusal q memory room)))
     go true e = admitted-row Quiet dropped q regions entries saved (passed q memory room e .1) p (record { rc = λ region z. range; uc = λ region z. range }) A refl
     go false e = quiet-row Quiet q regions saved (numbersOf p) (inboundRefusal q memory room) (refusal-quiet q memory room e)
 

@@ -8,7 +8,7 @@ use lib.Dec.{eqb}
 use lib.ListN.{length, take, drop, length-append, length-drop}
 use Rattle.sequence.specs.declared.Msn.{Msn}
 use Rattle.header.specs.Write.{bthBytes, aethBytes, extensionBytes, headerBytes}
-use Rattle.memory.specs.Memory.{placed}
+use Rattle.memory.specs.Memory.{store}
 use Rattle.memory.specs.Word.{fetchAdded, swapped}
 use Rattle.memory.proofs.Put.{length-placed}
 use Rattle.memory.proofs.Words.{fetch-within, swap-within}
@@ -16,7 +16,7 @@ use Rattle.pair.specs.Answer.{executed}
 use Rattle.pair.specs.declared.Setup.{Setup}
 use Rattle.pair.specs.declared.Pair.{Pair}
 use Rattle.responder_spec.specs.declared.Decision.{Decision}
-use Rattle.responder_spec.specs.Decide.{quietly, decided, inboundRefusal}
+use Rattle.responder_spec.specs.Decide.{noReply, decided, inboundRefusal}
 use Rattle.responder_spec.specs.Apply.{memoryBy}
 use Rattle.responder_spec.specs.Reply.{replyHeader, ackHeader, atomicHeader, answerBytes, valueBy, over, outBy}
 use Rattle.responder_spec.specs.Inbound.{decision, inboundMemory, inboundOut}
@@ -28,7 +28,7 @@ unfolding memoryBy
 memory-kept d m p = go (eqb (d .act) 1) (eqb (d .act) 2) (eqb (d .act) 3) (take (d .end - d .start) (drop (d .start) p))
   where
     go : (a b c : Bool) (x : List ℕ)
-        → length (cond a (placed m (d .at) x) (cond b (fetchAdded m (d .at) (d .swap)) (cond c (swapped m (d .at) (d .compare) (d .swap)) m))) ≡ length m
+        → length (cond a (store m (d .at) x) (cond b (fetchAdded m (d .at) (d .swap)) (cond c (swapped m (d .at) (d .compare) (d .swap)) m))) ≡ length m
     go true b c x = length-placed m (d .at) x
     go false true c x = fetch-within m (d .at) (d .swap) .kept
     go false false true x = swap-within m (d .at) (d .compare) (d .swap) .kept
@@ -42,7 +42,7 @@ over-kept packet out h =
 
 answer-short : (s : Setup) (d : Decision) (msn : Msn) (value : ℕ) → length (answerBytes s d msn value) ≤ 24
 unfolding answerBytes ackHeader atomicHeader replyHeader headerBytes bthBytes extensionBytes aethBytes
-answer-short s d msn value = go (eqb (d .sent) 16) (eqb (d .sent) 24)
+answer-short s d msn value = go (eqb (d .outgoing) 16) (eqb (d .outgoing) 24)
   where
     go : (a b : Bool)
         → length (cond a (headerBytes (ackHeader s (d .psn) (d .syndrome) msn)) (cond b (headerBytes (atomicHeader s (d .psn) (d .syndrome) msn value)) [])) ≤ 24
@@ -53,7 +53,7 @@ answer-short s d msn value = go (eqb (d .sent) 16) (eqb (d .sent) 24)
 nothing : (q : Pair) (regions entries saved : List (List ℕ)) (memory : ℕ) (p : List ℕ) (room : ℕ) (msn : Msn) (value : ℕ)
     → executed (inboundRefusal q memory room) ≡ false
     → length (answerBytes (q .setup) (decided q regions entries saved memory p room) msn value) ≡ 0
-unfolding decided answerBytes quietly
+unfolding decided answerBytes noReply
 nothing q regions entries saved memory p room msn value e = rw e
 
 -- the output has 24 bytes, or nothing is written

@@ -11,7 +11,7 @@ use borrow.Author.Tests.{eq-eqb, ne-eqb}
 use Rattle.opcode.specs.Opcode as Opcode
 use Rattle.opcode.specs.Opcode.{followsOf, lowClass}
 use Rattle.header.specs.Read.{bthOf, extensionOf, headerOf}
-use Rattle.memory.specs.Memory.{placed}
+use Rattle.memory.specs.Memory.{store}
 use Rattle.memory.specs.Word.{wordAt, fetchAdded, swapped}
 use Rattle.memory.specs.Claims.{OnlyWord}
 use Rattle.memory.proofs.Put.{placed-none}
@@ -25,18 +25,18 @@ use Rattle.pair.specs.declared.OpenMessage.{OpenMessage}
 use Rattle.pair.specs.declared.Pair.{Pair}
 use Rattle.pair.specs.declared.Status.the-variants as status
 use Rattle.request_spec.specs.Packet.{operandsOf, packetOf}
-use Rattle.request_spec.specs.Verdict.{carrying, keySpan, spot, netOf, current}
+use Rattle.request_spec.specs.Verdict.{carrying, bytesToCome, memoryOffset, payloadSize, current}
 use Rattle.request_spec.specs.Claims.{Place, InSequence, HasMore, Ends, IsAtomic, Gives, GivesRest, LengthsGood, IsCurrent, JudgedBy}
 use Rattle.request_spec.proofs.Conditions.{current-tested}
 use Rattle.request_spec.proofs.Order.{current-one, order}
 use Rattle.request_spec.proofs.Taken.{any-place}
 use Rattle.request_spec.specs.declared.Packet.{Packet}
 use Rattle.responder_spec.specs.declared.Decision.{Decision}
-use Rattle.responder_spec.specs.Decide.{completes, completionOf, grown, placeOf, placing, swapping, regionFor, headEntry, unanswered, decided}
+use Rattle.responder_spec.specs.Decide.{completes, completionOf, messageAfter, targetOffset, storePayload, runAtomic, regionFor, headEntry, unanswered, decided}
 use Rattle.responder_spec.specs.Apply.{savedBy, memoryBy, executedPair, after, pairBy}
 use Rattle.responder_spec.specs.Inbound.{outcomeBy, decision, inbound, inboundMemory, inboundSaved, inboundOut}
 use Rattle.responder_spec.specs.Effects.{Silent}
-use Rattle.responder_spec.specs.Answers.{firstEntry, OnlyBytes, Completes, Puts, packetIn, InboundPuts, OnRegion, InboundSwaps}
+use Rattle.responder_spec.specs.Answers.{entryAtHead, OnlyBytes, Completes, Puts, packetIn, InboundPuts, OnRegion, InboundSwaps}
 use Rattle.responder_spec.proofs.Codes.Bare.{swaps, adds}
 use Rattle.responder_spec.proofs.Codes.{class-is}
 use Rattle.responder_spec.proofs.Refusals.{inbound-meant}
@@ -56,7 +56,7 @@ module _ (q : Pair) (regions entries saved : List (List ℕ)) (m p : List ℕ) (
   M = current (q .message) (packetIn p)
 
   abbrev entry : List ℕ
-  entry = firstEntry q entries
+  entry = entryAtHead q entries
 
   abbrev region : List ℕ
   region = regionOf (current (q .message) (packetIn p) .key) regions
@@ -73,36 +73,36 @@ module _ (q : Pair) (regions entries saved : List (List ℕ)) (m p : List ℕ) (
       (order (q .setup) (q .message) k M (q .entries .count) (headEntry q entries) region place-known (current-tested (q .message) k place-known)))
 
   -- the bytes of a WRITE are no more than those still to come
-  rest : LengthsGood k (q .setup .pmtu) M (getD entry 2 0) → k .kind ≡ 6 → M .placed + (k .raw - k .pad) ≤ M .length
+  rest : LengthsGood k (q .setup .pmtu) M (getD entry 2 0) → k .kind ≡ 6 → M .stored + (k .padded - k .pad) ≤ M .length
   rest L e = go place-known
     where
-      go : Place (k .place) → M .placed + (k .raw - k .pad) ≤ M .length
+      go : Place (k .place) → M .stored + (k .padded - k .pad) ≤ M .length
       go (inl (inl x)) = omega (arith, L .more e (inl x))
       go (inl (inr x)) = omega (arith, L .whole e (inr x))
       go (inr (inl x)) = omega (arith, L .more e (inr x))
       go (inr (inr x)) = omega (arith, L .whole e (inl x))
 
   abbrev D : Decision
-  D = placing (packetIn p) (current (q .message) (packetIn p)) (headEntry q entries) (regionBy q regions (packetIn p))
+  D = storePayload (packetIn p) (current (q .message) (packetIn p)) (headEntry q entries) (regionBy q regions (packetIn p))
 
-  put-memory : (at : ℕ) → placeOf (k .kind) M (headEntry q entries) (regionBy q regions k) ≡ at → memoryBy D m p ≡ placed m at (payloadOf p)
-  unfolding memoryBy placing
-  put-memory at e = λ i. placed m (e i) (payload-is p i)
+  put-memory : (at : ℕ) → targetOffset (k .kind) M (headEntry q entries) (regionBy q regions k) ≡ at → memoryBy D m p ≡ store m at (payloadOf p)
+  unfolding memoryBy storePayload
+  put-memory at e = λ i. store m (e i) (payload-is p i)
 
-  at-entry : k .kind ≡ 0 → placeOf (k .kind) M (headEntry q entries) (regionBy q regions k) ≡ getD entry 1 0 + M .placed
-  unfolding placeOf
-  at-entry e = rw (eq-eqb (k .kind) 0 e) (ap (λ r. getD r 1 0 + M .placed) (head-first q entries S))
+  at-entry : k .kind ≡ 0 → targetOffset (k .kind) M (headEntry q entries) (regionBy q regions k) ≡ getD entry 1 0 + M .stored
+  unfolding targetOffset
+  at-entry e = rw (eq-eqb (k .kind) 0 e) (ap (λ r. getD r 1 0 + M .stored) (head-first q entries S))
 
-  at-region : k .kind ≡ 6 → 0 < M .length - M .placed
-      → placeOf (k .kind) M (headEntry q entries) (regionBy q regions k) ≡ getD region 3 0 + (M .address + M .placed - getD region 1 0)
-  unfolding placeOf spot keySpan
+  at-region : k .kind ≡ 6 → 0 < M .length - M .stored
+      → targetOffset (k .kind) M (headEntry q entries) (regionBy q regions k) ≡ getD region 3 0 + (M .address + M .stored - getD region 1 0)
+  unfolding targetOffset memoryOffset bytesToCome
   at-region e h =
-      rw (ne-eqb (k .kind) 0 (λ x. omega arith), ne-eqb (M .length - M .placed) 0 (λ x. omega arith))
-      (ap (λ r. getD r 3 0 + (M .address + M .placed - getD r 1 0)) (region-is (k .kind) (M .key) regions (λ x. omega arith)))
+      rw (ne-eqb (k .kind) 0 (λ x. omega arith), ne-eqb (M .length - M .stored) 0 (λ x. omega arith))
+      (ap (λ r. getD r 3 0 + (M .address + M .stored - getD r 1 0)) (region-is (k .kind) (M .key) regions (λ x. omega arith)))
 
-  at-none : k .kind ≡ 6 → M .length - M .placed ≡ 0 → placeOf (k .kind) M (headEntry q entries) (regionBy q regions k) ≡ 0
-  unfolding placeOf spot keySpan
-  at-none e h = rw (ne-eqb (k .kind) 0 (λ x. omega arith), eq-eqb (M .length - M .placed) 0 h)
+  at-none : k .kind ≡ 6 → M .length - M .stored ≡ 0 → targetOffset (k .kind) M (headEntry q entries) (regionBy q regions k) ≡ 0
+  unfolding targetOffset memoryOffset bytesToCome
+  at-none e h = rw (ne-eqb (k .kind) 0 (λ x. omega arith), eq-eqb (M .length - M .stored) 0 h)
 
   -- a Middle or Last is of the message's kind
   same-kind : InSequence (q .message .kind) (k .kind) (k .place) → M .kind ≡ k .kind
@@ -117,7 +117,7 @@ module _ (q : Pair) (regions entries saved : List (List ℕ)) (m p : List ℕ) (
 
   -- what completes
   told : (length : ℕ) → Ends (k .place) → (k .kind ≡ 0) ⊎ (k .operands .immediate ≡ true)
-      → cond (eqb (k .kind) 0) (M .placed + netOf k) (M .length) ≡ length
+      → cond (eqb (k .kind) 0) (M .stored + payloadSize k) (M .length) ≡ length
       → Completes k (getD entry 0 0) length (completionOf k M (getD (headEntry q entries) 0 0))
   unfolding completionOf completes
   told length h u e =
@@ -137,21 +137,21 @@ module _ (q : Pair) (regions entries saved : List (List ℕ)) (m p : List ℕ) (
   onward-by h = rw (ends-false (k .place) h) silent
 
   -- the message that is open afterwards
-  ran : pairBy q D .message ≡ grown (k .place) M (netOf k)
-  unfolding pairBy after placing executedPair
+  ran : pairBy q D .message ≡ messageAfter (k .place) M (payloadSize k)
+  unfolding pairBy after storePayload executedPair
   ran = rw (few (k .ackreq))
 
-  opened : (size : ℕ) → netOf k ≡ size → M .kind ≡ k .kind → HasMore (k .place)
-      → pairBy q D .message ≡ (record { kind = k .kind; placed = M .placed + size; address = M .address; key = M .key; length = M .length })
-  unfolding grown
-  opened size e f h = ran ∙ rw (ends-false (k .place) h) (λ i. record { kind = f i; placed = M .placed + e i; address = M .address; key = M .key; length = M .length })
+  opened : (size : ℕ) → payloadSize k ≡ size → M .kind ≡ k .kind → HasMore (k .place)
+      → pairBy q D .message ≡ (record { kind = k .kind; stored = M .stored + size; address = M .address; key = M .key; length = M .length })
+  unfolding messageAfter
+  opened size e f h = ran ∙ rw (ends-false (k .place) h) (λ i. record { kind = f i; stored = M .stored + e i; address = M .address; key = M .key; length = M .length })
 
-  net-size : netOf k ≡ length (payloadOf p)
-  unfolding netOf
+  net-size : payloadSize k ≡ length (payloadOf p)
+  unfolding payloadSize
   net-size = sym (payload-size p)
 
   puts-by : (out : List ℕ) → carrying (k .kind) ≡ true → Puts q regions entries m p k M (leftBy q saved m p out D)
-  unfolding leftBy outcomeBy placing
+  unfolding leftBy outcomeBy storePayload
   puts-by out c =
       let T = judged .only refl in
       let L = T .7 in
@@ -161,22 +161,22 @@ module _ (q : Pair) (regions entries saved : List (List ℕ)) (m p : List ℕ) (
         carried = size;
         sends =
             λ e.
-            let f : M .placed + length (payloadOf p) ≤ getD entry 2 0 = omega (arith, size, L .fits e) in
+            let f : M .stored + length (payloadOf p) ≤ getD entry 2 0 = omega (arith, size, L .fits e) in
             let w : getD entry 1 0 + getD entry 2 0 ≤ q .setup .memory = T .5 (inl e) in
-            let s = put-memory (getD entry 1 0 + M .placed) (at-entry e) in
+            let s = put-memory (getD entry 1 0 + M .stored) (at-entry e) in
             record {
               lies = w;
               fits = f;
               stands = s;
               only =
                   subst (λ x. OnlyBytes m x (getD entry 1 0) (getD entry 2 0)) (sym s)
-                  (only-placed m (payloadOf p) (getD entry 1 0 + M .placed) (getD entry 1 0) (getD entry 2 0) (omega arith) (omega (arith, f)) (omega (arith, w, n)));
+                  (only-placed m (payloadOf p) (getD entry 1 0 + M .stored) (getD entry 1 0) (getD entry 2 0) (omega arith) (omega (arith, f)) (omega (arith, w, n)));
             };
         writes =
             λ e h.
             let G = T .6 .writes e h in
-            let f : length (payloadOf p) ≤ M .length - M .placed = omega (arith, size, rest L e) in
-            let at = getD region 3 0 + (M .address + M .placed - getD region 1 0) in
+            let f : length (payloadOf p) ≤ M .length - M .stored = omega (arith, size, rest L e) in
+            let at = getD region 3 0 + (M .address + M .stored - getD region 1 0) in
             let s = put-memory at (at-region e h) in
             record {
               gives = G;
@@ -190,10 +190,10 @@ module _ (q : Pair) (regions entries saved : List (List ℕ)) (m p : List ℕ) (
             λ e h.
             let z : length (payloadOf p) ≡ 0 = omega (arith, size, rest L e, h) in
             put-memory 0 (at-none e h) ∙ placed-none m 0 (payloadOf p) z;
-        sent =
+        outgoing =
             λ e h.
-            told (M .placed + length (payloadOf p)) h (inl e)
-            (rw (eq-eqb (k .kind) 0 e) (ap (λ x. M .placed + x) net-size));
+            told (M .stored + length (payloadOf p)) h (inl e)
+            (rw (eq-eqb (k .kind) 0 e) (ap (λ x. M .stored + x) net-size));
         written = λ e h i. told (M .length) h (inr i) (rw (ne-eqb (k .kind) 0 (λ x. omega arith)));
         untold = λ e i. untold-by e i;
         onward = λ h. onward-by h;
@@ -202,7 +202,7 @@ module _ (q : Pair) (regions entries saved : List (List ℕ)) (m p : List ℕ) (
 
   -- an atomic is a message of one packet, of 8 bytes
   atomic-form : IsAtomic (packetIn p .kind) → (packetIn p .place ≡ 4) × (packetIn p .operands .length ≡ 8)
-  unfolding packetOf headerOf lowClass Opcode.placeOf followsOf extensionOf operandsOf
+  unfolding packetOf headerOf lowClass Opcode.targetOffset followsOf extensionOf operandsOf
   atomic-form (inl e) =
       let c = class-is (bthOf p .opcode) 19 swaps e in
       (ap (λ x. x .place) c, ap (λ x. operandsOf (extensionOf (x .follows) p) .length) c)
@@ -214,14 +214,14 @@ module _ (q : Pair) (regions entries saved : List (List ℕ)) (m p : List ℕ) (
   owned =
       record {
         kind = packetIn p .kind;
-        placed = 0;
+        stored = 0;
         address = packetIn p .operands .address;
         key = packetIn p .operands .key;
         length = packetIn p .operands .length;
       }
 
   abbrev E : Decision
-  E = swapping (packetIn p) (current (q .message) (packetIn p)) (q .message) (regionBy q regions (packetIn p))
+  E = runAtomic (packetIn p) (current (q .message) (packetIn p)) (q .message) (regionBy q regions (packetIn p))
 
   -- the region of the atomic's key
   abbrev word : List ℕ
@@ -233,13 +233,13 @@ module _ (q : Pair) (regions entries saved : List (List ℕ)) (m p : List ℕ) (
   own-message : IsAtomic (k .kind) → M ≡ owned
   own-message a = current-tested (q .message) k place-known .own (inr (atomic-form a .0))
 
-  at-word : IsAtomic (k .kind) → spot (regionBy q regions k) (M .address) (M .length) ≡ at
-  unfolding spot
+  at-word : IsAtomic (k .kind) → memoryOffset (regionBy q regions k) (M .address) (M .length) ≡ at
+  unfolding memoryOffset
   at-word a =
       let h = high (k .kind) a in
       let eight = atomic-form a .1 in
-      ap (λ x. spot (regionFor (k .kind) (x .key) regions) (x .address) (x .length)) (own-message a)
-      ∙ (ap (λ r. spot r (k .operands .address) (k .operands .length)) (region-is (k .kind) (k .operands .key) regions (λ x. omega arith))
+      ap (λ x. memoryOffset (regionFor (k .kind) (x .key) regions) (x .address) (x .length)) (own-message a)
+      ∙ (ap (λ r. memoryOffset r (k .operands .address) (k .operands .length)) (region-is (k .kind) (k .operands .key) regions (λ x. omega arith))
       ∙ rw (ne-eqb (k .operands .length) 0 (λ x. omega arith)))
 
   gives-word : IsAtomic (k .kind) → GivesRest region 6 (q .setup .memory) M → Gives word 6 (q .setup .memory) (k .operands .address) 8
@@ -252,19 +252,19 @@ module _ (q : Pair) (regions entries saved : List (List ℕ)) (m p : List ℕ) (
       (subst (λ x. Gives word 6 (q .setup .memory) (k .operands .address + 0) x) s (H (omega arith)))
 
   fetch-memory : k .kind ≡ 20 → memoryBy E m p ≡ fetchAdded m at (k .operands .swap)
-  unfolding memoryBy swapping
+  unfolding memoryBy runAtomic
   fetch-memory e = rw (eq-eqb (k .kind) 20 e) (ap (λ x. fetchAdded m x (k .operands .swap)) (at-word (inr e)))
 
   swap-memory : k .kind ≡ 19 → memoryBy E m p ≡ swapped m at (k .operands .compare) (k .operands .swap)
-  unfolding memoryBy swapping
+  unfolding memoryBy runAtomic
   swap-memory e =
       rw (ne-eqb (k .kind) 20 (λ x. omega arith)) (ap (λ x. swapped m x (k .operands .compare) (k .operands .swap)) (at-word (inl e)))
 
   -- what it was is saved
   saved-word : IsAtomic (k .kind) → savedBy (q .saved) E saved m ≡ savedRows saved (q .saved) (k .psn .0) (wordAt m at)
-  unfolding savedBy swapping
+  unfolding savedBy runAtomic
   saved-word a =
-      ap (λ b. cond b (savedRows saved (q .saved) (k .psn .0) (wordAt m (spot (regionBy q regions k) (M .address) (M .length)))) saved) (acts (eqb (k .kind) 20))
+      ap (λ b. cond b (savedRows saved (q .saved) (k .psn .0) (wordAt m (memoryOffset (regionBy q regions k) (M .address) (M .length)))) saved) (acts (eqb (k .kind) 20))
       ∙ ap (λ x. savedRows saved (q .saved) (k .psn .0) (wordAt m x)) (at-word a)
 
   one-word : IsAtomic (k .kind) → OnlyWord m (memoryBy E m p) at
@@ -294,10 +294,10 @@ module _ (q : Pair) (regions entries saved : List (List ℕ)) (m p out : List �
   v = viewed (packetIn p .place) q
 
   abbrev placedAt : OpenMessage → Decision
-  placedAt t = placing (packetIn p) t (headEntry q entries) (regionFor (packetIn p .kind) (t .key) regions)
+  placedAt t = storePayload (packetIn p) t (headEntry q entries) (regionFor (packetIn p .kind) (t .key) regions)
 
   same-message : (t : OpenMessage) → pairBy q (unanswered n (placedAt t)) .message ≡ pairBy v (placedAt t) .message
-  unfolding pairBy after placing executedPair statusNumber
+  unfolding pairBy after storePayload executedPair statusNumber
   same-message t = sym (rw (few (packetIn p .ackreq)))
 
   unseen : (t : OpenMessage) → Puts v regions entries m p (packetIn p) t (leftBy v saved m p out (placedAt t))
@@ -310,16 +310,16 @@ module _ (q : Pair) (regions entries saved : List (List ℕ)) (m p out : List �
         sends = P .sends;
         writes = P .writes;
         nothing = P .nothing;
-        sent = P .sent;
+        outgoing = P .outgoing;
         written = P .written;
         untold = P .untold;
         onward = P .onward;
         opens = λ h. same-message t ∙ P .opens h;
       }
 
-  delivered : Sound q → length m ≡ q .setup .memory → codeBy v regions entries (packetIn p) ≡ 0 → carrying (packetIn p .kind) ≡ true
+  ucExecuted : Sound q → length m ≡ q .setup .memory → codeBy v regions entries (packetIn p) ≡ 0 → carrying (packetIn p .kind) ≡ true
       → Puts q regions entries m p (packetIn p) (current (q .message) (packetIn p)) (leftBy q saved m p out (unanswered n (placedAt (current (q .message) (packetIn p)))))
-  delivered S w z c =
+  ucExecuted S w z c =
       subst (λ t. Puts q regions entries m p (packetIn p) t (leftBy q saved m p out (unanswered n (placedAt t)))) (current-closed (q .message) (packetIn p))
       (unseen (current (v .message) (packetIn p)) (puts-by v regions entries saved m p (viewed-sound (packetIn p .place) q S) w z out c))
 
@@ -327,7 +327,7 @@ module _ (q : Pair) (regions entries saved : List (List ℕ)) (m p out : List �
 module _ (q : Pair) (regions entries saved : List (List ℕ)) (m p out : List ℕ) (w : length m ≡ q .setup .memory) where
   puts-way : (d : Decision) → Way q regions entries (packetIn p) d → (statusNumber (d .status) ≡ 0) ⊎ (statusNumber (d .status) ≡ 1)
       → Puts q regions entries m p (packetIn p) (current (q .message) (packetIn p)) (leftBy q saved m p out d)
-  unfolding swapping statusNumber
+  unfolding runAtomic statusNumber
   puts-way d (away e (inl x)) (inl y) = absurd (omega arith)
   puts-way d (away e (inl x)) (inr y) = absurd (omega arith)
   puts-way d (away e (inr x)) (inl y) = absurd (omega arith)
@@ -335,7 +335,7 @@ module _ (q : Pair) (regions entries saved : List (List ℕ)) (m p out : List �
   puts-way d (places S z c) h = puts-by q regions entries saved m p S w z out c
   puts-way d (exchanges S z c r) (inl y) = absurd (omega arith)
   puts-way d (exchanges S z c r) (inr y) = absurd (omega arith)
-  puts-way d (delivers S n z c) h = delivered q regions entries saved m p out n S w z c
+  puts-way d (delivers S n z c) h = ucExecuted q regions entries saved m p out n S w z c
 
   low-number : (b : Bool) → statusNumber (cond b status.Acknowledged status.Executed) ≡ 3 → ⊥
   unfolding statusNumber
@@ -344,7 +344,7 @@ module _ (q : Pair) (regions entries saved : List (List ℕ)) (m p out : List �
 
   swaps-way : (d : Decision) → Way q regions entries (packetIn p) d → statusNumber (d .status) ≡ 3
       → OnRegion (regionOf (packetIn p .operands .key) regions) q (packetIn p) m (memoryBy d m p) saved (savedBy (q .saved) d saved m)
-  unfolding placing
+  unfolding storePayload
   swaps-way d (away e (inl x)) y = absurd (omega arith)
   swaps-way d (away e (inr x)) y = absurd (omega arith)
   swaps-way d (places S z c) y = absurd (low-number (packetIn p .ackreq) y)

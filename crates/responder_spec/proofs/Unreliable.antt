@@ -28,10 +28,10 @@ use Rattle.request_spec.proofs.Order.{current-one, order}
 use Rattle.request_spec.proofs.Taken.{any-place}
 use Rattle.request_spec.specs.declared.Packet.{Packet}
 use Rattle.responder_spec.specs.declared.Decision.{Decision}
-use Rattle.responder_spec.specs.Decide.{quietly, regionFor, headEntry, orphaned, strays, closedBy, abandoning, delivering, ucSettled, ucDecision, packetDecision}
-use Rattle.responder_spec.specs.Answers.{firstEntry}
-use Rattle.responder_spec.specs.Unreliable.{UcKinds, Strays, Meets, Fails, UcChecked, UcComes, UcPassed}
-use Rattle.responder_spec.specs.Unreliable.Meets.{begins, onward}
+use Rattle.responder_spec.specs.Decide.{noReply, regionFor, headEntry, orphaned, strays, closedBy, abandoning, ucExecute, ucCheckedDecision, ucDecision, packetDecision}
+use Rattle.responder_spec.specs.Answers.{entryAtHead}
+use Rattle.responder_spec.specs.Unreliable.{UcKinds, Strays, CheckedUnder, Fails, UcChecked, UcComes, UcPassed}
+use Rattle.responder_spec.specs.Unreliable.CheckedUnder.{begins, onward}
 use Rattle.responder_spec.proofs.Views.{closed-starts, closed-onward, orphan-dropped, stray-abandoned, others-checked, current-closed, same-code}
 use Rattle.responder_spec.proofs.Ways.{regionBy}
 use Rattle.responder_spec.proofs.Answers.{looked, head-first, code-by, carry}
@@ -124,19 +124,19 @@ module _ (q : Pair) (k : Packet) where
       go false = refl
 
   -- what is checked is neither orphaned nor astray, and meets what it leaves open
-  meets-orphaned : Carries (k .kind) → (under : OpenMessage) → Meets q k under → orphaned (k .place) (q .message .kind) ≡ false
-  meets-orphaned K under (begins b) = not-orphaned (begins-starts (k .place) b)
-  meets-orphaned K under (onward g n e) = with-open (λ z. open-kind (k .kind) K (sym e ∙ z))
+  meets-orphaned : Carries (k .kind) → (opened : OpenMessage) → CheckedUnder q k opened → orphaned (k .place) (q .message .kind) ≡ false
+  meets-orphaned K opened (begins b) = not-orphaned (begins-starts (k .place) b)
+  meets-orphaned K opened (onward g n e) = with-open (λ z. open-kind (k .kind) K (sym e ∙ z))
 
-  meets-stray : (under : OpenMessage) → Meets q k under → strays k (q .expected) (q .message .kind) ≡ false
+  meets-stray : (opened : OpenMessage) → CheckedUnder q k opened → strays k (q .expected) (q .message .kind) ≡ false
   unfolding strays
-  meets-stray under (begins b) = rw (begins-starts (k .place) b)
-  meets-stray under (onward g n e) =
+  meets-stray opened (begins b) = rw (begins-starts (k .place) b)
+  meets-stray opened (onward g n e) =
       rw (goes-starts (k .place) g, eq-eqb (distance (k .psn .0) (q .expected .0)) 0 (same-number (k .psn .0) (q .expected .0) n), eq-eqb (q .message .kind) (k .kind) e)
 
-  meets-closed : (under : OpenMessage) → Meets q k under → closedBy (k .place) (q .message) ≡ under
-  meets-closed under (begins b) = closed-starts (k .place) (q .message) (begins-starts (k .place) b)
-  meets-closed under (onward g n e) = closed-onward (k .place) (q .message) (goes-starts (k .place) g)
+  meets-closed : (opened : OpenMessage) → CheckedUnder q k opened → closedBy (k .place) (q .message) ≡ opened
+  meets-closed opened (begins b) = closed-starts (k .place) (q .message) (begins-starts (k .place) b)
+  meets-closed opened (onward g n e) = closed-onward (k .place) (q .message) (goes-starts (k .place) g)
 
 module _ (q : Pair) (regions entries : List (List ℕ)) (k : Packet) (t : OpenMessage) (S : Sound q) (P : Place (k .place))
     (C : IsCurrent (q .message) k t) (K : Carries (k .kind)) where
@@ -158,8 +158,8 @@ module _ (q : Pair) (regions entries : List (List ℕ)) (k : Packet) (t : OpenMe
   abbrev codeOf : ℕ
   codeOf = requestCode (q .setup) below k (q .entries .count) entry region
 
-  abbrev settled : ℕ
-  settled = numbered (ucSettled codeOf k (q .expected) (q .message) entry region)
+  abbrev checkedDecision : ℕ
+  checkedDecision = numbered (ucCheckedDecision codeOf k (q .expected) (q .message) entry region)
 
   -- it is of the same message as before
   current-below : IsCurrent below k t
@@ -176,19 +176,19 @@ module _ (q : Pair) (regions entries : List (List ℕ)) (k : Packet) (t : OpenMe
       ∙ (code-by (q .setup) below k (q .entries .count) entry regions ∙ ap (coded below) (sym (current-one below k t P current-below))))
 
   judged-by : strays k (q .expected) (q .message .kind) ≡ false
-      → JudgedBy (q .setup) below k t (q .entries .count) (firstEntry q entries) (regionOf (t .key) regions) codeOf
+      → JudgedBy (q .setup) below k t (q .entries .count) (entryAtHead q entries) (regionOf (t .key) regions) codeOf
   judged-by s =
       subst (λ x. JudgedBy (q .setup) below k t (q .entries .count) x (regionOf (t .key) regions) codeOf) (head-first q entries S)
       (subst (JudgedBy (q .setup) below k t (q .entries .count) entry (regionOf (t .key) regions)) (sym (code-is s))
       (order (q .setup) below k t (q .entries .count) entry (regionOf (t .key) regions) P current-below))
 
   -- the number, by the code
-  good-number : codeOf ≡ 0 → settled ≡ 0
-  unfolding ucSettled delivering statusNumber
+  good-number : codeOf ≡ 0 → checkedDecision ≡ 0
+  unfolding ucCheckedDecision ucExecute statusNumber
   good-number z = rw (eq-eqb codeOf 0 z, carry (k .kind) K)
 
-  outside-number : codeOf ≡ 34 → settled ≡ 34
-  unfolding ucSettled abandoning quietly statusNumber
+  outside-number : codeOf ≡ 34 → checkedDecision ≡ 34
+  unfolding ucCheckedDecision abandoning noReply statusNumber
   outside-number z = rw z
 
   failing : Fails codeOf → (eqb codeOf 0 ≡ false) × (eqb codeOf 34 ≡ false)
@@ -196,23 +196,23 @@ module _ (q : Pair) (regions entries : List (List ℕ)) (k : Packet) (t : OpenMe
   failing (inr (inl e)) = (ne-eqb codeOf 0 (λ z. omega arith), ne-eqb codeOf 34 (λ z. omega arith))
   failing (inr (inr e)) = (ne-eqb codeOf 0 (λ z. omega arith), ne-eqb codeOf 34 (λ z. omega arith))
 
-  closes-number : Fails codeOf → (q .message .kind ≡ 255 → ⊥) → settled ≡ 6
-  unfolding ucSettled abandoning quietly statusNumber
+  closes-number : Fails codeOf → (q .message .kind ≡ 255 → ⊥) → checkedDecision ≡ 6
+  unfolding ucCheckedDecision abandoning noReply statusNumber
   closes-number f n = let F = failing f in rw (F .0, F .1, ne-eqb (q .message .kind) 255 n)
 
-  drops-number : Fails codeOf → q .message .kind ≡ 255 → settled ≡ 5
-  unfolding ucSettled abandoning quietly statusNumber
+  drops-number : Fails codeOf → q .message .kind ≡ 255 → checkedDecision ≡ 5
+  unfolding ucCheckedDecision abandoning noReply statusNumber
   drops-number f n = let F = failing f in rw (F .0, F .1, eq-eqb (q .message .kind) 255 n)
 
-  checked-by : (under : OpenMessage) → Meets q k under → UcChecked q regions entries under k t number
-  checked-by under M =
-      let e : number ≡ settled =
-      ap numbered (others-checked k (q .setup) (q .expected) (q .message) (q .entries .count) entry region (meets-orphaned q k K under M) (meets-stray q k under M)) in
+  checked-by : (opened : OpenMessage) → CheckedUnder q k opened → UcChecked q regions entries opened k t number
+  checked-by opened M =
+      let e : number ≡ checkedDecision =
+      ap numbered (others-checked k (q .setup) (q .expected) (q .message) (q .entries .count) entry region (meets-orphaned q k K opened M) (meets-stray q k opened M)) in
       record {
         code = codeOf;
         judged =
-            subst (λ u. JudgedBy (q .setup) u k t (q .entries .count) (firstEntry q entries) (regionOf (t .key) regions) codeOf)
-            (meets-closed q k under M) (judged-by (meets-stray q k under M));
+            subst (λ u. JudgedBy (q .setup) u k t (q .entries .count) (entryAtHead q entries) (regionOf (t .key) regions) codeOf)
+            (meets-closed q k opened M) (judged-by (meets-stray q k opened M));
         good = λ z. e ∙ good-number z;
         outside = λ z. e ∙ outside-number z;
         closes = λ f n. e ∙ closes-number f n;
@@ -220,7 +220,7 @@ module _ (q : Pair) (regions entries : List (List ℕ)) (k : Packet) (t : OpenMe
       }
 
   comes-by : UcComes q regions entries k t number
-  unfolding quietly statusNumber
+  unfolding noReply statusNumber
   comes-by =
       record {
         orphan = λ g n. ap numbered (orphan-dropped k (q .setup) (q .expected) (q .message) (q .entries .count) entry region (is-orphaned q k g n));

@@ -15,11 +15,11 @@ use Rattle.pair.specs.Claims.{Sound}
 use Rattle.pair.specs.declared.OpenMessage.{OpenMessage}
 use Rattle.pair.specs.declared.Pair.{Pair}
 use Rattle.pair.specs.declared.Status.the-variants as status
-use Rattle.request_spec.specs.Verdict.{usesEntry, netOf, current}
+use Rattle.request_spec.specs.Verdict.{usesEntry, payloadSize, current}
 use Rattle.request_spec.specs.declared.Packet.{Packet}
 use Rattle.responder_spec.specs.declared.Completion.{Completion}
 use Rattle.responder_spec.specs.declared.Decision.{Decision}
-use Rattle.responder_spec.specs.Decide.{noCompletion, quietly, acknowledging, completes, completionOf, placing, swapping, headEntry, decided}
+use Rattle.responder_spec.specs.Decide.{noCompletion, noReply, acknowledging, completes, completionOf, storePayload, runAtomic, headEntry, decided}
 use Rattle.responder_spec.specs.Apply.{ringTaken, entriesBy, executedPair, with, after, pairBy}
 use Rattle.responder_spec.specs.Inbound.{outcomeBy, decision, inbound}
 use Rattle.responder_spec.specs.Response.{nextStatus, oneFewer, nextResponse}
@@ -76,7 +76,7 @@ completed k m number = go (ends (k .place)) (uses k)
         record {
           some = true;
           number = number;
-          length = cond (eqb (k .kind) 0) (m .placed + netOf k) (m .length);
+          length = cond (eqb (k .kind) 0) (m .stored + payloadSize k) (m .length);
           immediate = k .operands .immediate;
           value = k .operands .value;
         }
@@ -127,7 +127,7 @@ module _ (q : Pair) (regions entries : List (List ℕ)) (k : Packet) where
   -- with every other answer nothing completes
   silent : (saved : List (List ℕ)) (d : Decision) → Row Quiet q regions saved k d → Other (statusNumber (d .status))
       → d .completion .some ≡ false
-  unfolding quietly acknowledging swapping placing
+  unfolding noReply acknowledging runAtomic storePayload
   silent saved d (quiet a x) o = refl
   silent saved d ahead o = refl
   silent saved d invalid o = refl
@@ -141,7 +141,7 @@ module _ (q : Pair) (regions entries : List (List ℕ)) (k : Packet) where
   silent saved d (swap t region w) o = refl
 
   uc-silent : (d : Decision) → UcRow Quiet q k d → Other (statusNumber (d .status)) → d .completion .some ≡ false
-  unfolding quietly
+  unfolding noReply
   uc-silent d (unheard a x) o = refl
   uc-silent d (abandon h) o = refl
   uc-silent d (deliver t row region w) o = absurd (few-apart false o)
@@ -156,7 +156,7 @@ module _ (q : Pair) (regions entries : List (List ℕ)) (k : Packet) where
 
   uses-by : (saved : List (List ℕ)) (d : Decision) → Way q regions entries k d → AnyRow Quiet q regions saved k d
       → Uses (q .entries) entries (d .completion) (pairBy q d .entries)
-  unfolding placing swapping statusNumber
+  unfolding storePayload runAtomic statusNumber
   uses-by saved d (away x o) r = unused x (away-silent saved x r o)
   uses-by saved d (places S z c) r = placed-uses S d (few (k .ackreq)) refl (some q S z)
   uses-by saved d (exchanges S z c f) r = unused d refl
@@ -174,6 +174,6 @@ unfolding nextResponse
 next-uses q entries m out =
     silent-uses (q .entries) entries noCompletion _ refl (go (executed (nextStatus q (length m) (length out))))
   where
-    go : (b : Bool) → cond b (with q (q .state) (q .mark) (oneFewer (q .read))) q .entries ≡ q .entries
+    go : (b : Bool) → cond b (with q (q .state) (q .nakmark) (oneFewer (q .read))) q .entries ≡ q .entries
     go true = refl
     go false = refl

@@ -21,17 +21,17 @@ use Rattle.pair.specs.declared.Status.the-variants as status
 use Rattle.request_spec.specs.Verdict.{outOfSequence, current, requestCode, expectedCode}
 use Rattle.request_spec.specs.declared.Packet.{Packet}
 use Rattle.responder_spec.specs.declared.Decision.{Decision}
-use Rattle.responder_spec.specs.Decide.{quietly, orphaned, strays, closedBy, ucSettled, ucDecision}
+use Rattle.responder_spec.specs.Decide.{noReply, orphaned, strays, closedBy, ucCheckedDecision, ucDecision}
 use Rattle.responder_spec.specs.Apply.{closing}
 
 -- a First or Only closes the open message, a Middle or Last leaves it open
-pub closed-starts : (place : ℕ) (under : OpenMessage) → starts place ≡ true → closedBy place under ≡ noMessage
+pub closed-starts : (place : ℕ) (opened : OpenMessage) → starts place ≡ true → closedBy place opened ≡ noMessage
 unfolding closedBy
-closed-starts place under e = λ i. cond (e i) noMessage under
+closed-starts place opened e = λ i. cond (e i) noMessage opened
 
-pub closed-onward : (place : ℕ) (under : OpenMessage) → starts place ≡ false → closedBy place under ≡ under
+pub closed-onward : (place : ℕ) (opened : OpenMessage) → starts place ≡ false → closedBy place opened ≡ opened
 unfolding closedBy
-closed-onward place under e = λ i. cond (e i) noMessage under
+closed-onward place opened e = λ i. cond (e i) noMessage opened
 
 -- a close leaves all but the message as it was
 pub closes : (q : Pair)
@@ -41,7 +41,7 @@ pub closes : (q : Pair)
       state = q .state;
       expected = q .expected;
       msn = q .msn;
-      mark = q .mark;
+      nakmark = q .nakmark;
       message = noMessage;
       entries = q .entries;
       read = q .read;
@@ -50,22 +50,22 @@ pub closes : (q : Pair)
 closes q = refl
 
 -- none open, then astray, then checked
-module _ (p : Packet) (s : Setup) (expected : Psn) (under : OpenMessage) (count : ℕ) (entry region : List ℕ) where
+module _ (p : Packet) (s : Setup) (expected : Psn) (opened : OpenMessage) (count : ℕ) (entry region : List ℕ) where
   abbrev D : Decision
-  D = ucDecision p s expected under count entry region
+  D = ucDecision p s expected opened count entry region
 
   abbrev checked : Decision
-  checked = ucSettled (requestCode s (closedBy (p .place) under) p count entry region) p expected under entry region
+  checked = ucCheckedDecision (requestCode s (closedBy (p .place) opened) p count entry region) p expected opened entry region
 
-  pub orphan-dropped : orphaned (p .place) (under .kind) ≡ true → D ≡ quietly status.Dropped
+  pub orphan-dropped : orphaned (p .place) (opened .kind) ≡ true → D ≡ noReply status.Dropped
   unfolding ucDecision
   orphan-dropped o = rw o refl
 
-  pub stray-abandoned : orphaned (p .place) (under .kind) ≡ false → strays p expected (under .kind) ≡ true → D ≡ quietly status.Abandoned
+  pub stray-abandoned : orphaned (p .place) (opened .kind) ≡ false → strays p expected (opened .kind) ≡ true → D ≡ noReply status.Abandoned
   unfolding ucDecision
   stray-abandoned o t = rw (o, t) refl
 
-  pub others-checked : orphaned (p .place) (under .kind) ≡ false → strays p expected (under .kind) ≡ false → D ≡ checked
+  pub others-checked : orphaned (p .place) (opened .kind) ≡ false → strays p expected (opened .kind) ≡ false → D ≡ checked
   unfolding ucDecision
   others-checked o t = rw (o, t) refl
 
@@ -77,7 +77,7 @@ viewed place q =
       state = q .state;
       expected = q .expected;
       msn = q .msn;
-      mark = q .mark;
+      nakmark = q .nakmark;
       message = closedBy place (q .message);
       entries = q .entries;
       read = q .read;
@@ -95,7 +95,7 @@ closed-message place q M = go (starts place)
           state = q .state;
           expected = q .expected;
           msn = q .msn;
-          mark = q .mark;
+          nakmark = q .nakmark;
           message = cond b noMessage (q .message);
           entries = q .entries;
           read = q .read;
@@ -118,46 +118,46 @@ viewed-sound place q S =
     }
 
 -- it is of the same message
-pub current-closed : (under : OpenMessage) (p : Packet) → current (closedBy (p .place) under) p ≡ current under p
+pub current-closed : (opened : OpenMessage) (p : Packet) → current (closedBy (p .place) opened) p ≡ current opened p
 unfolding current closedBy
-current-closed under p = go (starts (p .place))
+current-closed opened p = go (starts (p .place))
   where
     go : (b : Bool)
-        → cond b (record { kind = p .kind; placed = 0; address = p .operands .address; key = p .operands .key; length = p .operands .length })
-        (cond b noMessage under)
-        ≡ cond b (record { kind = p .kind; placed = 0; address = p .operands .address; key = p .operands .key; length = p .operands .length }) under
+        → cond b (record { kind = p .kind; stored = 0; address = p .operands .address; key = p .operands .key; length = p .operands .length })
+        (cond b noMessage opened)
+        ≡ cond b (record { kind = p .kind; stored = 0; address = p .operands .address; key = p .operands .key; length = p .operands .length }) opened
     go true = refl
     go false = refl
 
 -- and in sequence, if it is neither orphaned nor astray
-pub in-sequence : (under : OpenMessage) (p : Packet) (expected : Psn) → strays p expected (under .kind) ≡ false
-    → outOfSequence (closedBy (p .place) under .kind) (p .kind) (p .place) ≡ false
+pub in-sequence : (opened : OpenMessage) (p : Packet) (expected : Psn) → strays p expected (opened .kind) ≡ false
+    → outOfSequence (closedBy (p .place) opened .kind) (p .kind) (p .place) ≡ false
 unfolding outOfSequence closedBy strays
-in-sequence under p expected h = go (starts (p .place)) h
+in-sequence opened p expected h = go (starts (p .place)) h
   where
-    go : (b : Bool) → (not b && (not (eqb (distance (p .psn .0) (expected .0)) 0) || not (eqb (under .kind) (p .kind)))) ≡ false
-        → cond b (not (eqb (cond b noMessage under .kind) 255)) (not (eqb (cond b noMessage under .kind) (p .kind))) ≡ false
+    go : (b : Bool) → (not b && (not (eqb (distance (p .psn .0) (expected .0)) 0) || not (eqb (opened .kind) (p .kind)))) ≡ false
+        → cond b (not (eqb (cond b noMessage opened .kind) 255)) (not (eqb (cond b noMessage opened .kind) (p .kind))) ≡ false
     go true e = refl
     go false e = or-right (not (eqb (distance (p .psn .0) (expected .0)) 0)) _ e
 
-pub same-code : (s : Setup) (under : OpenMessage) (p : Packet) (expected : Psn) (count : ℕ) (entry region : List ℕ)
-    → strays p expected (under .kind) ≡ false
-    → expectedCode s (closedBy (p .place) under) p count entry region ≡ requestCode s (closedBy (p .place) under) p count entry region
+pub same-code : (s : Setup) (opened : OpenMessage) (p : Packet) (expected : Psn) (count : ℕ) (entry region : List ℕ)
+    → strays p expected (opened .kind) ≡ false
+    → expectedCode s (closedBy (p .place) opened) p count entry region ≡ requestCode s (closedBy (p .place) opened) p count entry region
 unfolding expectedCode
-same-code s under p expected count entry region h =
-    ap (λ b. cond b 17 (requestCode s (closedBy (p .place) under) p count entry region)) (in-sequence under p expected h)
+same-code s opened p expected count entry region h =
+    ap (λ b. cond b 17 (requestCode s (closedBy (p .place) opened) p count entry region)) (in-sequence opened p expected h)
 
 -- what strays finds a message open
-pub stray-open : (p : Packet) (expected : Psn) (under : ℕ) → orphaned (p .place) under ≡ false → strays p expected under ≡ true
-    → under ≡ 255 → ⊥
+pub stray-open : (p : Packet) (expected : Psn) (opened : ℕ) → orphaned (p .place) opened ≡ false → strays p expected opened ≡ true
+    → opened ≡ 255 → ⊥
 unfolding orphaned strays
-stray-open p expected under o s = go (starts (p .place)) o s
+stray-open p expected opened o s = go (starts (p .place)) o s
   where
-    go : (b : Bool) → (not b && eqb under 255) ≡ false
-        → (not b && (not (eqb (distance (p .psn .0) (expected .0)) 0) || not (eqb under (p .kind)))) ≡ true
-        → under ≡ 255 → ⊥
+    go : (b : Bool) → (not b && eqb opened 255) ≡ false
+        → (not b && (not (eqb (distance (p .psn .0) (expected .0)) 0) || not (eqb opened (p .kind)))) ≡ true
+        → opened ≡ 255 → ⊥
     go true x y = absurd (true≢false (sym y))
-    go false x y = eqb-false under 255 x
+    go false x y = eqb-false opened 255 x
 
 -- all numbers up to a packet's own taken, the next is its number plus 1
 pub number-taken : (psn expected : Psn) → psnAfter expected (1 + distance (psn .0) (expected .0)) ≡ psnAfter psn 1

@@ -18,7 +18,7 @@ use Rattle.header.specs.Check.{admitted, headerReason}
 use Rattle.header.specs.declared.HeaderRead.{HeaderRead}
 use Rattle.header.specs.declared.HeaderRead.the-variants as read
 use Rattle.header.proofs.Reasons.{accepted-by}
-use Rattle.memory.specs.Memory.{placed}
+use Rattle.memory.specs.Memory.{store}
 use Rattle.memory.proofs.Put.{length-placed, placed-before, placed-after}
 use Rattle.packet.specs.Packet.{payloadOf}
 use Rattle.pmtu.specs.Pieces.{ends}
@@ -33,12 +33,12 @@ use Rattle.pair.specs.declared.Pair.{Pair}
 use Rattle.pair.specs.declared.Status.{Status}
 use Rattle.pair.specs.declared.Status.the-variants as status
 use Rattle.request_spec.specs.Packet.{packetOf}
-use Rattle.request_spec.specs.Verdict.{carrying, netOf, current, requestCode, expectedCode}
+use Rattle.request_spec.specs.Verdict.{carrying, payloadSize, current, requestCode, expectedCode}
 use Rattle.request_spec.specs.Claims.{Served, Enabled, HasMore, Ends, Carries, IsAtomic}
 use Rattle.request_spec.proofs.Order.{served}
 use Rattle.request_spec.specs.declared.Packet.{Packet}
 use Rattle.responder_spec.specs.declared.Decision.{Decision}
-use Rattle.responder_spec.specs.Decide.{quietly, acknowledging, aheadDecision, failed, againFails, placing, swapping, accepting, executing, settled, expectedDecision, readAgain, atomicAgain, isAtomic, duplicateDecision, regionFor, headEntry, classed, rcDecision, orphaned, strays, closedBy, abandoning, unanswered, delivering, ucSettled, ucDecision, packetDecision, orDrop, inboundRefusal, decided}
+use Rattle.responder_spec.specs.Decide.{noReply, acknowledging, aheadDecision, failed, duplicateReadFails, storePayload, runAtomic, acceptRead, execute, checkedDecision, expectedDecision, duplicateRead, duplicateAtomic, isAtomic, duplicateDecision, regionFor, headEntry, decisionByClass, rcDecision, orphaned, strays, closedBy, abandoning, unanswered, ucExecute, ucCheckedDecision, ucDecision, packetDecision, orDrop, inboundRefusal, decided}
 use Rattle.responder_spec.specs.Apply.{actsAtomic, after}
 use Rattle.responder_spec.specs.Answers.{OnlyBytes, packetIn}
 use Rattle.responder_spec.proofs.Rows.Quiet.{dropped, short, range, unfinished}
@@ -65,11 +65,11 @@ codeBy q regions entries k =
 pub data Way (q : Pair) (regions entries : List (List ℕ)) (k : Packet) : Decision → Type 0 where
   away : (d : Decision) → Other (statusNumber (d .status)) → Way q regions entries k d
   places : Sound q → codeBy q regions entries k ≡ 0 → carrying (k .kind) ≡ true
-      → Way q regions entries k (placing k (current (q .message) k) (headEntry q entries) (regionBy q regions k))
+      → Way q regions entries k (storePayload k (current (q .message) k) (headEntry q entries) (regionBy q regions k))
   exchanges : Sound q → codeBy q regions entries k ≡ 0 → carrying (k .kind) ≡ false → eqb (k .kind) 12 ≡ false
-      → Way q regions entries k (swapping k (current (q .message) k) (q .message) (regionBy q regions k))
+      → Way q regions entries k (runAtomic k (current (q .message) k) (q .message) (regionBy q regions k))
   delivers : Sound q → (n : ℕ) → codeBy (viewed (k .place) q) regions entries k ≡ 0 → carrying (k .kind) ≡ true
-      → Way q regions entries k (unanswered n (placing k (current (q .message) k) (headEntry q entries) (regionBy q regions k)))
+      → Way q regions entries k (unanswered n (storePayload k (current (q .message) k) (headEntry q entries) (regionBy q regions k)))
 
 pub branch : {A : Type 0} (P : A → Type 0) (b : Bool) {x y : A} → (b ≡ true → P x) → (b ≡ false → P y) → P (cond b x y)
 branch P true h k = h refl
@@ -80,7 +80,7 @@ module _ (q : Pair) (regions entries saved : List (List ℕ)) (S : Sound q) (k :
   W = Way q regions entries k
 
   pub expected-way : W (expectedDecision k (q .setup) (q .message) (q .entries .count) (headEntry q entries) (regionBy q regions k))
-  unfolding expectedDecision settled executing accepting failed statusNumber acknowledging quietly
+  unfolding expectedDecision checkedDecision execute acceptRead failed statusNumber acknowledging noReply
   expected-way =
       let code = codeBy q regions entries k in
       branch W (eqb code 0)
@@ -90,24 +90,24 @@ module _ (q : Pair) (regions entries saved : List (List ℕ)) (S : Sound q) (k :
       (λ e. branch W (eqb code 18) (λ e. away _ (inr (omega arith)))
       (λ e. branch W (eqb code 19) (λ e. away _ (inr (omega arith))) (λ e. away _ (inr (omega arith))))))
 
-  pub ahead-way : W (aheadDecision (q .mark) (q .expected))
-  unfolding aheadDecision statusNumber acknowledging quietly
-  ahead-way = branch W (q .mark) (λ e. away _ (inr (omega arith))) (λ e. away _ (inr (omega arith)))
+  pub ahead-way : W (aheadDecision (q .nakmark) (q .expected))
+  unfolding aheadDecision statusNumber acknowledging noReply
+  ahead-way = branch W (q .nakmark) (λ e. away _ (inr (omega arith))) (λ e. away _ (inr (omega arith)))
 
-  pub atomic-way : (s : Saved) → W (atomicAgain s (k .psn))
-  unfolding statusNumber quietly
-  atomic-way (Value v) = away (atomicAgain (Value v) (k .psn)) (inr (omega arith))
-  atomic-way Nothing = away (atomicAgain Nothing (k .psn)) (inr (omega arith))
+  pub atomic-way : (s : Saved) → W (duplicateAtomic s (k .psn))
+  unfolding statusNumber noReply
+  atomic-way (Value v) = away (duplicateAtomic (Value v) (k .psn)) (inr (omega arith))
+  atomic-way Nothing = away (duplicateAtomic Nothing (k .psn)) (inr (omega arith))
 
   pub duplicate-way : W (duplicateDecision k (q .setup) (q .expected) (current (q .message) k) (regionBy q regions k) (newestSaved (k .psn .0) saved (q .saved)))
-  unfolding duplicateDecision readAgain statusNumber acknowledging quietly
+  unfolding duplicateDecision duplicateRead statusNumber acknowledging noReply
   duplicate-way =
       branch W (carrying (k .kind)) (λ e. away _ (inr (omega arith)))
       (λ e. branch W (eqb (k .kind) 12)
-      (λ r. branch W (againFails k (q .setup) (current (q .message) k) (q .expected) (regionBy q regions k)) (λ f. away _ (inr (omega arith))) (λ f. away _ (inr (omega arith))))
+      (λ r. branch W (duplicateReadFails k (q .setup) (current (q .message) k) (q .expected) (regionBy q regions k)) (λ f. away _ (inr (omega arith))) (λ f. away _ (inr (omega arith))))
       (λ r. branch W (isAtomic (k .kind)) (λ f. atomic-way (newestSaved (k .psn .0) saved (q .saved))) (λ f. away _ (inr (omega arith)))))
 
-  pub classed-way : (c : Class) → W (classed c q k (headEntry q entries) (regionBy q regions k) (newestSaved (k .psn .0) saved (q .saved)))
+  pub classed-way : (c : Class) → W (decisionByClass c q k (headEntry q entries) (regionBy q regions k) (newestSaved (k .psn .0) saved (q .saved)))
   classed-way class.Expected = expected-way
   classed-way class.Ahead = ahead-way
   classed-way class.Duplicate = duplicate-way
@@ -116,21 +116,21 @@ module _ (q : Pair) (regions entries saved : List (List ℕ)) (S : Sound q) (k :
   unfolding rcDecision
   rc-way = classed-way (psnClass (k .psn .0) (q .expected .0))
 
-  abbrev under : OpenMessage
-  under = closedBy (k .place) (q .message)
+  abbrev opened : OpenMessage
+  opened = closedBy (k .place) (q .message)
 
   -- the code of the message that the packet leaves open is that of the same message's region
-  code-viewed : (m : OpenMessage) → current under k ≡ m → strays k (q .expected) (q .message .kind) ≡ false
-      → requestCode (q .setup) under k (q .entries .count) (headEntry q entries) (regionFor (k .kind) (m .key) regions) ≡ 0
+  code-viewed : (m : OpenMessage) → current opened k ≡ m → strays k (q .expected) (q .message .kind) ≡ false
+      → requestCode (q .setup) opened k (q .entries .count) (headEntry q entries) (regionFor (k .kind) (m .key) regions) ≡ 0
       → codeBy (viewed (k .place) q) regions entries k ≡ 0
   code-viewed m e t z =
-      ap (λ x. expectedCode (q .setup) under k (q .entries .count) (headEntry q entries) (regionFor (k .kind) (x .key) regions)) e
+      ap (λ x. expectedCode (q .setup) opened k (q .entries .count) (headEntry q entries) (regionFor (k .kind) (x .key) regions)) e
       ∙ (same-code (q .setup) (q .message) k (q .expected) (q .entries .count) (headEntry q entries) (regionFor (k .kind) (m .key) regions) t ∙ z)
 
   pub uc-way : W (ucDecision k (q .setup) (q .expected) (q .message) (q .entries .count) (headEntry q entries) (regionBy q regions k))
-  unfolding ucDecision ucSettled delivering abandoning statusNumber quietly
+  unfolding ucDecision ucCheckedDecision ucExecute abandoning statusNumber noReply
   uc-way =
-      let code = requestCode (q .setup) under k (q .entries .count) (headEntry q entries) (regionBy q regions k) in
+      let code = requestCode (q .setup) opened k (q .entries .count) (headEntry q entries) (regionBy q regions k) in
       branch W (orphaned (k .place) (q .message .kind)) (λ o. away _ (inr (omega arith)))
       (λ o. branch W (strays k (q .expected) (q .message .kind)) (λ t. away _ (inr (omega arith)))
       (λ t. branch W (eqb code 0)
@@ -154,16 +154,16 @@ quiet-number a unfinished = omega arith
 pub header-way : (q : Pair) (regions entries saved : List (List ℕ)) → Sound q → (p : List ℕ) → (r : HeaderRead)
     → admitted (q .setup .service) (q .setup .ours) (q .setup .pkey) (eqb (q .state) 1) p ≡ r
     → Way q regions entries (packetIn p) (orDrop r (λ h. packetDecision q regions entries saved (packetOf h (length p))))
-unfolding admitted statusNumber quietly
+unfolding admitted statusNumber noReply
 header-way q regions entries saved S p (read.Accepted h) e =
     let reason = headerReason (q .setup .service) (q .setup .ours) (q .setup .pkey) (eqb (q .state) 1) p in
     subst (λ x. Way q regions entries (packetIn p) (packetDecision q regions entries saved (packetOf x (length p)))) (accepted-by reason p h e .1)
     (packet-way q regions entries saved S (packetIn p))
-header-way q regions entries saved S p (read.Dropped reason) e = away (quietly status.Dropped) (inr (omega arith))
+header-way q regions entries saved S p (read.Dropped reason) e = away (noReply status.Dropped) (inr (omega arith))
 
 pub decided-way : (q : Pair) (regions entries saved : List (List ℕ)) (memory : ℕ) (p : List ℕ) (room : ℕ)
     → Way q regions entries (packetIn p) (decided q regions entries saved memory p room)
-unfolding decided quietly
+unfolding decided noReply
 decided-way q regions entries saved memory p room =
     branch (Way q regions entries (packetIn p)) (executed (inboundRefusal q memory room))
     (λ e. header-way q regions entries saved (passed q memory room e .1) p (admitted (q .setup .service) (q .setup .ours) (q .setup .pkey) (eqb (q .state) 1) p) refl)
@@ -187,20 +187,20 @@ only-by old new at size offset n k b a lo hi =
     }
 
 pub only-placed : (old d : List ℕ) (at offset n : ℕ) → offset ≤ at → at + length d ≤ offset + n → offset + n ≤ length old
-    → OnlyBytes old (placed old at d) offset n
+    → OnlyBytes old (store old at d) offset n
 only-placed old d at offset n lo hi w =
-    only-by old (placed old at d) at (length d) offset n (length-placed old at d) (placed-before old at d (omega arith)) (placed-after old at d (omega arith)) lo hi
+    only-by old (store old at d) at (length d) offset n (length-placed old at d) (placed-before old at d (omega arith)) (placed-after old at d (omega arith)) lo hi
 
 -- the payload
-pub payload-size : (p : List ℕ) → length (payloadOf p) ≡ packetIn p .raw - packetIn p .pad
+pub payload-size : (p : List ℕ) → length (payloadOf p) ≡ packetIn p .padded - packetIn p .pad
 unfolding payloadOf packetOf
 payload-size p =
     let s = headerLength (headerOf p) in
     let n = length p - s - headerOf p .bth .pad in
     omega (arith, length-take n (drop s p), length-drop s p)
 
-pub payload-is : (p : List ℕ) → take (packetIn p .start + netOf (packetIn p) - packetIn p .start) (drop (packetIn p .start) p) ≡ payloadOf p
-unfolding payloadOf netOf packetOf
+pub payload-is : (p : List ℕ) → take (packetIn p .start + payloadSize (packetIn p) - packetIn p .start) (drop (packetIn p .start) p) ≡ payloadOf p
+unfolding payloadOf payloadSize packetOf
 payload-is p =
     let s = headerLength (headerOf p) in
     let n = length p - s - headerOf p .bth .pad in

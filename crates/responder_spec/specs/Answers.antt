@@ -15,7 +15,7 @@ use Rattle.header.specs.Check.{admitted}
 use Rattle.header.specs.declared.Header.{Header}
 use Rattle.header.specs.declared.HeaderRead.{HeaderRead}
 use Rattle.header.specs.declared.HeaderRead.the-variants as read
-use Rattle.memory.specs.Memory.{placed}
+use Rattle.memory.specs.Memory.{store}
 use Rattle.memory.specs.Word.{wordAt, fetchAdded, swapped}
 use Rattle.packet.specs.Packet.{payloadOf}
 use Rattle.pmtu.specs.Pieces.{pieces}
@@ -30,7 +30,7 @@ use Rattle.request_spec.specs.Claims.{HasMore, Ends, Carries, IsAtomic, Served,
 use Rattle.request_spec.specs.declared.Packet.{Packet}
 use Rattle.responder_spec.specs.declared.Completion.{Completion}
 use Rattle.responder_spec.specs.Inbound.{inbound}
-use Rattle.responder_spec.specs.Effects.{Left, inboundLeft, Silent, Says}
+use Rattle.responder_spec.specs.Effects.{Left, inboundLeft, Silent, AnswersWith}
 
 -- A call that is not refused.
 pub record Willing (q : Pair) (bytes output : List ℕ) : Type 0 where
@@ -48,16 +48,16 @@ abbrev pub HeaderDropped : Type 0
 HeaderDropped =
     (q : Pair) (regions entries saved : List (List ℕ)) (m p out : List ℕ) → Willing q m out
     → (reason : ℕ) → headerBy q p ≡ read.Dropped reason
-    → Says q regions entries saved m p out 5
+    → AnswersWith q regions entries saved m p out 5
 
 -- The entry that a message takes: the first of the ring.
-abbrev pub firstEntry : Pair → List (List ℕ) → List ℕ
-firstEntry q entries = getD entries (q .entries .head) []
+abbrev pub entryAtHead : Pair → List (List ℕ) → List ℕ
+entryAtHead q entries = getD entries (q .entries .head) []
 
 -- The expected PSN: the code of the request checks, and where that is 0, by kind and AckReq.
 pub record Expects (q : Pair) (regions entries : List (List ℕ)) (k : Packet) (t : OpenMessage) (number : ℕ) : Type 0 where
   pub code : ℕ
-  pub judged : JudgedBy (q .setup) (q .message) k t (q .entries .count) (firstEntry q entries) (regionOf (t .key) regions) code
+  pub judged : JudgedBy (q .setup) (q .message) k t (q .entries .count) (entryAtHead q entries) (regionOf (t .key) regions) code
   pub fails : (code ≡ 0 → ⊥) → number ≡ code
   pub reads : code ≡ 0 → k .kind ≡ 12 → number ≡ 2
   pub swaps : code ≡ 0 → IsAtomic (k .kind) → number ≡ 3
@@ -74,7 +74,7 @@ pub record Aheads (marked : Bool) (number : ℕ) : Type 0 where
 pub record Again (q : Pair) (regions : List (List ℕ)) (k : Packet) (t : OpenMessage) : Type 0 where
   pub on : q .setup .read ≡ true
   pub limit : t .length ≤ 1048576
-  pub raw : k .raw ≡ 0
+  pub padded : k .padded ≡ 0
   pub pad : k .pad ≡ 0
   pub key : GivesRest (regionOf (t .key) regions) 5 (q .setup .memory) t
   pub before : pieces (t .length) (q .setup .pmtu) ≤ distance (q .expected .0) (k .psn .0)
@@ -91,7 +91,7 @@ pub record Repeats (q : Pair) (regions saved : List (List ℕ)) (k : Packet) (t 
 -- On RC, service 0: by the class of the PSN, of a packet k whose header passes, which is of the message t.
 pub record Classed (q : Pair) (regions entries saved : List (List ℕ)) (k : Packet) (t : OpenMessage) (number : ℕ) : Type 0 where
   pub expected : psnClass (k .psn .0) (q .expected .0) ≡ class.Expected → Expects q regions entries k t number
-  pub ahead : psnClass (k .psn .0) (q .expected .0) ≡ class.Ahead → Aheads (q .mark) number
+  pub ahead : psnClass (k .psn .0) (q .expected .0) ≡ class.Ahead → Aheads (q .nakmark) number
   pub duplicate : psnClass (k .psn .0) (q .expected .0) ≡ class.Duplicate → Repeats q regions saved k t number
 
 abbrev pub HeaderPassed : Type 0
@@ -103,17 +103,17 @@ HeaderPassed =
 
 -- What a repeated packet is answered with, by the kind of the packet: an ACK of 16 bytes, nothing but responses to come, a
 -- saved value in 24 bytes. InboundReplies says what stands in them.
-pub record SentAgain (q : Pair) (saved : List (List ℕ)) (k : Packet) (sent : ℕ) : Type 0 where
-  pub carried : Carries (k .kind) → sent ≡ 16
-  pub reads : k .kind ≡ 12 → sent ≡ 0
-  pub found : IsAtomic (k .kind) → (v : ℕ) → newestSaved (k .psn .0) saved (q .saved) ≡ Value v → sent ≡ 24
+pub record SentAgain (q : Pair) (saved : List (List ℕ)) (k : Packet) (outgoing : ℕ) : Type 0 where
+  pub carried : Carries (k .kind) → outgoing ≡ 16
+  pub reads : k .kind ≡ 12 → outgoing ≡ 0
+  pub found : IsAtomic (k .kind) → (v : ℕ) → newestSaved (k .psn .0) saved (q .saved) ≡ Value v → outgoing ≡ 24
 
 abbrev pub RepeatedSent : Type 0
 RepeatedSent =
     (q : Pair) (regions entries saved : List (List ℕ)) (m p out : List ℕ) → Willing q m out → q .setup .service ≡ 0
     → (h : Header) → headerBy q p ≡ read.Accepted h
     → psnClass (packetOf h (length p) .psn .0) (q .expected .0) ≡ class.Duplicate
-    → SentAgain q saved (packetOf h (length p)) (inbound q regions entries saved m p out .sent)
+    → SentAgain q saved (packetOf h (length p)) (inbound q regions entries saved m p out .outgoing)
 
 -- The packet as numbers, whether or not its header passes.
 abbrev pub packetIn : List ℕ → Packet
@@ -133,12 +133,12 @@ Comes q p c = (headerBy q p ≡ read.Accepted (headerOf p)) × (psnClass (packet
 pub record Examined (q : Pair) (regions entries : List (List ℕ)) (p : List ℕ) (t : OpenMessage) (code : ℕ) : Type 0 where
   pub comes : Comes q p class.Expected
   pub judged :
-      JudgedBy (q .setup) (q .message) (packetIn p) t (q .entries .count) (firstEntry q entries) (regionOf (t .key) regions) code
+      JudgedBy (q .setup) (q .message) (packetIn p) t (q .entries .count) (entryAtHead q entries) (regionOf (t .key) regions) code
 
 pub data Reason (q : Pair) (regions entries saved : List (List ℕ)) (p : List ℕ) (t : OpenMessage) : ℕ → Type 0 where
   unread : (reason : ℕ) → headerBy q p ≡ read.Dropped reason → Reason q regions entries saved p t 5
-  marked : Comes q p class.Ahead → q .mark ≡ true → Reason q regions entries saved p t 5
-  ahead : Comes q p class.Ahead → q .mark ≡ false → Reason q regions entries saved p t 16
+  marked : Comes q p class.Ahead → q .nakmark ≡ true → Reason q regions entries saved p t 5
+  ahead : Comes q p class.Ahead → q .nakmark ≡ false → Reason q regions entries saved p t 16
   again : Comes q p class.Duplicate → Recalled q regions saved (packetIn p) t → Reason q regions entries saved p t 4
   forgotten : Comes q p class.Duplicate → (Recalled q regions saved (packetIn p) t → ⊥) → Reason q regions entries saved p t 5
   refused : (code : ℕ) → Examined q regions entries p t code → (code ≡ 0 → ⊥) → Reason q regions entries saved p t code
@@ -164,7 +164,7 @@ pub record OnlyBytes (old new : List ℕ) (offset n : ℕ) : Type 0 where
 pub record InEntry (entry : List ℕ) (memory done : ℕ) (payload old new : List ℕ) : Type 0 where
   pub lies : getD entry 1 0 + getD entry 2 0 ≤ memory
   pub fits : done + length payload ≤ getD entry 2 0
-  pub stands : new ≡ placed old (getD entry 1 0 + done) payload
+  pub stands : new ≡ store old (getD entry 1 0 + done) payload
   pub only : OnlyBytes old new (getD entry 1 0) (getD entry 2 0)
 
 -- A WRITE's stands in the region of its key, which has the right to write and holds all the bytes still to come, at its
@@ -172,7 +172,7 @@ pub record InEntry (entry : List ℕ) (memory done : ℕ) (payload old new : Lis
 pub record InRegion (region : List ℕ) (memory address rest : ℕ) (payload old new : List ℕ) : Type 0 where
   pub gives : Gives region 4 memory address rest
   pub fits : length payload ≤ rest
-  pub stands : new ≡ placed old (getD region 3 0 + (address - getD region 1 0)) payload
+  pub stands : new ≡ store old (getD region 3 0 + (address - getD region 1 0)) payload
   pub only : OnlyBytes old new (getD region 3 0) (getD region 2 0)
 
 -- The host is told of an entry's number, of so many bytes, and of the packet's immediate.
@@ -187,25 +187,25 @@ pub record Completes (k : Packet) (number n : ℕ) (c : Completion) : Type 0 whe
 -- and Middle.
 pub record Puts (q : Pair) (regions entries : List (List ℕ)) (bytes p : List ℕ) (k : Packet) (t : OpenMessage) (l : Left) : Type 0 where
   pub kind : Carries (k .kind)
-  pub carried : length (payloadOf p) ≡ k .raw - k .pad
-  pub sends : k .kind ≡ 0 → InEntry (firstEntry q entries) (q .setup .memory) (t .placed) (payloadOf p) bytes (l .memory)
-  pub writes : k .kind ≡ 6 → 0 < t .length - t .placed
-      → InRegion (regionOf (t .key) regions) (q .setup .memory) (t .address + t .placed) (t .length - t .placed) (payloadOf p) bytes (l .memory)
-  pub nothing : k .kind ≡ 6 → t .length - t .placed ≡ 0 → l .memory ≡ bytes
-  pub sent : k .kind ≡ 0 → Ends (k .place)
-      → Completes k (getD (firstEntry q entries) 0 0) (t .placed + length (payloadOf p)) (l .completion)
+  pub carried : length (payloadOf p) ≡ k .padded - k .pad
+  pub sends : k .kind ≡ 0 → InEntry (entryAtHead q entries) (q .setup .memory) (t .stored) (payloadOf p) bytes (l .memory)
+  pub writes : k .kind ≡ 6 → 0 < t .length - t .stored
+      → InRegion (regionOf (t .key) regions) (q .setup .memory) (t .address + t .stored) (t .length - t .stored) (payloadOf p) bytes (l .memory)
+  pub nothing : k .kind ≡ 6 → t .length - t .stored ≡ 0 → l .memory ≡ bytes
+  pub outgoing : k .kind ≡ 0 → Ends (k .place)
+      → Completes k (getD (entryAtHead q entries) 0 0) (t .stored + length (payloadOf p)) (l .completion)
   pub written : k .kind ≡ 6 → Ends (k .place) → k .operands .immediate ≡ true
-      → Completes k (getD (firstEntry q entries) 0 0) (t .length) (l .completion)
+      → Completes k (getD (entryAtHead q entries) 0 0) (t .length) (l .completion)
   pub untold : k .kind ≡ 6 → k .operands .immediate ≡ false → Silent (l .completion)
   pub onward : HasMore (k .place) → Silent (l .completion)
   pub opens : HasMore (k .place)
       → l .pair .message
-      ≡ (record { kind = k .kind; placed = t .placed + length (payloadOf p); address = t .address; key = t .key; length = t .length })
+      ≡ (record { kind = k .kind; stored = t .stored + length (payloadOf p); address = t .address; key = t .key; length = t .length })
 
 abbrev pub InboundPuts : Type 0
 InboundPuts =
     (q : Pair) (regions entries saved : List (List ℕ)) (m p out : List ℕ) (t : OpenMessage) → IsCurrent (q .message) (packetIn p) t
-    → Says q regions entries saved m p out 0 ⊎ Says q regions entries saved m p out 1
+    → AnswersWith q regions entries saved m p out 0 ⊎ AnswersWith q regions entries saved m p out 1
     → Puts q regions entries m p (packetIn p) t (inboundLeft q regions entries saved m p out)
 
 -- Answer 3: the word lies in the region of the atomic's key, which has the right, at the atomic's address, a multiple of 8.
@@ -223,6 +223,6 @@ pub record OnRegion (region : List ℕ) (q : Pair) (k : Packet) (old new : List 
 
 abbrev pub InboundSwaps : Type 0
 InboundSwaps =
-    (q : Pair) (regions entries saved : List (List ℕ)) (m p out : List ℕ) → Says q regions entries saved m p out 3
+    (q : Pair) (regions entries saved : List (List ℕ)) (m p out : List ℕ) → AnswersWith q regions entries saved m p out 3
     → OnRegion (regionOf (packetIn p .operands .key) regions) q (packetIn p) m (inboundLeft q regions entries saved m p out .memory) saved
     (inboundLeft q regions entries saved m p out .saved)

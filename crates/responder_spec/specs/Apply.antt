@@ -6,7 +6,7 @@ use lib.Dec.{eqb, leb}
 use lib.ListN.{take, drop}
 use Rattle.sequence.specs.Sequence.{psnAfter, msnNext}
 use Rattle.sequence.specs.declared.Msn.{Msn}
-use Rattle.memory.specs.Memory.{placed}
+use Rattle.memory.specs.Memory.{store}
 use Rattle.memory.specs.Word.{wordAt, fetchAdded, swapped}
 use Rattle.table.specs.Table.{slotAt}
 use Rattle.table.specs.View.{savedRing, savedRows}
@@ -20,7 +20,7 @@ use Rattle.responder_spec.specs.declared.Decision.{Decision}
 -- The acts: 1 the packet's bytes are placed, 2 FetchAdd, 3 CmpSwap
 unfoldable pub memoryBy : Decision → List ℕ → List ℕ → List ℕ
 memoryBy d m p =
-    cond (eqb (d .act) 1) (placed m (d .at) (take (d .end - d .start) (drop (d .start) p)))
+    cond (eqb (d .act) 1) (store m (d .at) (take (d .end - d .start) (drop (d .start) p)))
     (cond (eqb (d .act) 2) (fetchAdded m (d .at) (d .swap))
     (cond (eqb (d .act) 3) (swapped m (d .at) (d .compare) (d .swap)) m))
 
@@ -57,9 +57,9 @@ executedPair q d =
     record {
       setup = q .setup;
       state = q .state;
-      expected = psnAfter (q .expected) (d .numbers);
+      expected = psnAfter (q .expected) (d .psns);
       msn = msnBy (d .ends) (q .msn);
-      mark = false;
+      nakmark = false;
       message = d .message;
       entries = entriesBy (d .completion .some) (q .entries);
       read = readBy d (q .read) (msnBy (d .ends) (q .msn));
@@ -68,13 +68,13 @@ executedPair q d =
 
 -- the same pair with another state, mark and READ being answered
 abbrev pub with : Pair → ℕ → Bool → ReadAnswer → Pair
-with q state mark reads =
+with q state nakmark reads =
     record {
       setup = q .setup;
       state = state;
       expected = q .expected;
       msn = q .msn;
-      mark = mark;
+      nakmark = nakmark;
       message = q .message;
       entries = q .entries;
       read = reads;
@@ -89,7 +89,7 @@ closing q =
       state = q .state;
       expected = q .expected;
       msn = q .msn;
-      mark = q .mark;
+      nakmark = q .nakmark;
       message = noMessage;
       entries = q .entries;
       read = q .read;
@@ -101,9 +101,9 @@ closing q =
 unfoldable pub after : Pair → Decision → ℕ → Pair
 after q d number =
     cond (leb number 3) (executedPair q d)
-    (cond (eqb number 4) (with q (q .state) (q .mark) (readBy d (q .read) (q .msn)))
+    (cond (eqb number 4) (with q (q .state) (q .nakmark) (readBy d (q .read) (q .msn)))
     (cond (eqb number 16 || eqb number 19) (with q (q .state) true (q .read))
-    (cond (eqb number 17 || eqb number 18) (with q 2 (q .mark) (q .read))
+    (cond (eqb number 17 || eqb number 18) (with q 2 (q .nakmark) (q .read))
     (cond (eqb number 6) (closing q) q))))
 
 unfoldable pub pairBy : Pair → Decision → Pair

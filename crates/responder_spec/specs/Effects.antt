@@ -9,7 +9,7 @@ use Rattle.sequence.specs.Sequence.{psnAfter, msnNext}
 use Rattle.sequence.specs.declared.Msn.{Msn}
 use Rattle.opcode.specs.Opcode.{classOf}
 use Rattle.header.specs.Read.{bthOf, rethOf, atomicOf}
-use Rattle.memory.specs.Memory.{placed}
+use Rattle.memory.specs.Memory.{store}
 use Rattle.memory.specs.Word.{wordAt, fetchAdded, swapped}
 use Rattle.memory.specs.Claims.{OnlyWord}
 use Rattle.packet.specs.Packet.{payloadOf}
@@ -31,7 +31,7 @@ pub record Left : Type 0 where
   pub number : ℕ
   pub pair : Pair
   pub completion : Completion
-  pub sent : ℕ
+  pub outgoing : ℕ
   pub memory : List ℕ
   pub saved : List (List ℕ)
   pub out : List ℕ
@@ -42,7 +42,7 @@ leaving o memory saved out =
       number = statusNumber (o .status);
       pair = o .pair;
       completion = o .completion;
-      sent = o .sent;
+      outgoing = o .outgoing;
       memory = memory;
       saved = saved;
       out = out;
@@ -70,8 +70,8 @@ pub record Still (rows : List (List ℕ)) (bytes : List ℕ) (l : Left) : Type 0
 -- Nothing at all is changed.
 pub record Unchanged (q : Pair) (rows : List (List ℕ)) (bytes output : List ℕ) (l : Left) : Type 0 where
   pub pair : l .pair ≡ q
-  pub still : Still rows bytes l
-  pub sent : l .sent ≡ 0
+  pub replyOnly : Still rows bytes l
+  pub outgoing : l .outgoing ≡ 0
   pub out : l .out ≡ output
 
 -- Of two pairs, what no answer from 4 on moves; only 6 moves the message.
@@ -85,21 +85,21 @@ pub record Fixed (old new : Pair) : Type 0 where
 
 -- The mark is set, and that is all; 16 bytes are sent.
 pub record MarkAlone (q : Pair) (rows : List (List ℕ)) (bytes : List ℕ) (l : Left) : Type 0 where
-  pub mark : l .pair .mark ≡ true
+  pub nakmark : l .pair .nakmark ≡ true
   pub fixed : Fixed q (l .pair)
   pub state : l .pair .state ≡ q .state
   pub read : l .pair .read ≡ q .read
-  pub still : Still rows bytes l
-  pub sent : l .sent ≡ 16
+  pub replyOnly : Still rows bytes l
+  pub outgoing : l .outgoing ≡ 16
 
 -- The state is Error, and that is all; 16 bytes are sent.
 pub record ErrorAlone (q : Pair) (rows : List (List ℕ)) (bytes : List ℕ) (l : Left) : Type 0 where
   pub state : l .pair .state ≡ 2
   pub fixed : Fixed q (l .pair)
-  pub mark : l .pair .mark ≡ q .mark
+  pub nakmark : l .pair .nakmark ≡ q .nakmark
   pub read : l .pair .read ≡ q .read
-  pub still : Still rows bytes l
-  pub sent : l .sent ≡ 16
+  pub replyOnly : Still rows bytes l
+  pub outgoing : l .outgoing ≡ 16
 
 -- A READ begins to be answered: all its responses remain, and there is one at least. The RETH says how many bytes, and
 -- the region of its key where, in memory; no bytes lie at 0.
@@ -117,36 +117,36 @@ pub record Begun (regions : List (List ℕ)) (s : Setup) (p : List ℕ) (number 
 -- A packet was sent, and the READ being answered is as before; or none was, and one begins.
 abbrev pub AnsweredOr : Pair → List (List ℕ) → List ℕ → List ℕ → Left → Type 0
 AnsweredOr q regions p out l =
-    (((l .sent ≡ 16) ⊎ (l .sent ≡ 24)) × (l .pair .read ≡ q .read))
-    ⊎ ((l .sent ≡ 0) × (l .out ≡ out) × Begun regions (q .setup) p (q .msn) (l .pair .read))
+    (((l .outgoing ≡ 16) ⊎ (l .outgoing ≡ 24)) × (l .pair .read ≡ q .read))
+    ⊎ ((l .outgoing ≡ 0) × (l .out ≡ out) × Begun regions (q .setup) p (q .msn) (l .pair .read))
 
 pub record Repeated (q : Pair) (regions rows : List (List ℕ)) (bytes p output : List ℕ) (l : Left) : Type 0 where
   pub fixed : Fixed q (l .pair)
   pub state : l .pair .state ≡ q .state
-  pub mark : l .pair .mark ≡ q .mark
-  pub still : Still rows bytes l
+  pub nakmark : l .pair .nakmark ≡ q .nakmark
+  pub replyOnly : Still rows bytes l
   pub answer : AnsweredOr q regions p output l
 
 -- 6: a message was open and is closed, and that is all. The ring of entries is as before: an entry that was held is its
 -- first still, and so waits again. Bytes placed before stay.
 pub record Abandons (q : Pair) (rows : List (List ℕ)) (bytes output : List ℕ) (l : Left) : Type 0 where
-  pub under : q .message .kind ≡ 255 → ⊥
-  pub message : l .pair .message ≡ (record { kind = 255; placed = 0; address = 0; key = 0; length = 0 })
+  pub opened : q .message .kind ≡ 255 → ⊥
+  pub message : l .pair .message ≡ (record { kind = 255; stored = 0; address = 0; key = 0; length = 0 })
   pub setup : l .pair .setup ≡ q .setup
   pub state : l .pair .state ≡ q .state
   pub expected : l .pair .expected ≡ q .expected
   pub msn : l .pair .msn ≡ q .msn
-  pub mark : l .pair .mark ≡ q .mark
+  pub nakmark : l .pair .nakmark ≡ q .nakmark
   pub entries : l .pair .entries ≡ q .entries
   pub read : l .pair .read ≡ q .read
   pub ring : l .pair .saved ≡ q .saved
-  pub still : Still rows bytes l
-  pub sent : l .sent ≡ 0
+  pub replyOnly : Still rows bytes l
+  pub outgoing : l .outgoing ≡ 0
   pub out : l .out ≡ output
 
 -- Executed: the mark is cleared, set-up and state stay.
 pub record Executes (old new : Pair) : Type 0 where
-  pub mark : new .mark ≡ false
+  pub nakmark : new .nakmark ≡ false
   pub setup : new .setup ≡ old .setup
   pub state : new .state ≡ old .state
 
@@ -157,8 +157,8 @@ pub record Places (q : Pair) (rows : List (List ℕ)) (bytes p : List ℕ) (l : 
   pub executed : Executes q (l .pair)
   pub expected : (q .setup .service ≡ 1 → ⊥) → l .pair .expected ≡ psnAfter (q .expected) 1
   pub taken : q .setup .service ≡ 1 → l .pair .expected ≡ psnAfter (bthOf p .psn) 1
-  pub memory : (at : ℕ) × (at + length (payloadOf p) ≤ q .setup .memory) × (l .memory ≡ placed bytes at (payloadOf p))
-  pub ends : 2 ≤ classOf (bthOf p .opcode) .place → (l .pair .msn ≡ msnNext (q .msn)) × (l .pair .message ≡ (record { kind = 255; placed = 0; address = 0; key = 0; length = 0 }))
+  pub memory : (at : ℕ) × (at + length (payloadOf p) ≤ q .setup .memory) × (l .memory ≡ store bytes at (payloadOf p))
+  pub ends : 2 ≤ classOf (bthOf p .opcode) .place → (l .pair .msn ≡ msnNext (q .msn)) × (l .pair .message ≡ (record { kind = 255; stored = 0; address = 0; key = 0; length = 0 }))
   pub onward : classOf (bthOf p .opcode) .place < 2 → (l .pair .msn ≡ q .msn) × Silent (l .completion)
   pub completes : l .completion .some ≡ true → l .pair .entries ≡ (record { head = (q .entries .head + 1) % 16; count = q .entries .count - 1 })
   pub silent : l .completion .some ≡ false → l .pair .entries ≡ q .entries
@@ -175,8 +175,8 @@ pub record Accepts (q : Pair) (regions rows : List (List ℕ)) (bytes p output :
   pub message : l .pair .message ≡ q .message
   pub entries : l .pair .entries ≡ q .entries
   pub ring : l .pair .saved ≡ q .saved
-  pub still : Still rows bytes l
-  pub sent : l .sent ≡ 0
+  pub replyOnly : Still rows bytes l
+  pub outgoing : l .outgoing ≡ 0
   pub out : l .out ≡ output
 
 -- A word of memory, before and after: FetchAdd, kind 20, or CmpSwap, kind 19, on no other byte; the old value is saved.
@@ -198,7 +198,7 @@ pub record Swaps (q : Pair) (rows : List (List ℕ)) (bytes p : List ℕ) (l : L
   pub word : (at : ℕ) × OnWord q rows bytes p l at
   pub ring : l .pair .saved ≡ savedRing (q .saved)
   pub completion : Silent (l .completion)
-  pub sent : l .sent ≡ 24
+  pub outgoing : l .outgoing ≡ 24
 
 -- The table, for every pair, whatever the tables, memory, packet and output hold.
 pub record Table (q : Pair) (regions rows : List (List ℕ)) (bytes p output : List ℕ) (l : Left) : Type 0 where
@@ -209,8 +209,8 @@ pub record Table (q : Pair) (regions rows : List (List ℕ)) (bytes p output : L
   pub repeats : l .number ≡ 4 → Repeated q regions rows bytes p output l
   pub swaps : l .number ≡ 3 → Swaps q rows bytes p l
   pub accepts : l .number ≡ 2 → Accepts q regions rows bytes p output l
-  pub acknowledges : l .number ≡ 1 → Places q rows bytes p l × (l .sent ≡ 16)
-  pub executes : l .number ≡ 0 → Places q rows bytes p l × (l .sent ≡ 0) × (l .out ≡ output)
+  pub acknowledges : l .number ≡ 1 → Places q rows bytes p l × (l .outgoing ≡ 16)
+  pub executes : l .number ≡ 0 → Places q rows bytes p l × (l .outgoing ≡ 0) × (l .out ≡ output)
 
 abbrev pub InboundTable : Type 0
 InboundTable =
@@ -241,31 +241,31 @@ InboundLengths =
     × (length (inboundOut q regions entries saved m p out) ≡ length out)
 
 -- Refusals before the packet is looked at, in their order: 35, 34, 32.
-abbrev pub Says : Pair → List (List ℕ) → List (List ℕ) → List (List ℕ) → List ℕ → List ℕ → List ℕ → ℕ → Type 0
-Says q regions entries saved m p out n = statusNumber (inbound q regions entries saved m p out .status) ≡ n
+abbrev pub AnswersWith : Pair → List (List ℕ) → List (List ℕ) → List (List ℕ) → List ℕ → List ℕ → List ℕ → ℕ → Type 0
+AnswersWith q regions entries saved m p out n = statusNumber (inbound q regions entries saved m p out .status) ≡ n
 
 abbrev pub InboundShort : Type 0
 InboundShort =
-    (q : Pair) (regions entries saved : List (List ℕ)) (m p out : List ℕ) → length out < 24 → Says q regions entries saved m p out 35
+    (q : Pair) (regions entries saved : List (List ℕ)) (m p out : List ℕ) → length out < 24 → AnswersWith q regions entries saved m p out 35
 
 abbrev pub InboundRange : Type 0
 InboundRange =
     (q : Pair) (regions entries saved : List (List ℕ)) (m p out : List ℕ) → 24 ≤ length out
     → (length m ≡ q .setup .memory → ⊥) ⊎ (Sound q → ⊥)
-    → Says q regions entries saved m p out 34
+    → AnswersWith q regions entries saved m p out 34
 
 abbrev pub InboundUnfinished : Type 0
 InboundUnfinished =
     (q : Pair) (regions entries saved : List (List ℕ)) (m p out : List ℕ) → 24 ≤ length out → length m ≡ q .setup .memory → Sound q
     → (q .read .remaining ≡ 0 → ⊥)
-    → Says q regions entries saved m p out 32
+    → AnswersWith q regions entries saved m p out 32
 
 -- Else neither 35 nor 32 comes; 34 may, for an entry that no call made.
 abbrev pub InboundTaken : Type 0
 InboundTaken =
     (q : Pair) (regions entries saved : List (List ℕ)) (m p out : List ℕ) → 24 ≤ length out → length m ≡ q .setup .memory → Sound q
     → q .read .remaining ≡ 0
-    → (statusNumber (inbound q regions entries saved m p out .status) ≤ 19) ⊎ Says q regions entries saved m p out 34
+    → (statusNumber (inbound q regions entries saved m p out .status) ≤ 19) ⊎ AnswersWith q regions entries saved m p out 34
 
 -- With entries that calls made it does not: no answer is over 19.
 abbrev pub InboundAnswered : Type 0
@@ -287,7 +287,7 @@ pub record NextRefused (q : Pair) (bytes output : List ℕ) (k : ℕ) : Type 0 w
   pub number : statusNumber (nextResponse q bytes output .status) ≡ k
   pub pair : nextResponse q bytes output .pair ≡ q
   pub completion : Silent (nextResponse q bytes output .completion)
-  pub sent : nextResponse q bytes output .sent ≡ 0
+  pub outgoing : nextResponse q bytes output .outgoing ≡ 0
   pub out : nextOut q bytes output ≡ output
 
 abbrev pub NextNone : Type 0
@@ -316,10 +316,10 @@ pub record NextDone (q : Pair) (bytes output : List ℕ) : Type 0 where
   pub number : statusNumber (nextResponse q bytes output .status) ≡ 0
   pub fixed : Fixed q (nextResponse q bytes output .pair)
   pub state : nextResponse q bytes output .pair .state ≡ q .state
-  pub mark : nextResponse q bytes output .pair .mark ≡ q .mark
+  pub nakmark : nextResponse q bytes output .pair .nakmark ≡ q .nakmark
   pub read : OneFewer (q .read) (nextResponse q bytes output .pair .read)
   pub completion : Silent (nextResponse q bytes output .completion)
-  pub sent : nextResponse q bytes output .sent ≡ length (nextBytes q bytes output)
+  pub outgoing : nextResponse q bytes output .outgoing ≡ length (nextBytes q bytes output)
   pub out : nextOut q bytes output ≡ nextBytes q bytes output ++ drop (length (nextBytes q bytes output)) output
 
 abbrev pub NextAnswers : Type 0

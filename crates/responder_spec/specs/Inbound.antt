@@ -10,7 +10,7 @@ use Rattle.responder_spec.specs.Apply.{pairBy, memoryBy, savedBy}
 use Rattle.responder_spec.specs.Reply.{outBy}
 
 unfoldable pub outcomeBy : Pair → Decision → Outcome
-outcomeBy q d = record { status = d .status; pair = pairBy q d; completion = d .completion; sent = d .sent }
+outcomeBy q d = record { status = d .status; pair = pairBy q d; completion = d .completion; outgoing = d .outgoing }
 
 module _ (q : Pair) (regions entries saved : List (List ℕ)) (m p out : List ℕ) where
   unfoldable pub decision : Decision

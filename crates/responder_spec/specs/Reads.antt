@@ -84,16 +84,16 @@ ResponsesJoin =
 
 -- Calls of next response with nothing between, each with an output of its own: the answers, the packets, the pair.
 pub record Drain : Type 0 where
-  pub numbers : List ℕ
+  pub psns : List ℕ
   pub packets : List (List ℕ)
   pub pair : Pair
 
 unfoldable pub drain : Pair → List ℕ → List (List ℕ) → Drain
-drain q m [] = record { numbers = []; packets = []; pair = q }
+drain q m [] = record { psns = []; packets = []; pair = q }
 drain q m (out ∷ outs) =
     record {
-      numbers = statusNumber (nextResponse q m out .status) ∷ drain (nextResponse q m out .pair) m outs .numbers;
-      packets = take (nextResponse q m out .sent) (nextOut q m out) ∷ drain (nextResponse q m out .pair) m outs .packets;
+      psns = statusNumber (nextResponse q m out .status) ∷ drain (nextResponse q m out .pair) m outs .psns;
+      packets = take (nextResponse q m out .outgoing) (nextOut q m out) ∷ drain (nextResponse q m out .pair) m outs .packets;
       pair = drain (nextResponse q m out .pair) m outs .pair;
     }
 
@@ -104,12 +104,12 @@ flat (d ∷ ds) = d ++ flat ds
 -- With room enough each time, the calls answer 0 and write response after response; then none remains, nothing else of the
 -- pair has moved, and the payloads are the bytes asked for.
 pub record Drains (q : Pair) (bytes : List ℕ) (outs : List (List ℕ)) : Type 0 where
-  pub done : (i : ℕ) → i < length outs → getD (drain q bytes outs .numbers) i 1 ≡ 0
+  pub done : (i : ℕ) → i < length outs → getD (drain q bytes outs .psns) i 1 ≡ 0
   pub written : (i : ℕ) → i < length outs → getD (drain q bytes outs .packets) i [] ≡ responseBytes (q .setup) (q .read) bytes i
   pub none : drain q bytes outs .pair .read .remaining ≡ 0
   pub fixed : Fixed q (drain q bytes outs .pair)
   pub state : drain q bytes outs .pair .state ≡ q .state
-  pub mark : drain q bytes outs .pair .mark ≡ q .mark
+  pub nakmark : drain q bytes outs .pair .nakmark ≡ q .nakmark
   pub whole : flat (map payloadOf (drain q bytes outs .packets)) ≡ asked (q .read) bytes
 
 abbrev pub ReadDrained : Type 0
@@ -126,7 +126,7 @@ abbrev pub ReadServed : Type 0
 ReadServed =
     (q : Pair) (regions entries saved : List (List ℕ)) (m p out : List ℕ) (outs : List (List ℕ))
     → (inboundLeft q regions entries saved m p out .number ≡ 2)
-    ⊎ ((inboundLeft q regions entries saved m p out .number ≡ 4) × (inboundLeft q regions entries saved m p out .sent ≡ 0))
+    ⊎ ((inboundLeft q regions entries saved m p out .number ≡ 4) × (inboundLeft q regions entries saved m p out .outgoing ≡ 0))
     → Sound (inboundLeft q regions entries saved m p out .pair)
     → q .setup .pkey < 2 ^ 16
     → length m ≡ q .setup .memory

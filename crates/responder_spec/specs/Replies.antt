@@ -20,14 +20,14 @@ use Rattle.responder_spec.specs.Reads.{plainHeader}
 
 -- 16 bytes: an Acknowledge, opcode 17, with the MSN of the pair as it is now. Output past it is unchanged.
 pub record AckSent (q : Pair) (output : List ℕ) (l : Left) (psn : Psn) (syndrome : ℕ) : Type 0 where
-  pub sent : l .sent ≡ 16
+  pub outgoing : l .outgoing ≡ 16
   pub packet : readHeader (take 16 (l .out))
       ≡ Accepted (plainHeader (q .setup) 17 0 psn (Acknowledge (record { syndrome = syndrome; msn = l .pair .msn })))
   pub behind : drop 16 (l .out) ≡ drop 16 output
 
 -- 24 bytes: an Atomic Acknowledge, opcode 18, of an ACK and a value.
 pub record ValueSent (q : Pair) (output : List ℕ) (l : Left) (psn : Psn) (value : ℕ) : Type 0 where
-  pub sent : l .sent ≡ 24
+  pub outgoing : l .outgoing ≡ 24
   pub packet : readHeader (take 24 (l .out))
       ≡ Accepted (plainHeader (q .setup) 18 0 psn (AtomicAcknowledge (record { syndrome = 31; msn = l .pair .msn }) value))
   pub behind : drop 24 (l .out) ≡ drop 24 output
@@ -40,7 +40,7 @@ pub record Replies (q : Pair) (rows : List (List ℕ)) (bytes p output : List �
       → (at : ℕ) × ValueSent q output l (bthOf p .psn) (wordAt bytes at) × (l .saved ≡ savedRows rows (q .saved) (bthOf p .psn .0) (wordAt bytes at))
   pub repeated : l .number ≡ 4
       → AckSent q output l (psnAfter (q .expected) 16777215) 31
-      ⊎ (((v : ℕ) × (newestSaved (bthOf p .psn .0) rows (q .saved) ≡ Value v) × ValueSent q output l (bthOf p .psn) v) ⊎ (l .sent ≡ 0))
+      ⊎ (((v : ℕ) × (newestSaved (bthOf p .psn .0) rows (q .saved) ≡ Value v) × ValueSent q output l (bthOf p .psn) v) ⊎ (l .outgoing ≡ 0))
   pub sequence : l .number ≡ 16 → AckSent q output l (q .expected) 96
   pub invalid : l .number ≡ 17 → AckSent q output l (bthOf p .psn) 97
   pub access : l .number ≡ 18 → AckSent q output l (bthOf p .psn) 98

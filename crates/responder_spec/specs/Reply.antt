@@ -47,8 +47,8 @@ atomicHeader s psn syndrome msn value =
 -- the packet of an answer: of 16 bytes, of 24, or none; the MSN is that after the packet
 unfoldable pub answerBytes : Setup → Decision → Msn → ℕ → List ℕ
 answerBytes s d msn value =
-    cond (eqb (d .sent) 16) (headerBytes (ackHeader s (d .psn) (d .syndrome) msn))
-    (cond (eqb (d .sent) 24) (headerBytes (atomicHeader s (d .psn) (d .syndrome) msn value)) [])
+    cond (eqb (d .outgoing) 16) (headerBytes (ackHeader s (d .psn) (d .syndrome) msn))
+    (cond (eqb (d .outgoing) 24) (headerBytes (atomicHeader s (d .psn) (d .syndrome) msn value)) [])
 
 -- an atomic answers the old value, a repeated one the saved value
 unfoldable pub valueBy : Decision → List ℕ → ℕ

@@ -68,9 +68,9 @@ module _ (q : Pair) (m out : List ℕ) where
   nextResponse =
       record {
         status = nextStatus q (length m) (length out);
-        pair = cond (executed (nextStatus q (length m) (length out))) (with q (q .state) (q .mark) (oneFewer (q .read))) q;
+        pair = cond (executed (nextStatus q (length m) (length out))) (with q (q .state) (q .nakmark) (oneFewer (q .read))) q;
         completion = noCompletion;
-        sent = cond (executed (nextStatus q (length m) (length out))) (length nextBytes) 0;
+        outgoing = cond (executed (nextStatus q (length m) (length out))) (length nextBytes) 0;
       }
 
   unfoldable pub nextOut : List ℕ

@@ -19,8 +19,8 @@ use Rattle.request_spec.specs.Packet.{packetOf}
 use Rattle.request_spec.specs.Claims.{Begins, GoesOn, Carries, IsCurrent, JudgedBy}
 use Rattle.request_spec.specs.declared.Packet.{Packet}
 use Rattle.responder_spec.specs.Inbound.{inbound}
-use Rattle.responder_spec.specs.Effects.{Left, inboundLeft, Says}
-use Rattle.responder_spec.specs.Answers.{Willing, headerBy, firstEntry, packetIn, InEntry, Completes}
+use Rattle.responder_spec.specs.Effects.{Left, inboundLeft, AnswersWith}
+use Rattle.responder_spec.specs.Answers.{Willing, headerBy, entryAtHead, packetIn, InEntry, Completes}
 
 -- Only SENDs and WRITEs pass the header checks: UC has no other opcode.
 abbrev pub UcKinds : Type 0
@@ -34,9 +34,9 @@ Strays q k = (k .psn .0 % 16777216 ≡ q .expected .0 % 16777216 → ⊥) ⊎ (q
 
 -- The message that a packet meets when it is checked. A First or Only has closed what was open, so it meets none, and the
 -- entry that was held waits for it; a Middle or Last that does not stray meets the open message.
-pub data Meets (q : Pair) (k : Packet) : OpenMessage → Type 0 where
-  begins : Begins (k .place) → Meets q k (record { kind = 255; placed = 0; address = 0; key = 0; length = 0 })
-  onward : GoesOn (k .place) → k .psn .0 % 16777216 ≡ q .expected .0 % 16777216 → q .message .kind ≡ k .kind → Meets q k (q .message)
+pub data CheckedUnder (q : Pair) (k : Packet) : OpenMessage → Type 0 where
+  begins : Begins (k .place) → CheckedUnder q k (record { kind = 255; stored = 0; address = 0; key = 0; length = 0 })
+  onward : GoesOn (k .place) → k .psn .0 % 16777216 ≡ q .expected .0 % 16777216 → q .message .kind ≡ k .kind → CheckedUnder q k (q .message)
 
 -- The codes with which a check fails; 34 is not one: it says that no call made the entry.
 abbrev pub Fails : ℕ → Type 0
@@ -44,9 +44,9 @@ Fails code = (code ≡ 17) ⊎ ((code ≡ 18) ⊎ (code ≡ 19))
 
 -- The request checks of a packet that meets the message under. What fails, by whichever check, is 6 if a message was open
 -- when the packet came, and 5 if none was.
-pub record UcChecked (q : Pair) (regions entries : List (List ℕ)) (under : OpenMessage) (k : Packet) (t : OpenMessage) (number : ℕ) : Type 0 where
+pub record UcChecked (q : Pair) (regions entries : List (List ℕ)) (opened : OpenMessage) (k : Packet) (t : OpenMessage) (number : ℕ) : Type 0 where
   pub code : ℕ
-  pub judged : JudgedBy (q .setup) under k t (q .entries .count) (firstEntry q entries) (regionOf (t .key) regions) code
+  pub judged : JudgedBy (q .setup) opened k t (q .entries .count) (entryAtHead q entries) (regionOf (t .key) regions) code
   pub good : code ≡ 0 → number ≡ 0
   pub outside : code ≡ 34 → number ≡ 34
   pub closes : Fails code → (q .message .kind ≡ 255 → ⊥) → number ≡ 6
@@ -57,7 +57,7 @@ pub record UcChecked (q : Pair) (regions entries : List (List ℕ)) (under : Ope
 pub record UcComes (q : Pair) (regions entries : List (List ℕ)) (k : Packet) (t : OpenMessage) (number : ℕ) : Type 0 where
   pub orphan : GoesOn (k .place) → q .message .kind ≡ 255 → number ≡ 5
   pub stray : GoesOn (k .place) → (q .message .kind ≡ 255 → ⊥) → Strays q k → number ≡ 6
-  pub checked : (under : OpenMessage) → Meets q k under → UcChecked q regions entries under k t number
+  pub checked : (opened : OpenMessage) → CheckedUnder q k opened → UcChecked q regions entries opened k t number
 
 abbrev pub UcPassed : Type 0
 UcPassed =
@@ -69,10 +69,10 @@ UcPassed =
 -- a packet that is checked, and the code of its checks
 pub record UcExamined (q : Pair) (regions entries : List (List ℕ)) (p : List ℕ) (t : OpenMessage) (code : ℕ) : Type 0 where
   pub passes : headerBy q p ≡ read.Accepted (headerOf p)
-  pub under : OpenMessage
-  pub meets : Meets q (packetIn p) under
+  pub opened : OpenMessage
+  pub meets : CheckedUnder q (packetIn p) opened
   pub judged :
-      JudgedBy (q .setup) under (packetIn p) t (q .entries .count) (firstEntry q entries) (regionOf (t .key) regions) code
+      JudgedBy (q .setup) opened (packetIn p) t (q .entries .count) (entryAtHead q entries) (regionOf (t .key) regions) code
 
 -- The reasons, each by the number of its answer.
 pub data UcCause (q : Pair) (regions entries : List (List ℕ)) (p : List ℕ) (t : OpenMessage) : ℕ → Type 0 where
@@ -97,11 +97,11 @@ UcReason =
 pub record UcKeeps (q : Pair) (rows : List (List ℕ)) (output : List ℕ) (l : Left) : Type 0 where
   pub setup : l .pair .setup ≡ q .setup
   pub state : l .pair .state ≡ q .state
-  pub mark : q .mark ≡ false → l .pair .mark ≡ false
+  pub nakmark : q .nakmark ≡ false → l .pair .nakmark ≡ false
   pub read : l .pair .read ≡ q .read
   pub ring : l .pair .saved ≡ q .saved
   pub saved : l .saved ≡ rows
-  pub sent : l .sent ≡ 0
+  pub outgoing : l .outgoing ≡ 0
   pub out : l .out ≡ output
 
 abbrev pub UcLeaves : Type 0
@@ -112,23 +112,23 @@ UcLeaves =
 -- Answer 6, which comes on UC alone: the entry that was held is first of those that wait again. Abandons has all else.
 abbrev pub EntryBack : Type 0
 EntryBack =
-    (q : Pair) (regions entries saved : List (List ℕ)) (m p out : List ℕ) → Says q regions entries saved m p out 6
+    (q : Pair) (regions entries saved : List (List ℕ)) (m p out : List ℕ) → AnswersWith q regions entries saved m p out 6
     → (heldOf (inbound q regions entries saved m p out .pair) entries ≡ [])
     × (waitingOf (inbound q regions entries saved m p out .pair) entries ≡ heldOf q entries ++ waitingOf q entries)
 
 -- A SEND that begins over an open one takes the entry that was held, from its first byte on: a First holds it again, an
 -- Only completes it. Those that wait stay. On RC no such SEND is executed.
 pub record TakesAgain (q : Pair) (entries : List (List ℕ)) (bytes p : List ℕ) (l : Left) : Type 0 where
-  pub held : heldOf q entries ≡ firstEntry q entries ∷ []
-  pub stands : InEntry (firstEntry q entries) (q .setup .memory) 0 (payloadOf p) bytes (l .memory)
+  pub held : heldOf q entries ≡ entryAtHead q entries ∷ []
+  pub stands : InEntry (entryAtHead q entries) (q .setup .memory) 0 (payloadOf p) bytes (l .memory)
   pub waiting : waitingOf (l .pair) entries ≡ waitingOf q entries
   pub first : packetIn p .place ≡ 0 → heldOf (l .pair) entries ≡ heldOf q entries
   pub only : packetIn p .place ≡ 4
-      → (heldOf (l .pair) entries ≡ []) × Completes (packetIn p) (getD (firstEntry q entries) 0 0) (length (payloadOf p)) (l .completion)
+      → (heldOf (l .pair) entries ≡ []) × Completes (packetIn p) (getD (entryAtHead q entries) 0 0) (length (payloadOf p)) (l .completion)
 
 abbrev pub TakenAgain : Type 0
 TakenAgain =
     (q : Pair) (regions entries saved : List (List ℕ)) (m p out : List ℕ) → q .message .kind ≡ 0 → packetIn p .kind ≡ 0
     → Begins (packetIn p .place)
-    → Says q regions entries saved m p out 0
+    → AnswersWith q regions entries saved m p out 0
     → TakesAgain q entries m p (inboundLeft q regions entries saved m p out)

@@ -15,7 +15,7 @@ use Rattle.pair.specs.Answer.{statusNumber}
 use Rattle.pair.specs.Calls.{begun}
 use Rattle.pair.proofs.Kept.{begun-sound, calls-sound}
 use Rattle.request_spec.specs.Packet.{packetOf}
-use Rattle.responder_spec.specs.Decide.{decided, quietly, placing}
+use Rattle.responder_spec.specs.Decide.{decided, noReply, storePayload}
 use Rattle.responder_spec.specs.Apply.{executedPair, pairBy, after, readBy}
 use Rattle.responder_spec.specs.declared.Decision.{Decision}
 use Rattle.responder_spec.proofs.Rows.Quiet.{dropped, short, range, unfinished}
@@ -61,7 +61,7 @@ module _ (x : Run) (p out : List ℕ) (uc : x .whole .pair .setup .service ≡ 1
         ⊎ ((y .whole .pair .message .kind ≡ 255) ⊎ (y .whole .pair .expected ≡ psnAfter (bthOf p .psn) 1))
 
   leaves-by : (d : Decision) → UcRow Quiet (x .whole .pair) (numbersOf p) d → Leaves (carriedOut x d p)
-  unfolding pairBy after statusNumber executedPair quietly placing readBy packetOf headerOf
+  unfolding pairBy after statusNumber executedPair noReply storePayload readBy packetOf headerOf
   leaves-by d (unheard a dropped) = record { setup = refl; state = refl; read = refl; next = inl (refl, refl) }
   leaves-by d (unheard a short) = record { setup = refl; state = refl; read = refl; next = inl (refl, refl) }
   leaves-by d (unheard a range) = record { setup = refl; state = refl; read = refl; next = inl (refl, refl) }

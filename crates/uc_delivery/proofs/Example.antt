@@ -19,7 +19,7 @@ use Rattle.pair.specs.Host.{setUpStatus, setUp, setUpRegions, addStatus, addReg
 use Rattle.pair.specs.Sound.{setupUnfit, setupUnsound, numbersUnsound, ringUnsound, messageUnsound, readUnsound, pairUnsound}
 use Rattle.cut_spec.specs.Message.{carries, carriedLength, packetsOf}
 use Rattle.cut_spec.specs.declared.Request.the-variants.{Send, SendImmediate}
-use Rattle.uc_delivery.specs.Message.{Standing, packetOf, handed, Comes, firstEntry, Untold}
+use Rattle.uc_delivery.specs.Message.{Standing, packetOf, handed, Comes, firstWaiting, Untold}
 use Rattle.uc_delivery.specs.Example.{setup, region, calls, made, message, out, first, fresh, AllMet, Delivered, broken, Interrupted}
 use Rattle.responder_spec.specs.Calls.{received}
 use Rattle.delivery.specs.Demand.{AtLeast, entryOf}
@@ -100,7 +100,7 @@ sends-on =
     ap (λ s. s .send) (leaves fresh (packetOf (message (SendImmediate 77) 600) first 0) (out 0) (all-met .send .comes .standing .unreliable) .setup)
     ∙ all-met .send .allowed
 
-fits-held : AtLeast (firstEntry (broken .whole) .length) Send 3
+fits-held : AtLeast (firstWaiting (broken .whole) .length) Send 3
 unfolding broken handed received message fresh
 fits-held =
     subst (λ r. 3 ≤ entryOf (getD (fresh .whole .entries) (slotAt (r .head) 0) []) .length) (sym (is-broken .entries)) (all-met .send .supplied .long)

@@ -11,7 +11,7 @@ use borrow.Author.Tests.{eqb-true, eqb-false, ltb-false}
 use Rattle.sequence.specs.Sequence.{distance, psnAfter}
 use Rattle.sequence.specs.declared.Psn.{Psn}
 use Rattle.sequence.specs.declared.Msn.{Msn}
-use Rattle.memory.specs.Memory.{put}
+use Rattle.memory.specs.Memory.{overwrite}
 use Rattle.pmtu.specs.Pieces.{pieceAt}
 use Rattle.table.specs.Table.{outside, slotAt}
 use Rattle.table.specs.declared.Entry.{Entry}
@@ -23,10 +23,10 @@ use Rattle.pair.specs.declared.Pair.{Pair}
 use Rattle.cut_spec.specs.Claims.{Carrier, kindNumber}
 use Rattle.cut_spec.specs.declared.Request.{Request}
 use Rattle.cut_spec.specs.declared.Request.the-variants.{Send, SendImmediate, Write, WriteImmediate, Read, CmpSwap, FetchAdd}
-use Rattle.request_spec.specs.Verdict.{carrying, usesEntry, netOf, current, requestCode, expectedCode}
+use Rattle.request_spec.specs.Verdict.{carrying, usesEntry, payloadSize, current, requestCode, expectedCode}
 use Rattle.request_spec.specs.declared.Packet.{Packet}
 use Rattle.responder_spec.specs.declared.Decision.{Decision}
-use Rattle.responder_spec.specs.Decide.{decided, regionFor, closedBy, orphaned, strays, completionOf, grown, placing, unanswered}
+use Rattle.responder_spec.specs.Decide.{decided, regionFor, closedBy, orphaned, strays, completionOf, messageAfter, storePayload, unanswered}
 use Rattle.responder_spec.specs.Apply.{memoryBy, entriesBy, msnBy}
 use Rattle.responder_spec.specs.Answers.{Willing}
 use Rattle.responder_spec.specs.Kept.{Steady}
@@ -36,7 +36,7 @@ use Rattle.responder_spec.proofs.Sizes.{inbound-lengths}
 use Rattle.responder_spec.proofs.Kept.{inbound-steady}
 use Rattle.responder_spec.specs.Calls.{reports}
 use Rattle.delivery.specs.Stream.{Message, Slot, packetCount, packetAt}
-use Rattle.delivery.specs.Plain.{takes, needs, needing, isLast, none, completionFor, lies}
+use Rattle.delivery.specs.Plain.{takesEntry, needs, needsEntry, isLast, none, completionFor, regionOffset}
 use Rattle.delivery.specs.Demand.{Run, taken, Permitted, AtLeast}
 use Rattle.delivery.proofs.Chain.{Stands}
 use Rattle.delivery.proofs.Cutting.{placeFor, cutPacket, psn-small}
@@ -49,7 +49,7 @@ use Rattle.delivery.proofs.Entries.{entry-fits}
 use Rattle.delivery.proofs.Requests.{Carries, Sends, Writes, send-carries, send-imm-carries, write-carries, write-imm-carries, send-sends, send-imm-sends, write-writes, write-imm-writes}
 use Rattle.delivery.proofs.Placing.{placing-told, grown-more}
 use Rattle.delivery.proofs.Landing.{in-place, send-lands, send-completes, send-long, write-lands, write-completes, write-long}
-use Rattle.uc_delivery.specs.Message.{firstEntry, Supplied, target}
+use Rattle.uc_delivery.specs.Message.{firstWaiting, Supplied, target}
 use Rattle.uc_delivery.proofs.Steps.{decided-is, taken-is, at, placed-out, delivers}
 
 -- a SEND or a WRITE
@@ -95,7 +95,7 @@ abbrev pub heldAt : Bool → Request → Entry → List Entry
 heldAt begins r e = cond begins [] (holding r e)
 
 -- a packet that needs an entry is of a message that takes one, and finds none held; and what is held was taken
-needs-takes : (r : Request) (i n : ℕ) → needs r i n ≡ true → takes r ≡ true
+needs-takes : (r : Request) (i n : ℕ) → needs r i n ≡ true → takesEntry r ≡ true
 needs-takes Send i n h = refl
 needs-takes (SendImmediate v) i n h = refl
 needs-takes (Write t) i n h = absurd (true≢false (sym h))
@@ -117,7 +117,7 @@ needs-none (Read a) i n e h = none-write (eqb i 0)
 needs-none (CmpSwap a) i n e h = none-write (eqb i 0)
 needs-none (FetchAdd t v) i n e h = none-write (eqb i 0)
 
-held-there : (r : Request) (b : Bool) (e : Entry) (count : ℕ) → (takes r ≡ true → 1 ≤ count) → length (heldAt b r e) ≤ count
+held-there : (r : Request) (b : Bool) (e : Entry) (count : ℕ) → (takesEntry r ≡ true → 1 ≤ count) → length (heldAt b r e) ≤ count
 held-there r true e count h = omega arith
 held-there Send false e count h = h refl
 held-there (SendImmediate v) false e count h = h refl
@@ -132,7 +132,7 @@ none-some zero e h = absurd (omega arith)
 none-some (suc k) e h = refl
 
 -- a packet uses an entry only if its message takes one
-uses-takes : (r : Request) (last imm : Bool) → Carrier r → imm ≡ (last && immediateOf r) → usesEntry (kindNumber r) imm ≡ true → takes r ≡ true
+uses-takes : (r : Request) (last imm : Bool) → Carrier r → imm ≡ (last && immediateOf r) → usesEntry (kindNumber r) imm ≡ true → takesEntry r ≡ true
 unfolding usesEntry
 uses-takes Send last imm c e h = refl
 uses-takes (SendImmediate v) last imm c e h = refl
@@ -161,7 +161,7 @@ target-send (Read a) Z regions e = absurd (omega (arith, Z .kind))
 target-send (CmpSwap a) Z regions e = absurd (omega (arith, Z .kind))
 target-send (FetchAdd t v) Z regions e = absurd (omega (arith, Z .kind))
 
-target-write : (r : Request) → Writes r → (regions : List (List ℕ)) (e : Entry) → target r regions e ≡ lies regions (keyOf r) (addressOf r)
+target-write : (r : Request) → Writes r → (regions : List (List ℕ)) (e : Entry) → target r regions e ≡ regionOffset regions (keyOf r) (addressOf r)
 target-write Send Z regions e = absurd (omega (arith, Z .kind))
 target-write (SendImmediate v) Z regions e = absurd (omega (arith, Z .kind))
 target-write (Write t) Z regions e = refl
@@ -180,16 +180,16 @@ module _ (w : Whole) (m : Message) (first : Psn) (P : Permitted (w .pair .setup)
   entry = getD (w .entries) (slotAt (w .pair .entries .head) 0) []
 
   abbrev pub held : ℕ → List Entry
-  held i = heldAt (eqb i 0) (m .request) (firstEntry w)
+  held i = heldAt (eqb i 0) (m .request) (firstWaiting w)
 
   -- packet i follows where E is expected and u open
   pub record Follows (i : ℕ) (E : Psn) (u : OpenMessage) : Type 0 where
     pub orphan : orphaned (placeFor (slot i)) (u .kind) ≡ false
     pub stray : strays (cutPacket (slot i)) E (u .kind) ≡ false
-    pub under : Under (eqb i 0) (slot i) (closedBy (placeFor (slot i)) u) (held i)
+    pub opened : Under (eqb i 0) (slot i) (closedBy (placeFor (slot i)) u) (held i)
 
   pub stands : (i : ℕ) → i < packetCount m → Stands (w .pair .setup) (w .regions) (slot i)
-  stands i h = record { allowed = P .allowed; sent = record { addressed = P .addressed; served = inr (uc, Cr); inside = h; first = small } }
+  stands i h = record { allowed = P .allowed; outgoing = record { addressed = P .addressed; served = inr (uc, Cr); inside = h; first = small } }
 
   module _ (i : ℕ) (h : i < packetCount m) (E : Psn) (n : Msn) (b : Bool) (u : OpenMessage) (mem : List ℕ) (cs : List Completion) (F : Follows i E u)
       (Y : Steady (at w E n b u (w .pair .entries) mem cs .whole)) (ml : length mem ≡ w .pair .setup .memory) where
@@ -219,32 +219,32 @@ module _ (w : Whole) (m : Message) (first : Psn) (P : Permitted (w .pair .setup)
     f = Y .pair .setup .0
 
     abbrev waiting : List Entry
-    waiting = replicate (w .pair .entries .count - length (held i)) (firstEntry w)
+    waiting = replicate (w .pair .entries .count - length (held i)) (firstWaiting w)
 
     count-is : w .pair .entries .count ≡ length (held i ++ waiting)
     count-is =
-        let l = held-there (m .request) (eqb i 0) (firstEntry w) (w .pair .entries .count) (λ e. omega (arith, sup .some e)) in
-        omega (arith, length-append (held i) waiting, length-replicate (w .pair .entries .count - length (held i)) (firstEntry w), l)
+        let l = held-there (m .request) (eqb i 0) (firstWaiting w) (w .pair .entries .count) (λ e. omega (arith, sup .some e)) in
+        omega (arith, length-append (held i) waiting, length-replicate (w .pair .entries .count - length (held i)) (firstWaiting w), l)
 
-    wanted : (needing t && none waiting) ≡ false
-    wanted = go (needing t) refl
+    wanted : (needsEntry t && none waiting) ≡ false
+    wanted = go (needsEntry t) refl
       where
-        go : (c : Bool) → needing t ≡ c → (c && none waiting) ≡ false
+        go : (c : Bool) → needsEntry t ≡ c → (c && none waiting) ≡ false
         go false e = refl
         go true e =
             let z = sup .some (needs-takes (m .request) i (packetCount m) e) in
-            let k = ap length (needs-none (m .request) i (packetCount m) (firstEntry w) e) in
-            none-some (w .pair .entries .count - length (held i)) (firstEntry w) (omega (arith, z, k))
+            let k = ap length (needs-none (m .request) i (packetCount m) (firstWaiting w) e) in
+            none-some (w .pair .entries .count - length (held i)) (firstWaiting w) (omega (arith, z, k))
 
     immediate-is : cutPacket t .operands .immediate ≡ (isLast t && immediateOf (m .request))
-    immediate-is = says (w .pair .setup) (w .regions) f t H v .immediate ∙ ap (λ c. c && immediateOf (m .request)) (ends-is (w .pair .setup) (w .regions) f t H v (held i) (F .under))
+    immediate-is = says (w .pair .setup) (w .regions) f t H v .immediate ∙ ap (λ c. c && immediateOf (m .request)) (ends-is (w .pair .setup) (w .regions) f t H v (held i) (F .opened))
 
     -- the request checks pass it
     code-zero : expectedCode (w .pair .setup) v (cutPacket t) (w .pair .entries .count) entry region ≡ 0
     code-zero =
-        passes (w .pair .setup) v (cutPacket t) (w .pair .entries .count) entry region (before (w .pair .setup) (w .regions) f t H v (held i) (F .under))
-        (waiting-is (w .pair .setup) (w .regions) f t H v (held i) (F .under) waiting (w .pair .entries .count) count-is ∙ wanted)
-        (behind (w .pair .setup) (w .regions) f t H v (held i) (F .under) entry (Y .regions)
+        passes (w .pair .setup) v (cutPacket t) (w .pair .entries .count) entry region (before (w .pair .setup) (w .regions) f t H v (held i) (F .opened))
+        (waiting-is (w .pair .setup) (w .regions) f t H v (held i) (F .opened) waiting (w .pair .entries .count) count-is ∙ wanted)
+        (behind (w .pair .setup) (w .regions) f t H v (held i) (F .opened) entry (Y .regions)
         (λ e. entry-fits (w .pair .setup .memory) (w .entries) (w .pair .entries) (Y .entries) (sup .some (uses-takes (m .request) (isLast t) _ Cr immediate-is e)))
         (suits (m .request) (length (m .bytes)) (getD entry 2 0) (sup .long)))
 
@@ -255,7 +255,7 @@ module _ (w : Whole) (m : Message) (first : Psn) (P : Permitted (w .pair .setup)
         (sym (same-code (w .pair .setup) u (cutPacket t) E (w .pair .entries .count) entry region (F .stray)) ∙ code-zero)
 
     abbrev d : Decision
-    d = placing (cutPacket (slot i)) M entry region
+    d = storePayload (cutPacket (slot i)) M entry region
 
     W : (out : List ℕ) → 24 ≤ length out → Willing q mem out
     W out o = record { room = o; memory = ml; sound = Y .pair; idle = idle }
@@ -264,10 +264,10 @@ module _ (w : Whole) (m : Message) (first : Psn) (P : Permitted (w .pair .setup)
         → decided q (w .regions) (w .entries) (w .saved) (length mem) (packetAt t) (length out) ≡ unanswered (1 + distance (cutPacket t .psn .0) (E .0)) d
     decides out o =
         let c = current-closed u (cutPacket t) in
-        decided-is q (w .regions) (w .entries) (w .saved) mem out (W out o) uc ready t (H .sent)
+        decided-is q (w .regions) (w .entries) (w .saved) mem out (W out o) uc ready t (H .outgoing)
         ∙ (delivers (cutPacket t) (w .pair .setup) E u (w .pair .entries .count) entry (regionFor (kindNumber (m .request)) (current u (cutPacket t) .key) (w .regions))
         (F .orphan) (F .stray) (code-is (current u (cutPacket t)) c) (carries-bytes (m .request) Cr)
-        ∙ ap (λ y. unanswered (1 + distance (cutPacket t .psn .0) (E .0)) (placing (cutPacket t) y entry (regionFor (kindNumber (m .request)) (y .key) (w .regions)))) (sym c))
+        ∙ ap (λ y. unanswered (1 + distance (cutPacket t .psn .0) (E .0)) (storePayload (cutPacket t) y entry (regionFor (kindNumber (m .request)) (y .key) (w .regions)))) (sym c))
 
     C : Carries (m .request)
     C = kinds (m .request) Cr .0
@@ -275,70 +275,70 @@ module _ (w : Whole) (m : Message) (first : Psn) (P : Permitted (w .pair .setup)
     abbrev piece : List ℕ
     piece = pieceAt (m .bytes) (m .connection .pmtu) i
 
-    lands : Sends (m .request) ⊎ Writes (m .request) → memoryBy d mem (packetAt t) ≡ put mem (target (m .request) (w .regions) (firstEntry w) + i * m .connection .pmtu) piece
+    lands : Sends (m .request) ⊎ Writes (m .request) → memoryBy d mem (packetAt t) ≡ overwrite mem (target (m .request) (w .regions) (firstWaiting w) + i * m .connection .pmtu) piece
     unfolding outside
     lands (inl Z) =
         let o : getD entry 1 0 + getD entry 2 0 ≤ w .pair .setup .memory =
-        ltb-false (w .pair .setup .memory) (getD entry 1 0 + getD entry 2 0) (entry-fits (w .pair .setup .memory) (w .entries) (w .pair .entries) (Y .entries) (sup .some (Z .takes))) in
-        send-lands (w .pair .setup) (w .regions) f t H v (held i) (F .under) C entry Z mem (omega (arith, o, ml)) (Z .least (length (m .bytes)) (getD entry 2 0) (sup .long))
-        ∙ ap (λ k. put mem (k + i * m .connection .pmtu) piece) (sym (target-send (m .request) Z (w .regions) (firstEntry w)))
+        ltb-false (w .pair .setup .memory) (getD entry 1 0 + getD entry 2 0) (entry-fits (w .pair .setup .memory) (w .entries) (w .pair .entries) (Y .entries) (sup .some (Z .takesEntry))) in
+        send-lands (w .pair .setup) (w .regions) f t H v (held i) (F .opened) C entry Z mem (omega (arith, o, ml)) (Z .least (length (m .bytes)) (getD entry 2 0) (sup .long))
+        ∙ ap (λ k. overwrite mem (k + i * m .connection .pmtu) piece) (sym (target-send (m .request) Z (w .regions) (firstWaiting w)))
     lands (inr Z) =
-        write-lands (w .pair .setup) (w .regions) f t H v (held i) (F .under) C entry Z (Y .regions) mem ml
-        ∙ ap (λ k. put mem (k + i * m .connection .pmtu) piece) (sym (target-write (m .request) Z (w .regions) (firstEntry w)))
+        write-lands (w .pair .setup) (w .regions) f t H v (held i) (F .opened) C entry Z (Y .regions) mem ml
+        ∙ ap (λ k. overwrite mem (k + i * m .connection .pmtu) piece) (sym (target-write (m .request) Z (w .regions) (firstWaiting w)))
 
-    told : Sends (m .request) ⊎ Writes (m .request)
-        → (reports (completionOf (cutPacket t) M (getD entry 0 0)) ≡ cond (isLast t && takes (m .request)) (completionFor (m .request) (firstEntry w) (length (m .bytes)) ∷ []) [])
-        × (completionOf (cutPacket t) M (getD entry 0 0) .some ≡ (isLast t && takes (m .request)))
-    told (inl Z) =
-        placing-told (w .pair .setup) (w .regions) f t H v (held i) (F .under) C entry region (firstEntry w)
-        (send-completes (w .pair .setup) (w .regions) f t H v (held i) (F .under) C entry Z) (λ e. refl) (send-long (w .pair .setup) (w .regions) f t H v (held i) (F .under) C entry Z)
-    told (inr Z) =
-        placing-told (w .pair .setup) (w .regions) f t H v (held i) (F .under) C entry region (firstEntry w)
-        (write-completes (w .pair .setup) (w .regions) f t H v (held i) (F .under) C entry Z) (λ e. refl) (λ e. write-long (w .pair .setup) (w .regions) f t H v (held i) (F .under) C entry Z)
+    completionWith : Sends (m .request) ⊎ Writes (m .request)
+        → (reports (completionOf (cutPacket t) M (getD entry 0 0)) ≡ cond (isLast t && takesEntry (m .request)) (completionFor (m .request) (firstWaiting w) (length (m .bytes)) ∷ []) [])
+        × (completionOf (cutPacket t) M (getD entry 0 0) .some ≡ (isLast t && takesEntry (m .request)))
+    completionWith (inl Z) =
+        placing-told (w .pair .setup) (w .regions) f t H v (held i) (F .opened) C entry region (firstWaiting w)
+        (send-completes (w .pair .setup) (w .regions) f t H v (held i) (F .opened) C entry Z) (λ e. refl) (send-long (w .pair .setup) (w .regions) f t H v (held i) (F .opened) C entry Z)
+    completionWith (inr Z) =
+        placing-told (w .pair .setup) (w .regions) f t H v (held i) (F .opened) C entry region (firstWaiting w)
+        (write-completes (w .pair .setup) (w .regions) f t H v (held i) (F .opened) C entry Z) (λ e. refl) (λ e. write-long (w .pair .setup) (w .regions) f t H v (held i) (F .opened) C entry Z)
 
     -- the run after the packet
     pub steps : (out : List ℕ) → 24 ≤ length out
         → taken x (packetAt t) out
-        ≡ at w (psnAfter (psnAfter first i) 1) (msnBy (isLast t) n) false (grown (placeFor t) M (netOf (cutPacket t))) (entriesBy (isLast t && takes (m .request)) (w .pair .entries))
-        (put mem (target (m .request) (w .regions) (firstEntry w) + i * m .connection .pmtu) piece)
-        (cs ++ cond (isLast t && takes (m .request)) (completionFor (m .request) (firstEntry w) (length (m .bytes)) ∷ []) [])
-    unfolding placing
+        ≡ at w (psnAfter (psnAfter first i) 1) (msnBy (isLast t) n) false (messageAfter (placeFor t) M (payloadSize (cutPacket t))) (entriesBy (isLast t && takesEntry (m .request)) (w .pair .entries))
+        (overwrite mem (target (m .request) (w .regions) (firstWaiting w) + i * m .connection .pmtu) piece)
+        (cs ++ cond (isLast t && takesEntry (m .request)) (completionFor (m .request) (firstWaiting w) (length (m .bytes)) ∷ []) [])
+    unfolding storePayload
     steps out o =
         let k = kinds (m .request) Cr .1 in
         taken-is x (packetAt t) out (unanswered (1 + distance (cutPacket t .psn .0) (E .0)) d) (decides out o)
         ∙ (placed-out w E n b u (w .pair .entries) mem cs (packetAt t) (cutPacket t) M entry region
         ∙ λ j.
-        at w (psnAfter (psnAfter first i) 1) (msnBy (ends-is (w .pair .setup) (w .regions) f t H v (held i) (F .under) j) n) false (grown (placeFor t) M (netOf (cutPacket t)))
-        (entriesBy (told k .1 j) (w .pair .entries)) (lands k j) (cs ++ told k .0 j))
+        at w (psnAfter (psnAfter first i) 1) (msnBy (ends-is (w .pair .setup) (w .regions) f t H v (held i) (F .opened) j) n) false (messageAfter (placeFor t) M (payloadSize (cutPacket t)))
+        (entriesBy (completionWith k .1 j) (w .pair .entries)) (lands k j) (cs ++ completionWith k .0 j))
 
     -- more packets to come: the next one's message is open
-    pub more : isLast t ≡ false → IsOf (slot (suc i)) (grown (placeFor t) M (netOf (cutPacket t)))
-    more e = grown-more (w .pair .setup) (w .regions) f t H v (held i) (F .under) C entry region e
+    pub more : isLast t ≡ false → IsOf (slot (suc i)) (messageAfter (placeFor t) M (payloadSize (cutPacket t)))
+    more e = grown-more (w .pair .setup) (w .regions) f t H v (held i) (F .opened) C entry region e
 
     -- none: the message is done with
-    pub done : isLast t ≡ true → grown (placeFor t) M (netOf (cutPacket t)) ≡ noMessage
-    unfolding grown
-    done e = rw (ends-is (w .pair .setup) (w .regions) f t H v (held i) (F .under) ∙ e)
+    pub done : isLast t ≡ true → messageAfter (placeFor t) M (payloadSize (cutPacket t)) ≡ noMessage
+    unfolding messageAfter
+    done e = rw (ends-is (w .pair .setup) (w .regions) f t H v (held i) (F .opened) ∙ e)
 
     -- where the message goes there is memory, unless it has no bytes
-    pub bounded : (length (m .bytes) ≡ 0) ⊎ (target (m .request) (w .regions) (firstEntry w) ≤ length mem)
+    pub bounded : (length (m .bytes) ≡ 0) ⊎ (target (m .request) (w .regions) (firstWaiting w) ≤ length mem)
     unfolding outside
     bounded = go (kinds (m .request) Cr .1) (eqb (length (m .bytes)) 0) refl
       where
         go : Sends (m .request) ⊎ Writes (m .request) → (c : Bool) → eqb (length (m .bytes)) 0 ≡ c
-            → (length (m .bytes) ≡ 0) ⊎ (target (m .request) (w .regions) (firstEntry w) ≤ length mem)
+            → (length (m .bytes) ≡ 0) ⊎ (target (m .request) (w .regions) (firstWaiting w) ≤ length mem)
         go k true z = inl (eqb-true (length (m .bytes)) 0 z)
         go (inl Z) false z =
             let o : getD entry 1 0 + getD entry 2 0 ≤ w .pair .setup .memory =
-            ltb-false (w .pair .setup .memory) (getD entry 1 0 + getD entry 2 0) (entry-fits (w .pair .setup .memory) (w .entries) (w .pair .entries) (Y .entries) (sup .some (Z .takes))) in
-            inr (omega (arith, o, ml, target-send (m .request) Z (w .regions) (firstEntry w)))
+            ltb-false (w .pair .setup .memory) (getD entry 1 0 + getD entry 2 0) (entry-fits (w .pair .setup .memory) (w .entries) (w .pair .entries) (Y .entries) (sup .some (Z .takesEntry))) in
+            inr (omega (arith, o, ml, target-send (m .request) Z (w .regions) (firstWaiting w)))
         go (inr Z) false z =
-            let a = in-place (w .pair .setup) (w .regions) f t H v (held i) (F .under) C entry Z (Y .regions) (omega (arith, eqb-false (length (m .bytes)) 0 z)) .1 in
-            inr (omega (arith, a, ml, target-write (m .request) Z (w .regions) (firstEntry w)))
+            let a = in-place (w .pair .setup) (w .regions) f t H v (held i) (F .opened) C entry Z (Y .regions) (omega (arith, eqb-false (length (m .bytes)) 0 z)) .1 in
+            inr (omega (arith, a, ml, target-write (m .request) Z (w .regions) (firstWaiting w)))
 
     -- memory keeps its length, and the pair stays steady
     pub kept : (out : List ℕ) → length (taken x (packetAt t) out .memory) ≡ w .pair .setup .memory
     kept out = inbound-lengths q (w .regions) (w .entries) (w .saved) mem (packetAt t) out .0 ∙ ml
 
     pub steady : (out : List ℕ) → Steady (taken x (packetAt t) out .whole)
-    steady out = inbound-steady (x .whole) mem (packetAt t) out (psn-small (w .pair .setup) f t (H .sent)) Y
+    steady out = inbound-steady (x .whole) mem (packetAt t) out (psn-small (w .pair .setup) f t (H .outgoing)) Y

@@ -24,7 +24,7 @@ use Rattle.cut_spec.specs.Claims.{Carrier, InLimit, kindNumber}
 use Rattle.cut_spec.specs.declared.Request.{Request}
 use Rattle.cut_spec.specs.declared.Request.the-variants.{Send, SendImmediate, Write, WriteImmediate, Read, CmpSwap, FetchAdd}
 use Rattle.request_spec.specs.Verdict.{carrying, current, requestCode}
-use Rattle.responder_spec.specs.Decide.{decided, headEntry, regionFor, quietly, orphaned, strays, closedBy, abandoning, completes, completionOf, placing, unanswered, delivering, ucSettled, ucDecision}
+use Rattle.responder_spec.specs.Decide.{decided, headEntry, regionFor, noReply, orphaned, strays, closedBy, abandoning, completes, completionOf, storePayload, unanswered, ucExecute, ucCheckedDecision, ucDecision}
 use Rattle.responder_spec.specs.Apply.{executedPair, pairBy, after, readBy, entriesBy, msnBy}
 use Rattle.responder_spec.specs.Inbound.{decision, inbound, outcomeBy}
 use Rattle.responder_spec.specs.declared.Decision.{Decision}
@@ -48,10 +48,10 @@ same a b h k e = omega arith
 
 -- What comes of a packet of the message: nothing, with no message open; the message closed; or it is executed
 pub data Went (q : Pair) (t : Slot) : Decision → Type 0 where
-  nothing : q .message .kind ≡ 255 → Went q t (quietly status.Dropped)
-  shut : Went q t (quietly status.Abandoned)
-  ran : (u : OpenMessage) (entry region : List ℕ) → Went q t (unanswered (1 + distance (cutPacket t .psn .0) (q .expected .0)) (placing (cutPacket t) u entry region))
-  outside : Went q t (quietly status.OutOfRange)
+  nothing : q .message .kind ≡ 255 → Went q t (noReply status.Dropped)
+  shut : Went q t (noReply status.Abandoned)
+  ran : (u : OpenMessage) (entry region : List ℕ) → Went q t (unanswered (1 + distance (cutPacket t .psn .0) (q .expected .0)) (storePayload (cutPacket t) u entry region))
+  outside : Went q t (noReply status.OutOfRange)
 
 module _ (outs : ℕ → List ℕ) (m : Message) (first : Psn) (x : Run) (K : Comes outs m first x) (i : ℕ) (h : i < packetCount m) where
   abbrev t : Slot
@@ -70,7 +70,7 @@ module _ (outs : ℕ → List ℕ) (m : Message) (first : Psn) (x : Run) (K : Co
   region = regionFor (kindNumber (m .request)) (current (x .whole .pair .message) (cutPacket (record { message = m; first = first; index = i })) .key) (x .whole .regions)
 
   went : Went q t (ucDecision (cutPacket t) (q .setup) (q .expected) (q .message) (q .entries .count) entry region)
-  unfolding ucDecision ucSettled delivering abandoning orphaned
+  unfolding ucDecision ucCheckedDecision ucExecute abandoning orphaned
   went =
       let code = requestCode (q .setup) (closedBy (placeFor t) (q .message)) (cutPacket t) (q .entries .count) entry region in
       branch (Went q t) (not (starts (placeFor t)) && eqb (q .message .kind) 255)
@@ -91,8 +91,8 @@ module _ (outs : ℕ → List ℕ) (m : Message) (first : Psn) (x : Run) (K : Co
       (record { room = K .outputs i; memory = K .memory; sound = K .standing .steady .pair; idle = K .standing .idle }) (K .standing .unreliable) (K .standing .ready) t H
 
   -- an entry that calls posted lies in memory
-  never-outside : decides ≡ quietly status.OutOfRange → ⊥
-  unfolding inbound outcomeBy decision statusNumber quietly
+  never-outside : decides ≡ noReply status.OutOfRange → ⊥
+  unfolding inbound outcomeBy decision statusNumber noReply
   never-outside e =
       let a =
       inbound-answered q (x .whole .regions) (x .whole .entries) (x .whole .saved) (x .memory) (packetAt t) (outs i) (K .outputs i) (K .memory) (K .standing .steady .pair) (K .standing .idle)
@@ -107,7 +107,7 @@ module _ (outs : ℕ → List ℕ) (m : Message) (first : Psn) (x : Run) (K : Co
     read : y .whole .pair .read ≡ x .whole .pair .read
 
   keeps : (d : Decision) → Went q t d → Keeps (carriedOut x d (packetAt t))
-  unfolding pairBy after statusNumber executedPair quietly placing readBy
+  unfolding pairBy after statusNumber executedPair noReply storePayload readBy
   keeps d (nothing e) = record { setup = refl; state = refl; read = refl }
   keeps d shut = record { setup = refl; state = refl; read = refl }
   keeps d (ran u entry region) = record { setup = refl; state = refl; read = refl }
@@ -140,7 +140,7 @@ module _ (outs : ℕ → List ℕ) (m : Message) (first : Psn) (x : Run) (K : Co
   -- afterwards none is open, or the next packet is expected
   next-is : (d : Decision) → decides ≡ d → Went q t d
       → (carriedOut x d (packetAt t) .whole .pair .message .kind ≡ 255) ⊎ (carriedOut x d (packetAt t) .whole .pair .expected ≡ psnAfter first (suc i))
-  unfolding pairBy after statusNumber executedPair quietly placing
+  unfolding pairBy after statusNumber executedPair noReply storePayload
   next-is d e (nothing z) = inl z
   next-is d e shut = inl refl
   next-is d e (ran u entry region) =
@@ -154,7 +154,7 @@ module _ (outs : ℕ → List ℕ) (m : Message) (first : Psn) (x : Run) (K : Co
 
   -- and nothing is told before the last packet
   untold-by : suc i < packetCount m → (d : Decision) → Went q t d → Untold x (carriedOut x d (packetAt t))
-  unfolding pairBy after statusNumber executedPair quietly placing completionOf completes msnBy entriesBy
+  unfolding pairBy after statusNumber executedPair noReply storePayload completionOf completes msnBy entriesBy
   untold-by l d (nothing e) = record { completions = append-nil (x .completions); msn = refl; entries = refl }
   untold-by l d shut = record { completions = append-nil (x .completions); msn = refl; entries = refl }
   untold-by l d (ran u entry region) =
@@ -168,15 +168,15 @@ module _ (outs : ℕ → List ℕ) (m : Message) (first : Psn) (x : Run) (K : Co
   -- A Middle or Last that is not of the open message: nothing is told, and none is open
   pub record Gone (y : Run) : Type 0 where
     pub closed : y .whole .pair .message .kind ≡ 255
-    pub told : Untold x y
+    pub completionWith : Untold x y
 
-  gone-quiet : q .message .kind ≡ 255 → Gone (carriedOut x (quietly status.Dropped) (packetAt t))
-  unfolding pairBy after statusNumber quietly
-  gone-quiet e = record { closed = e; told = record { completions = append-nil (x .completions); msn = refl; entries = refl } }
+  gone-quiet : q .message .kind ≡ 255 → Gone (carriedOut x (noReply status.Dropped) (packetAt t))
+  unfolding pairBy after statusNumber noReply
+  gone-quiet e = record { closed = e; completionWith = record { completions = append-nil (x .completions); msn = refl; entries = refl } }
 
-  gone-shut : Gone (carriedOut x (quietly status.Abandoned) (packetAt t))
-  unfolding pairBy after statusNumber quietly
-  gone-shut = record { closed = refl; told = record { completions = append-nil (x .completions); msn = refl; entries = refl } }
+  gone-shut : Gone (carriedOut x (noReply status.Abandoned) (packetAt t))
+  unfolding pairBy after statusNumber noReply
+  gone-shut = record { closed = refl; completionWith = record { completions = append-nil (x .completions); msn = refl; entries = refl } }
 
   not-first : 0 < i → starts (placeFor t) ≡ false
   not-first o = starts-at (packetCount m) i h ∙ ne-eqb i 0 (λ z. absurd (omega arith))
@@ -185,7 +185,7 @@ module _ (outs : ℕ → List ℕ) (m : Message) (first : Psn) (x : Run) (K : Co
   pub gone-none : 0 < i → q .message .kind ≡ 255 → Gone left
   unfolding ucDecision orphaned
   gone-none o e =
-      subst Gone (sym (left-is (quietly status.Dropped) (is-decided ∙ rw (not-first o, eq-eqb (q .message .kind) 255 e)))) (gone-quiet e)
+      subst Gone (sym (left-is (noReply status.Dropped) (is-decided ∙ rw (not-first o, eq-eqb (q .message .kind) 255 e)))) (gone-quiet e)
 
   -- one of the other kind open
   pub gone-kind : 0 < i → (q .message .kind ≡ kindNumber (m .request) → ⊥) → Gone left
@@ -196,8 +196,8 @@ module _ (outs : ℕ → List ℕ) (m : Message) (first : Psn) (x : Run) (K : Co
       go true e c f = gone-none o (eqb-true (q .message .kind) 255 e)
       go false e true f =
           subst Gone
-          (sym (left-is (quietly status.Abandoned) (is-decided ∙ rw (not-first o, e, f, ne-eqb (q .message .kind) (kindNumber (m .request)) n)))) gone-shut
-      go false e false f = subst Gone (sym (left-is (quietly status.Abandoned) (is-decided ∙ rw (not-first o, e, f)))) gone-shut
+          (sym (left-is (noReply status.Abandoned) (is-decided ∙ rw (not-first o, e, f, ne-eqb (q .message .kind) (kindNumber (m .request)) n)))) gone-shut
+      go false e false f = subst Gone (sym (left-is (noReply status.Abandoned) (is-decided ∙ rw (not-first o, e, f)))) gone-shut
 
   -- another number expected
   pub gone-other : 0 < i → (q .expected .0 ≡ psnAfter first i .0 → ⊥) → Gone left
@@ -211,7 +211,7 @@ module _ (outs : ℕ → List ℕ) (m : Message) (first : Psn) (x : Run) (K : Co
       go true e = gone-none o (eqb-true (q .message .kind) 255 e)
       go false e =
           subst Gone
-          (sym (left-is (quietly status.Abandoned) (is-decided ∙ rw (not-first o, e, ne-eqb (distance (psnAfter first i .0) (q .expected .0)) 0 away)))) gone-shut
+          (sym (left-is (noReply status.Abandoned) (is-decided ∙ rw (not-first o, e, ne-eqb (distance (psnAfter first i .0) (q .expected .0)) 0 away)))) gone-shut
 
 -- no request has the kind of a message that is not open
 pub kind-open : (r : Request) → kindNumber r ≡ 255 → ⊥
@@ -252,7 +252,7 @@ module _ (outs : ℕ → List ℕ) (m : Message) (first : Psn) where
   closed-rest (true ∷ bs) j x K o n e =
       let g = gone-none outs m first x K j (omega arith) o e in
       let y = taken x (packet j) (outs j) in
-      untold-chain x y _ (g .told) (closed-rest bs (suc j) y (comes outs m first x K j (omega arith)) (omega arith) (omega arith) (g .closed))
+      untold-chain x y _ (g .completionWith) (closed-rest bs (suc j) y (comes outs m first x K j (omega arith)) (omega arith) (omega arith) (g .closed))
   closed-rest (false ∷ bs) j x K o n e = closed-rest bs (suc j) x K (omega arith) (omega arith) e
 
   off-rest : (bs : List Bool) (j : ℕ) (x : Run) → Comes outs m first x → 0 < j → j + length bs ≡ packetCount m
@@ -263,12 +263,12 @@ module _ (outs : ℕ → List ℕ) (m : Message) (first : Psn) where
   off-rest (true ∷ bs) j x K o n (inl f) =
       let g = gone-kind outs m first x K j (omega arith) o f in
       let y = taken x (packet j) (outs j) in
-      untold-chain x y _ (g .told) (closed-rest bs (suc j) y (comes outs m first x K j (omega arith)) (omega arith) (omega arith) (g .closed))
+      untold-chain x y _ (g .completionWith) (closed-rest bs (suc j) y (comes outs m first x K j (omega arith)) (omega arith) (omega arith) (g .closed))
   off-rest (false ∷ bs) j x K o n (inl f) = off-rest bs (suc j) x K (omega arith) (omega arith) (inl f)
   off-rest (true ∷ bs) j x K o n (inr f) =
       let g = gone-other outs m first x K j (omega arith) o (f j (omega arith) (omega arith)) in
       let y = taken x (packet j) (outs j) in
-      untold-chain x y _ (g .told) (closed-rest bs (suc j) y (comes outs m first x K j (omega arith)) (omega arith) (omega arith) (g .closed))
+      untold-chain x y _ (g .completionWith) (closed-rest bs (suc j) y (comes outs m first x K j (omega arith)) (omega arith) (omega arith) (g .closed))
   off-rest (false ∷ bs) j x K o n (inr f) = off-rest bs (suc j) x K (omega arith) (omega arith) (inr (λ i l h. f i (omega arith) h))
 
   -- up to the first that is lost

@@ -17,7 +17,7 @@ use Rattle.pair.specs.declared.Pair.{Pair}
 use Rattle.cut_spec.specs.Claims.{kindNumber}
 use Rattle.request_spec.specs.Verdict.{carrying, current, requestCode}
 use Rattle.request_spec.specs.declared.Packet.{Packet}
-use Rattle.responder_spec.specs.Decide.{decided, packetDecision, headEntry, regionFor, orphaned, strays, closedBy, placing, unanswered, delivering, ucSettled, ucDecision}
+use Rattle.responder_spec.specs.Decide.{decided, packetDecision, headEntry, regionFor, orphaned, strays, closedBy, storePayload, unanswered, ucExecute, ucCheckedDecision, ucDecision}
 use Rattle.responder_spec.specs.Apply.{executedPair, pairBy, memoryBy, savedBy, savedRingBy, entriesBy, msnBy, readBy, actsAtomic, after}
 use Rattle.responder_spec.specs.Answers.{Willing}
 use Rattle.responder_spec.specs.Calls.{received, reports}
@@ -69,7 +69,7 @@ taken-is x p out d e = ap (λ c. carriedOut x c p) e
 
 -- The run of w, with what a SEND or WRITE moves
 abbrev pub at : Whole → Psn → Msn → Bool → OpenMessage → Ring → List ℕ → List Completion → Run
-at w expected msn mark message entries memory completions =
+at w expected msn nakmark message entries memory completions =
     record {
       whole =
           record {
@@ -79,7 +79,7 @@ at w expected msn mark message entries memory completions =
                   state = w .pair .state;
                   expected = expected;
                   msn = msn;
-                  mark = mark;
+                  nakmark = nakmark;
                   message = message;
                   entries = entries;
                   read = w .pair .read;
@@ -96,21 +96,21 @@ at w expected msn mark message entries memory completions =
 -- a payload placed, and no answer sent
 pub placed-out : (w : Whole) (e : Psn) (n : Msn) (b : Bool) (u : OpenMessage) (r : Ring) (m : List ℕ) (cs : List Completion)
     (p : List ℕ) (k : Packet) (t : OpenMessage) (entry region : List ℕ)
-    → let d = placing k t entry region in
+    → let d = storePayload k t entry region in
     carriedOut (at w e n b u r m cs) (unanswered (1 + distance (k .psn .0) (e .0)) d) p
     ≡ at w (psnAfter (k .psn) 1) (msnBy (d .ends) n) false (d .message) (entriesBy (d .completion .some) r) (memoryBy d m p) (cs ++ reports (d .completion))
-unfolding pairBy after statusNumber executedPair placing readBy savedRingBy savedBy actsAtomic memoryBy
+unfolding pairBy after statusNumber executedPair storePayload readBy savedRingBy savedBy actsAtomic memoryBy
 placed-out w e n b u r m cs p k t entry region =
-    ap (λ x. at w x (msnBy (placing k t entry region .ends) n) false (placing k t entry region .message) (entriesBy (placing k t entry region .completion .some) r) (memoryBy (placing k t entry region) m p) (cs ++ reports (placing k t entry region .completion)))
+    ap (λ x. at w x (msnBy (storePayload k t entry region .ends) n) false (storePayload k t entry region .message) (entriesBy (storePayload k t entry region .completion .some) r) (memoryBy (storePayload k t entry region) m p) (cs ++ reports (storePayload k t entry region .completion)))
     (number-taken (k .psn) e)
 
 -- what the rules decide of a SEND or WRITE that follows and passes the checks
-pub delivers : (p : Packet) (s : Setup) (expected : Psn) (under : OpenMessage) (count : ℕ) (entry region : List ℕ)
-    → orphaned (p .place) (under .kind) ≡ false
-    → strays p expected (under .kind) ≡ false
-    → requestCode s (closedBy (p .place) under) p count entry region ≡ 0
+pub delivers : (p : Packet) (s : Setup) (expected : Psn) (opened : OpenMessage) (count : ℕ) (entry region : List ℕ)
+    → orphaned (p .place) (opened .kind) ≡ false
+    → strays p expected (opened .kind) ≡ false
+    → requestCode s (closedBy (p .place) opened) p count entry region ≡ 0
     → carrying (p .kind) ≡ true
-    → ucDecision p s expected under count entry region
-    ≡ unanswered (1 + distance (p .psn .0) (expected .0)) (placing p (current under p) entry region)
-unfolding ucDecision ucSettled delivering
-delivers p s expected under count entry region o t z c = rw (o, t, z, c)
+    → ucDecision p s expected opened count entry region
+    ≡ unanswered (1 + distance (p .psn .0) (expected .0)) (storePayload p (current opened p) entry region)
+unfolding ucDecision ucCheckedDecision ucExecute
+delivers p s expected opened count entry region o t z c = rw (o, t, z, c)

@@ -13,7 +13,7 @@ use borrow.Author.Tests.{eq-eqb, ne-eqb, leb-true, leb-false}
 use Rattle.sequence.specs.Sequence.{distance, psnAfter}
 use Rattle.sequence.specs.declared.Psn.{Psn}
 use Rattle.sequence.proofs.Circle.{after-after}
-use Rattle.memory.specs.Memory.{put}
+use Rattle.memory.specs.Memory.{overwrite}
 use Rattle.memory.proofs.Put.{put-put, put-none}
 use Rattle.pmtu.specs.Pieces.{starts, pieceAt}
 use Rattle.pmtu.specs.Claims.{Counted}
@@ -27,37 +27,37 @@ use Rattle.cut_spec.specs.Claims.{Carrier, kindNumber}
 use Rattle.cut_spec.specs.declared.Request.{Request}
 use Rattle.cut_spec.specs.declared.Request.the-variants.{Send, SendImmediate, Write, WriteImmediate, Read, CmpSwap, FetchAdd}
 use Rattle.cut_spec.proofs.Shapes.{cut-many}
-use Rattle.request_spec.specs.Verdict.{netOf, current}
-use Rattle.responder_spec.specs.Decide.{closedBy, orphaned, strays, grown}
+use Rattle.request_spec.specs.Verdict.{payloadSize, current}
+use Rattle.responder_spec.specs.Decide.{closedBy, orphaned, strays, messageAfter}
 use Rattle.responder_spec.specs.Apply.{entriesBy, msnBy, ringTaken}
 use Rattle.responder_spec.specs.Kept.{Steady}
 use Rattle.responder_spec.specs.declared.Completion.{Completion}
 use Rattle.delivery.specs.Stream.{Message, Slot, packetCount, packetAt}
-use Rattle.delivery.specs.Plain.{takes, isLast, completionFor}
+use Rattle.delivery.specs.Plain.{takesEntry, isLast, completionFor}
 use Rattle.delivery.specs.Demand.{Run, taken, Addressed, Permitted}
 use Rattle.delivery.proofs.Cutting.{placeFor, cutPacket}
 use Rattle.delivery.proofs.Places.{starts-at}
 use Rattle.delivery.proofs.Rel.{IsOf, Under}
-use Rattle.uc_delivery.specs.Message.{Standing, Supplied, firstEntry, target, delivered, handed, HandedWhole}
+use Rattle.uc_delivery.specs.Message.{Standing, Supplied, firstWaiting, target, handedAll, handed, HandedWhole}
 use Rattle.uc_delivery.proofs.Steps.{at}
 use Rattle.uc_delivery.proofs.Follow.{holding, holds, heldAt, Follows, steps, more, done, bounded, kept, steady}
 
 -- piece after piece, a message is placed as one
 grows : (m : List ℕ) (base : ℕ) (d : List ℕ) (pmtu i : ℕ) → (length d ≡ 0) ⊎ (base ≤ length m) → i * pmtu ≤ length d
-    → put (put m base (take (i * pmtu) d)) (base + i * pmtu) (pieceAt d pmtu i) ≡ put m base (take (suc i * pmtu) d)
+    → overwrite (overwrite m base (take (i * pmtu) d)) (base + i * pmtu) (pieceAt d pmtu i) ≡ overwrite m base (take (suc i * pmtu) d)
 unfolding pieceAt
 grows m base d pmtu i (inl z) h =
     let a : length (take (i * pmtu) d) ≡ 0 = simp length-take (omega arith) in
     let b : length (take pmtu (drop (i * pmtu) d)) ≡ 0 = simp (length-take, length-drop) (omega arith) in
     let c : length (take (suc i * pmtu) d) ≡ 0 = simp length-take (omega arith) in
-    put-none (put m base (take (i * pmtu) d)) (base + i * pmtu) (take pmtu (drop (i * pmtu) d)) b
+    put-none (overwrite m base (take (i * pmtu) d)) (base + i * pmtu) (take pmtu (drop (i * pmtu) d)) b
     ∙ (put-none m base (take (i * pmtu) d) a ∙ sym (put-none m base (take (suc i * pmtu) d) c))
 grows m base d pmtu i (inr g) h =
     let l : length (take (i * pmtu) d) ≡ i * pmtu = simp length-take (omega arith) in
     let k : i * pmtu + pmtu ≡ suc i * pmtu = omega arith in
-    ap (λ n. put (put m base (take (i * pmtu) d)) (base + n) (take pmtu (drop (i * pmtu) d))) (sym l)
+    ap (λ n. overwrite (overwrite m base (take (i * pmtu) d)) (base + n) (take pmtu (drop (i * pmtu) d))) (sym l)
     ∙ (put-put m base (take (i * pmtu) d) (take pmtu (drop (i * pmtu) d)) g
-    ∙ ap (put m base) (sym (take-add (i * pmtu) pmtu d) ∙ ap (λ n. take n d) k))
+    ∙ ap (overwrite m base) (sym (take-add (i * pmtu) pmtu d) ∙ ap (λ n. take n d) k))
 
 -- the packets take all bytes, and fewer of them do not
 pub packets-counted : (s : Setup) (m : Message) → SetupFit s → Addressed s m → Carrier (m .request) → Counted (length (m .bytes)) (m .connection .pmtu) (packetCount m)
@@ -92,7 +92,7 @@ module _ (w : Whole) (m : Message) (first : Psn) (P : Permitted (w .pair .setup)
   unfolding orphaned strays closedBy
   begins h E u =
       let s : starts (placeFor (slot 0)) ≡ true = starts-at (packetCount m) 0 h in
-      record { orphan = rw s; stray = rw s; under = (ap (λ b. cond b noMessage u .kind) s, refl) }
+      record { orphan = rw s; stray = rw s; opened = (ap (λ b. cond b noMessage u .kind) s, refl) }
 
   -- the others follow where their message is open and they are expected
   stays : (i : ℕ) → suc i < packetCount m → (u : OpenMessage) → closedBy (placeFor (slot (suc i))) u ≡ u
@@ -108,14 +108,14 @@ module _ (w : Whole) (m : Message) (first : Psn) (P : Permitted (w .pair .setup)
       record {
         orphan = rw (s, k);
         stray = rw (s, e) (ap not (eq-eqb (u .kind) (kindNumber (m .request)) (I .kind)));
-        under =
-            subst (λ b. Under b (slot (suc i)) (closedBy (placeFor (slot (suc i))) u) (heldAt b (m .request) (firstEntry w))) (sym (ne-eqb (suc i) 0 (λ z. absurd (omega arith))))
-            (subst (λ v. Under false (slot (suc i)) v (holding (m .request) (firstEntry w))) (sym (stays i h u))
-            (I, holds (m .request) (firstEntry w) (length (m .bytes)) (sup .long)));
+        opened =
+            subst (λ b. Under b (slot (suc i)) (closedBy (placeFor (slot (suc i))) u) (heldAt b (m .request) (firstWaiting w))) (sym (ne-eqb (suc i) 0 (λ z. absurd (omega arith))))
+            (subst (λ v. Under false (slot (suc i)) v (holding (m .request) (firstWaiting w))) (sym (stays i h u))
+            (I, holds (m .request) (firstWaiting w) (length (m .bytes)) (sup .long)));
       }
 
   abbrev base : ℕ
-  base = target (m .request) (w .regions) (firstEntry w)
+  base = target (m .request) (w .regions) (firstWaiting w)
 
   abbrev pmtu : ℕ
   pmtu = m .connection .pmtu
@@ -139,10 +139,10 @@ module _ (w : Whole) (m : Message) (first : Psn) (P : Permitted (w .pair .setup)
 
   module _ (x0 : List ℕ) (cs : List Completion) (outs : ℕ → List ℕ) (room : (i : ℕ) → 24 ≤ length (outs i)) (B : (length (m .bytes) ≡ 0) ⊎ (base ≤ length x0)) where
     abbrev memoryAt : ℕ → List ℕ
-    memoryAt i = put x0 (target (m .request) (w .regions) (firstEntry w)) (take (i * m .connection .pmtu) (m .bytes))
+    memoryAt i = overwrite x0 (target (m .request) (w .regions) (firstWaiting w)) (take (i * m .connection .pmtu) (m .bytes))
 
     abbrev final : Run
-    final = delivered (record { whole = w; memory = x0; completions = cs }) m first
+    final = handedAll (record { whole = w; memory = x0; completions = cs }) m first
 
     -- from packet i on, k more behind it
     rest : (k i : ℕ) → suc (i + k) ≡ packetCount m → (E : Psn) (b : Bool) (u : OpenMessage) (mem : List ℕ) → F i E u
@@ -158,9 +158,9 @@ module _ (w : Whole) (m : Message) (first : Psn) (P : Permitted (w .pair .setup)
         let z = done w m first P Cr small (S .unreliable) (S .ready) (S .idle) sup i h E (w .pair .msn) b u mem cs G Y l last in
         s
         ∙ λ j.
-        at w ((next-psn i ∙ ap (psnAfter first) (omega' i n)) j) (msnBy (last j) (w .pair .msn)) false (z j) (entriesBy (last j && takes (m .request)) (w .pair .entries))
-        ((ap (λ y. put y (base + i * pmtu) (pieceAt (m .bytes) pmtu i)) e ∙ (grows x0 base (m .bytes) pmtu i B (within i h) ∙ ap (put x0 base) (filled i n))) j)
-        (cs ++ cond (last j && takes (m .request)) (completionFor (m .request) (firstEntry w) (length (m .bytes)) ∷ []) [])
+        at w ((next-psn i ∙ ap (psnAfter first) (omega' i n)) j) (msnBy (last j) (w .pair .msn)) false (z j) (entriesBy (last j && takesEntry (m .request)) (w .pair .entries))
+        ((ap (λ y. overwrite y (base + i * pmtu) (pieceAt (m .bytes) pmtu i)) e ∙ (grows x0 base (m .bytes) pmtu i B (within i h) ∙ ap (overwrite x0 base) (filled i n))) j)
+        (cs ++ cond (last j && takesEntry (m .request)) (completionFor (m .request) (firstWaiting w) (length (m .bytes)) ∷ []) [])
       where
         omega' : (i : ℕ) → suc (i + 0) ≡ packetCount m → suc i ≡ packetCount m
         omega' i n = omega arith
@@ -171,17 +171,17 @@ module _ (w : Whole) (m : Message) (first : Psn) (P : Permitted (w .pair .setup)
     rest (suc k) i n E b u mem G e Y l =
         let h : i < packetCount m = omega arith in
         let more-come : isLast (slot i) ≡ false = ne-eqb (suc i) (packetCount m) (λ z. absurd (omega arith)) in
-        let v = grown (placeFor (slot i)) (current (closedBy (placeFor (slot i)) u) (cutPacket (slot i))) (netOf (cutPacket (slot i))) in
-        let mem2 = put mem (base + i * pmtu) (pieceAt (m .bytes) pmtu i) in
+        let v = messageAfter (placeFor (slot i)) (current (closedBy (placeFor (slot i)) u) (cutPacket (slot i))) (payloadSize (cutPacket (slot i))) in
+        let mem2 = overwrite mem (base + i * pmtu) (pieceAt (m .bytes) pmtu i) in
         let y = at w (psnAfter first (suc i)) (w .pair .msn) false v (w .pair .entries) mem2 cs in
         let s : taken (at w E (w .pair .msn) b u (w .pair .entries) mem cs) (packetAt (slot i)) (outs i) ≡ y =
         steps w m first P Cr small (S .unreliable) (S .ready) (S .idle) sup i h E (w .pair .msn) b u mem cs G Y l (outs i) (room i)
         ∙ ((λ j.
-        at w (next-psn i j) (msnBy (more-come j) (w .pair .msn)) false v (entriesBy (more-come j && takes (m .request)) (w .pair .entries)) mem2
-        (cs ++ cond (more-come j && takes (m .request)) (completionFor (m .request) (firstEntry w) (length (m .bytes)) ∷ []) []))
+        at w (next-psn i j) (msnBy (more-come j) (w .pair .msn)) false v (entriesBy (more-come j && takesEntry (m .request)) (w .pair .entries)) mem2
+        (cs ++ cond (more-come j && takesEntry (m .request)) (completionFor (m .request) (firstWaiting w) (length (m .bytes)) ∷ []) []))
         ∙ λ j. at w (psnAfter first (suc i)) (w .pair .msn) false v (w .pair .entries) mem2 (append-nil cs j)) in
         let I = more w m first P Cr small (S .unreliable) (S .ready) (S .idle) sup i h E (w .pair .msn) b u mem cs G Y l more-come in
-        let grown-memory : mem2 ≡ memoryAt (suc i) = ap (λ y. put y (base + i * pmtu) (pieceAt (m .bytes) pmtu i)) e ∙ grows x0 base (m .bytes) pmtu i B (within i h) in
+        let grown-memory : mem2 ≡ memoryAt (suc i) = ap (λ y. overwrite y (base + i * pmtu) (pieceAt (m .bytes) pmtu i)) e ∙ grows x0 base (m .bytes) pmtu i B (within i h) in
         let Z : Steady (y .whole) = subst (λ z. Steady (z .whole)) s (steady w m first P Cr small (S .unreliable) (S .ready) (S .idle) sup i h E (w .pair .msn) b u mem cs G Y l (outs i)) in
         let L : length mem2 ≡ w .pair .setup .memory =
         ap (λ z. length (z .memory)) (sym s) ∙ kept w m first P Cr small (S .unreliable) (S .ready) (S .idle) sup i h E (w .pair .msn) b u mem cs G Y l (outs i) in
@@ -198,8 +198,8 @@ handed-whole outs m first x K allowed sup =
     let G = begins w m first P (K .carries) small S sup n (w .pair .expected) (w .pair .message) in
     let k = packetCount m - 1 in
     let e : suc k ≡ packetCount m = omega arith in
-    let b = bounded w m first P (K .carries) small (S .unreliable) (S .ready) (S .idle) sup 0 n (w .pair .expected) (w .pair .msn) (w .pair .mark) (w .pair .message) (x .memory) (x .completions) G (S .steady) (K .memory) in
-    let none : x .memory ≡ put (x .memory) (target (m .request) (w .regions) (firstEntry w)) (take (0 * m .connection .pmtu) (m .bytes)) =
-    sym (put-none (x .memory) (target (m .request) (w .regions) (firstEntry w)) (take (0 * m .connection .pmtu) (m .bytes)) (simp length-take (omega (arith, zero-mul (m .connection .pmtu))))) in
-    subst (λ j. handed outs m first x 0 (replicate j true) ≡ delivered x m first) e
-    (rest w m first P (K .carries) small S sup (x .memory) (x .completions) outs (K .outputs) b k 0 (omega arith) (w .pair .expected) (w .pair .mark) (w .pair .message) (x .memory) G none (S .steady) (K .memory))
+    let b = bounded w m first P (K .carries) small (S .unreliable) (S .ready) (S .idle) sup 0 n (w .pair .expected) (w .pair .msn) (w .pair .nakmark) (w .pair .message) (x .memory) (x .completions) G (S .steady) (K .memory) in
+    let none : x .memory ≡ overwrite (x .memory) (target (m .request) (w .regions) (firstWaiting w)) (take (0 * m .connection .pmtu) (m .bytes)) =
+    sym (put-none (x .memory) (target (m .request) (w .regions) (firstWaiting w)) (take (0 * m .connection .pmtu) (m .bytes)) (simp length-take (omega (arith, zero-mul (m .connection .pmtu))))) in
+    subst (λ j. handed outs m first x 0 (replicate j true) ≡ handedAll x m first) e
+    (rest w m first P (K .carries) small S sup (x .memory) (x .completions) outs (K .outputs) b k 0 (omega arith) (w .pair .expected) (w .pair .nakmark) (w .pair .message) (x .memory) G none (S .steady) (K .memory))

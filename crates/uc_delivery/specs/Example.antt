@@ -14,7 +14,7 @@ use Rattle.cut_spec.specs.declared.Request.{Request}
 use Rattle.cut_spec.specs.declared.Request.the-variants.{Send, SendImmediate, Write, WriteImmediate}
 use Rattle.delivery.specs.Stream.{Message, packetCount}
 use Rattle.delivery.specs.Demand.{Run, Allowed}
-use Rattle.uc_delivery.specs.Message.{Comes, Supplied, handed, delivered, Untold}
+use Rattle.uc_delivery.specs.Message.{Comes, Supplied, handed, handedAll, Untold}
 
 unfoldable pub setup : Setup
 setup =
@@ -72,7 +72,7 @@ abbrev pub Delivered : Type 0
 Delivered =
     (packetCount (message (SendImmediate 77) 600) ≡ 3)
     × (handed out (message (SendImmediate 77) 600) first fresh 0 (true ∷ true ∷ true ∷ [])
-    ≡ delivered fresh (message (SendImmediate 77) 600) first)
+    ≡ handedAll fresh (message (SendImmediate 77) 600) first)
 
 -- And with the second and third packet lost nothing is told; then another SEND, an Only, comes to the pair whose one entry
 -- the first message holds, and is delivered with it.
@@ -82,4 +82,4 @@ broken = handed out (message (SendImmediate 77) 600) first fresh 0 (true ∷ fal
 abbrev pub Interrupted : Type 0
 Interrupted =
     Untold fresh broken
-    × (handed out (message Send 3) first broken 0 (true ∷ []) ≡ delivered broken (message Send 3) first)
+    × (handed out (message Send 3) first broken 0 (true ∷ []) ≡ handedAll broken (message Send 3) first)

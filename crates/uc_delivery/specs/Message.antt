@@ -10,7 +10,7 @@ use Rattle.sequence.specs.Sequence.{psnAfter, msnNext}
 use Rattle.sequence.specs.declared.Psn.{Psn}
 use Rattle.header.specs.Bytes.{Bytes}
 use Rattle.header.specs.Read.{bthOf}
-use Rattle.memory.specs.Memory.{put}
+use Rattle.memory.specs.Memory.{overwrite}
 use Rattle.table.specs.Table.{slotAt}
 use Rattle.table.specs.declared.Entry.{Entry}
 use Rattle.table.specs.declared.Ring.{Ring}
@@ -23,7 +23,7 @@ use Rattle.cut_spec.specs.declared.Request.the-variants.{Send, SendImmediate, W
 use Rattle.responder_spec.specs.Kept.{Steady}
 use Rattle.delivery.specs.Stream.{Message, packetCount, packetAt}
 use Rattle.delivery.specs.Made.{NoneSetUp}
-use Rattle.delivery.specs.Plain.{takes, completionFor, lies}
+use Rattle.delivery.specs.Plain.{takesEntry, completionFor, regionOffset}
 use Rattle.delivery.specs.Demand.{Run, taken, Allowed, Addressed, AtLeast, entryOf}
 
 -- A pair of the unreliable connection as calls leave it, Ready. It may have received anything: a message may be open, and
@@ -67,32 +67,32 @@ pub record Comes (outs : ℕ → List ℕ) (m : Message) (first : Psn) (x : Run)
   pub carries : Carrier (m .request)
 
 -- The first entry of the ring: the one of an open SEND, which a First or Only closes, else the first that waits.
-abbrev pub firstEntry : Whole → Entry
-firstEntry w = entryOf (getD (w .entries) (slotAt (w .pair .entries .head) 0) [])
+abbrev pub firstWaiting : Whole → Entry
+firstWaiting w = entryOf (getD (w .entries) (slotAt (w .pair .entries .head) 0) [])
 
 -- an entry is there if the message takes one, and a SEND fits it
 pub record Supplied (w : Whole) (m : Message) : Type 0 where
-  pub some : takes (m .request) ≡ true → 1 ≤ w .pair .entries .count
-  pub long : AtLeast (firstEntry w .length) (m .request) (length (m .bytes))
+  pub some : takesEntry (m .request) ≡ true → 1 ≤ w .pair .entries .count
+  pub long : AtLeast (firstWaiting w .length) (m .request) (length (m .bytes))
 
 -- where the message goes: into the entry, or to the address of its region
 abbrev pub target : Request → List (List ℕ) → Entry → ℕ
 target Send regions e = e .offset
 target (SendImmediate v) regions e = e .offset
-target (Write t) regions e = lies regions (t .key) (t .address)
-target (WriteImmediate t v) regions e = lies regions (t .key) (t .address)
+target (Write t) regions e = regionOffset regions (t .key) (t .address)
+target (WriteImmediate t v) regions e = regionOffset regions (t .key) (t .address)
 target (Read a) regions e = 0
 target (CmpSwap a) regions e = 0
 target (FetchAdd t v) regions e = 0
 
 -- the entry, if the message takes one, is used up
 abbrev pub without : Bool → Ring → Ring
-without takes r = cond takes (record { head = slotAt (r .head) 1; count = r .count - 1 }) r
+without takesEntry r = cond takesEntry (record { head = slotAt (r .head) 1; count = r .count - 1 }) r
 
 -- The whole of what is left: the message's bytes in their place and no other byte changed; one completion, if the message
 -- takes an entry; the MSN one higher, the PSN behind the last packet's expected, no message open.
-abbrev pub delivered : Run → Message → Psn → Run
-delivered x m first =
+abbrev pub handedAll : Run → Message → Psn → Run
+handedAll x m first =
     let w = x .whole in
     let q = w .pair in
     record {
@@ -104,9 +104,9 @@ delivered x m first =
                   state = q .state;
                   expected = psnAfter first (packetCount m);
                   msn = msnNext (q .msn);
-                  mark = false;
-                  message = record { kind = 255; placed = 0; address = 0; key = 0; length = 0 };
-                  entries = without (takes (m .request)) (q .entries);
+                  nakmark = false;
+                  message = record { kind = 255; stored = 0; address = 0; key = 0; length = 0 };
+                  entries = without (takesEntry (m .request)) (q .entries);
                   read = q .read;
                   saved = q .saved;
                 };
@@ -114,8 +114,8 @@ delivered x m first =
             entries = w .entries;
             saved = w .saved;
           };
-      memory = put (x .memory) (target (m .request) (w .regions) (firstEntry w)) (m .bytes);
-      completions = x .completions ++ cond (takes (m .request)) (completionFor (m .request) (firstEntry w) (length (m .bytes)) ∷ []) [];
+      memory = overwrite (x .memory) (target (m .request) (w .regions) (firstWaiting w)) (m .bytes);
+      completions = x .completions ++ cond (takesEntry (m .request)) (completionFor (m .request) (firstWaiting w) (length (m .bytes)) ∷ []) [];
     }
 
 -- Its function is enabled, and the bytes that a WRITE names lie in the region of its key.
@@ -124,7 +124,7 @@ HandedWhole =
     (outs : ℕ → List ℕ) (m : Message) (first : Psn) (x : Run) → Comes outs m first x
     → Allowed (x .whole .pair .setup) (x .whole .regions) (m .request) (length (m .bytes))
     → Supplied (x .whole) m
-    → handed outs m first x 0 (replicate (packetCount m) true) ≡ delivered x m first
+    → handed outs m first x 0 (replicate (packetCount m) true) ≡ handedAll x m first
 
 -- The pair does not take a later packet of the message for one of a message that is open already: none of its kind is open,
 -- or the expected PSN is none of theirs. Without this the rules let such a packet go on with the other message.
@@ -193,7 +193,7 @@ WholeAfter =
     → let y = heard x before in
     Allowed (y .whole .pair .setup) (y .whole .regions) (m .request) (length (m .bytes))
     → Supplied (y .whole) m
-    → handed outs m first y 0 (replicate (packetCount m) true) ≡ delivered y m first
+    → handed outs m first y 0 (replicate (packetCount m) true) ≡ handedAll y m first
 
 abbrev pub PartAfter : Type 0
 PartAfter =

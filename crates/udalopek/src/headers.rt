@@ -6,7 +6,7 @@ ghost use mathlib.Core.Path.{_≡_};
 ghost use Rattle.header.specs.Write.{answerNumber};
 ghost use Rattle.header.specs.Write.{doneBytes};
 ghost use Rattle.abi_spec.specs.Fields.{bthWords, extensionWords};
-ghost use Rattle.udalopek_spec.specs.Headers.{readNumber, readBth, readExtension, ownWords, writeNumber, writeOutput, writeTold};
+ghost use Rattle.udalopek_spec.specs.Headers.{readHeaderNumber, readBth, readExtension, ownWords, writeNumber, writeOutput, writeReport};
 
 // Reads a header.
 #[no_mangle]
@@ -15,7 +15,7 @@ pub extern "C" fn udalopek_read_header(
     bth: &mut [u64; 11],
     extension: &mut [u64; 10],
 ) -> u8
-    ensures { λ r. ⌜ r ≡ readNumber (now (packet .entry)) ⌝ }
+    ensures { λ r. ⌜ r ≡ readHeaderNumber (now (packet .entry)) ⌝ }
     ensures { λ r. ⌜ now (bth .exit) ≡ readBth (now (packet .entry)) (now (bth .entry)) ⌝ }
     ensures { λ r. ⌜ now (extension .exit) ≡ readExtension (now (packet .entry)) (now (extension .entry)) ⌝ }
 {
@@ -51,7 +51,7 @@ fn own_words(bth: &[u64; 11], extension: &[u64; 10]) -> bool
     false
 }
 
-pub(crate) fn bytes_told(answer: Answer) -> u64
+pub(crate) fn bytes_written(answer: Answer) -> u64
     ensures { λ r. ⌜ r ≡ doneBytes answer ⌝ }
 {
     match answer {
@@ -60,7 +60,7 @@ pub(crate) fn bytes_told(answer: Answer) -> u64
     }
 }
 
-pub(crate) fn refusal_told(answer: Answer) -> u8
+pub(crate) fn refusal_number(answer: Answer) -> u8
     ensures { λ r. ⌜ r ≡ answerNumber answer ⌝ }
 {
     match answer {
@@ -75,11 +75,11 @@ pub extern "C" fn udalopek_write_header(
     bth: &[u64; 11],
     extension: &[u64; 10],
     out: &mut [u8],
-    told: &mut [u64; 1],
+    report: &mut [u64; 1],
 ) -> u8
     ensures { λ r. ⌜ r ≡ writeNumber (now (bth .entry)) (now (extension .entry)) (now (out .entry)) ⌝ }
     ensures { λ r. ⌜ now (out .exit) ≡ writeOutput (now (bth .entry)) (now (extension .entry)) (now (out .entry)) ⌝ }
-    ensures { λ r. ⌜ now (told .exit) ≡ writeTold (now (bth .entry)) (now (extension .entry)) (now (out .entry)) ⌝ }
+    ensures { λ r. ⌜ now (report .exit) ≡ writeReport (now (bth .entry)) (now (extension .entry)) (now (out .entry)) ⌝ }
 {
     let own = own_words(bth, extension);
     if own {
@@ -90,9 +90,9 @@ pub extern "C" fn udalopek_write_header(
             extension: e,
         };
         let answer = encode::write(h, out);
-        *told = [bytes_told(answer)];
-        return refusal_told(answer);
+        *report = [bytes_written(answer)];
+        return refusal_number(answer);
     }
-    *told = [0; 1];
+    *report = [0; 1];
     39
 }

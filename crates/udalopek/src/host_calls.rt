@@ -8,19 +8,19 @@ use table::Entry;
 use table::Region;
 ghost use mathlib.Core.Path.{_≡_};
 ghost use Rattle.pair.specs.Answer.{statusNumber};
-ghost use Rattle.abi_spec.specs.Words.{put};
+ghost use Rattle.abi_spec.specs.Words.{overwriteWords};
 ghost use mathlib.Core.Bool.{false};
-ghost use Rattle.abi_spec.specs.Pair.{pairWords, strange};
+ghost use Rattle.abi_spec.specs.Pair.{pairWords, malformed};
 ghost use Rattle.udalopek_spec.specs.Host.{setUpNumber, setUpWords, setUpTable, resetNumber, resetWords, resetTable, readyNumber, readyWords, addNumber, addTable, removeNumber, removeTable, postNumber, postWords, postTable};
 
 // Writes a pair over its words, and answers a number.
 pub(crate) fn leave(pair: &mut [u64], q: Pair, status: Status) -> u8
     ensures { λ r. ⌜ r ≡ statusNumber status ⌝ }
-    ensures { λ r. ⌜ now (pair .exit) ≡ put (now (pair .entry)) (pairWords q) ⌝ }
-    ensures { λ r. ⌜ strange (pairWords q) ≡ false ⌝ }
+    ensures { λ r. ⌜ now (pair .exit) ≡ overwriteWords (now (pair .entry)) (pairWords q) ⌝ }
+    ensures { λ r. ⌜ malformed (pairWords q) ≡ false ⌝ }
 {
     let next = abi::pair_words(q);
-    abi::put(pair, &next);
+    abi::overwrite_words(pair, &next);
     status.number()
 }
 
@@ -45,7 +45,7 @@ pub extern "C" fn udalopek_set_up(
     ensures { λ r. ⌜ r ≡ setUpNumber (now (pair .entry)) (record { pmtu = pmtu; memory = memory; ours = ours; theirs = theirs; start = record { 0 = start }; pkey = pkey; service = service; timer = timer; send = send; write = write; read = read; atomic = atomic }) ⌝ }
     ensures { λ r. ⌜ now (pair .exit) ≡ setUpWords (now (pair .entry)) (record { pmtu = pmtu; memory = memory; ours = ours; theirs = theirs; start = record { 0 = start }; pkey = pkey; service = service; timer = timer; send = send; write = write; read = read; atomic = atomic }) ⌝ }
     ensures { λ r. ⌜ now (regions .exit) ≡ setUpTable (now (pair .entry)) (now (regions .entry)) (record { pmtu = pmtu; memory = memory; ours = ours; theirs = theirs; start = record { 0 = start }; pkey = pkey; service = service; timer = timer; send = send; write = write; read = read; atomic = atomic }) ⌝ }
-    ensures { λ r. ⌜ (r ≡ 0 → strange (now (pair .exit)) ≡ false) ⌝ }
+    ensures { λ r. ⌜ (r ≡ 0 → malformed (now (pair .exit)) ≡ false) ⌝ }
 {
     if pair.len() != 30 {
         return 34;
@@ -81,9 +81,9 @@ pub extern "C" fn udalopek_reset(pair: &mut [u64], regions: &mut [[u64; 7]; 16])
     ensures { λ r. ⌜ r ≡ resetNumber (now (pair .entry)) ⌝ }
     ensures { λ r. ⌜ now (pair .exit) ≡ resetWords (now (pair .entry)) ⌝ }
     ensures { λ r. ⌜ now (regions .exit) ≡ resetTable (now (pair .entry)) (now (regions .entry)) ⌝ }
-    ensures { λ r. ⌜ strange (now (pair .exit)) ≡ strange (now (pair .entry)) ⌝ }
+    ensures { λ r. ⌜ malformed (now (pair .exit)) ≡ malformed (now (pair .entry)) ⌝ }
 {
-    let bad = abi::strange(pair);
+    let bad = abi::malformed(pair);
     if bad {
         return 34;
     }
@@ -103,9 +103,9 @@ pub extern "C" fn udalopek_reset(pair: &mut [u64], regions: &mut [[u64; 7]; 16])
 pub extern "C" fn udalopek_make_ready(pair: &mut [u64]) -> u8
     ensures { λ r. ⌜ r ≡ readyNumber (now (pair .entry)) ⌝ }
     ensures { λ r. ⌜ now (pair .exit) ≡ readyWords (now (pair .entry)) ⌝ }
-    ensures { λ r. ⌜ strange (now (pair .exit)) ≡ strange (now (pair .entry)) ⌝ }
+    ensures { λ r. ⌜ malformed (now (pair .exit)) ≡ malformed (now (pair .entry)) ⌝ }
 {
-    let bad = abi::strange(pair);
+    let bad = abi::malformed(pair);
     if bad {
         return 34;
     }
@@ -132,12 +132,12 @@ pub extern "C" fn udalopek_add_region(
     ensures { λ r. ⌜ r ≡ addNumber (now (pair .entry)) (now (regions .entry)) (record { key = key; address = address; length = length; offset = offset; write = write; read = read; atomic = atomic }) ⌝ }
     ensures { λ r. ⌜ now (regions .exit) ≡ addTable (now (pair .entry)) (now (regions .entry)) (record { key = key; address = address; length = length; offset = offset; write = write; read = read; atomic = atomic }) ⌝ }
 {
-    let bad = abi::strange(pair);
+    let bad = abi::malformed(pair);
     if bad {
         return 34;
     }
     let q = abi::pair_of(pair);
-    let odd = abi::regions_strange(regions, wide(q.setup.memory));
+    let odd = abi::regions_malformed(regions, wide(q.setup.memory));
     if odd {
         return 34;
     }
@@ -160,7 +160,7 @@ pub extern "C" fn udalopek_remove_region(pair: &[u64], regions: &mut [[u64; 7]; 
     ensures { λ r. ⌜ r ≡ removeNumber (now (pair .entry)) (now (regions .entry)) key ⌝ }
     ensures { λ r. ⌜ now (regions .exit) ≡ removeTable (now (pair .entry)) (now (regions .entry)) key ⌝ }
 {
-    let bad = abi::strange(pair);
+    let bad = abi::malformed(pair);
     if bad {
         return 34;
     }
@@ -169,7 +169,7 @@ pub extern "C" fn udalopek_remove_region(pair: &[u64], regions: &mut [[u64; 7]; 
     if unsound {
         return 34;
     }
-    let odd = abi::regions_strange(regions, wide(q.setup.memory));
+    let odd = abi::regions_malformed(regions, wide(q.setup.memory));
     if odd {
         return 34;
     }
@@ -189,7 +189,7 @@ pub extern "C" fn udalopek_post_entry(
     ensures { λ r. ⌜ r ≡ postNumber (now (pair .entry)) (record { number = number; offset = offset; length = length }) ⌝ }
     ensures { λ r. ⌜ now (pair .exit) ≡ postWords (now (pair .entry)) (record { number = number; offset = offset; length = length }) ⌝ }
     ensures { λ r. ⌜ now (entries .exit) ≡ postTable (now (pair .entry)) (now (entries .entry)) (record { number = number; offset = offset; length = length }) ⌝ }
-    ensures { λ r. ⌜ strange (now (pair .exit)) ≡ strange (now (pair .entry)) ⌝ }
+    ensures { λ r. ⌜ malformed (now (pair .exit)) ≡ malformed (now (pair .entry)) ⌝ }
 {
     let q = abi::pair_of(pair);
     let own = abi::pair_words(q);
@@ -206,6 +206,6 @@ pub extern "C" fn udalopek_post_entry(
     let after = left.pair;
     let status = left.status;
     let next = abi::pair_words(after);
-    abi::put(pair, &next);
+    abi::overwrite_words(pair, &next);
     status.number()
 }

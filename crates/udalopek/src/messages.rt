@@ -1,16 +1,16 @@
 // A message cut into packets, one a call.
-use crate::headers::bytes_told;
-use crate::headers::refusal_told;
+use crate::headers::bytes_written;
+use crate::headers::refusal_number;
 use crate::number::wide32;
-use header::AtomicEth;
-use header::Reth;
 use cut_spec::Connection;
 use cut_spec::Following;
 use cut_spec::Request;
 use cut_spec::Target;
+use header::AtomicEth;
+use header::Reth;
 use sequence::Psn;
 ghost use mathlib.Core.Path.{_≡_};
-ghost use Rattle.udalopek_spec.specs.Cutting.{requestOf, followingPsn, cutTold, cutNumber, cutOutput, cutWords};
+ghost use Rattle.udalopek_spec.specs.Cutting.{requestOf, followingPsn, cutReport, cutNumber, cutOutput, cutWords};
 
 // The request of a kind, from the numbers that it has.
 fn request_of(
@@ -67,8 +67,8 @@ fn following_psn(f: Following) -> u64
 }
 
 // Nothing is told of a cut that is refused.
-fn cut_told(number: u8, n: u64, psn: u64) -> [u64; 2]
-    ensures { λ r. ⌜ r ≡ cutTold number n psn ⌝ }
+fn cut_report(number: u8, n: u64, psn: u64) -> [u64; 2]
+    ensures { λ r. ⌜ r ≡ cutReport number n psn ⌝ }
 {
     if number != 0 {
         return [0; 2];
@@ -94,14 +94,14 @@ pub extern "C" fn udalopek_cut(
     immediate: u32,
     message: &[u8],
     out: &mut [u8],
-    told: &mut [u64; 2],
+    report: &mut [u64; 2],
 ) -> u8
     ensures { λ r. ⌜ r ≡ cutNumber kind (record { service = service; pmtu = pmtu; pkey = pkey; dest = dest }) (requestOf kind address key length swap compare immediate) (now (message .entry)) (record { 0 = psn }) index (now (out .entry)) ⌝ }
     ensures { λ r. ⌜ now (out .exit) ≡ cutOutput kind (record { service = service; pmtu = pmtu; pkey = pkey; dest = dest }) (requestOf kind address key length swap compare immediate) (now (message .entry)) (record { 0 = psn }) index (now (out .entry)) ⌝ }
-    ensures { λ r. ⌜ now (told .exit) ≡ cutWords kind (record { service = service; pmtu = pmtu; pkey = pkey; dest = dest }) (requestOf kind address key length swap compare immediate) (now (message .entry)) (record { 0 = psn }) index (now (out .entry)) ⌝ }
+    ensures { λ r. ⌜ now (report .exit) ≡ cutWords kind (record { service = service; pmtu = pmtu; pkey = pkey; dest = dest }) (requestOf kind address key length swap compare immediate) (now (message .entry)) (record { 0 = psn }) index (now (out .entry)) ⌝ }
 {
     if 6 < kind {
-        *told = [0; 2];
+        *report = [0; 2];
         return 39;
     }
     let request = request_of(kind, address, key, length, swap, compare, immediate);
@@ -114,8 +114,8 @@ pub extern "C" fn udalopek_cut(
     let first = Psn(psn);
     let next = cut::next_psn(request, message.len(), pmtu, first);
     let answer = cut::cut(connection, request, message, first, index, out);
-    let number = refusal_told(answer);
-    let n = bytes_told(answer);
-    *told = cut_told(number, n, following_psn(next));
+    let number = refusal_number(answer);
+    let n = bytes_written(answer);
+    *report = cut_report(number, n, following_psn(next));
     number
 }

@@ -4,8 +4,8 @@ use crate::number::wide;
 use crate::number::wide32;
 use responder_spec::Completion;
 ghost use mathlib.Core.Path.{_≡_};
-ghost use Rattle.abi_spec.specs.Pair.{strange};
-ghost use Rattle.udalopek_spec.specs.Packets.{names, oddFor, inboundNumber, inboundWords, inboundRows, inboundBytes, inboundOutput, inboundTold, toldWords, nextNumber, nextWords, nextOutput, nextTold};
+ghost use Rattle.abi_spec.specs.Pair.{malformed};
+ghost use Rattle.udalopek_spec.specs.Packets.{names, malformedFor, inboundNumber, inboundWords, inboundRows, inboundBytes, inboundOutput, inboundReport, reportWords, nextNumber, nextWords, nextOutput, nextReport};
 
 // Whether a packet may name a region: all opcodes but those of SEND.
 fn names(packet: &[u8]) -> bool
@@ -18,21 +18,21 @@ fn names(packet: &[u8]) -> bool
 }
 
 // Whether a packet may name a region, and the table has a row that no call wrote.
-fn odd_for(regions: &[[u64; 7]; 16], memory: u64, packet: &[u8]) -> bool
-    ensures { λ r. ⌜ r ≡ oddFor (now (regions .entry)) memory (now (packet .entry)) ⌝ }
+fn malformed_for(regions: &[[u64; 7]; 16], memory: u64, packet: &[u8]) -> bool
+    ensures { λ r. ⌜ r ≡ malformedFor (now (regions .entry)) memory (now (packet .entry)) ⌝ }
 {
     let keyed = names(packet);
     if keyed {
-        return abi::regions_strange(regions, memory);
+        return abi::regions_malformed(regions, memory);
     }
     false
 }
 
 // What the host is told: bytes to send, and the completion.
-fn told_words(sent: usize, c: Completion) -> [u64; 6]
-    ensures { λ r. ⌜ r ≡ toldWords sent c ⌝ }
+fn report_words(outgoing: usize, c: Completion) -> [u64; 6]
+    ensures { λ r. ⌜ r ≡ reportWords outgoing c ⌝ }
 {
-    let s = wide(sent);
+    let s = wide(outgoing);
     let some = bit(c.some);
     let n = wide(c.length);
     let i = bit(c.immediate);
@@ -51,35 +51,35 @@ pub extern "C" fn udalopek_inbound(
     mem: &mut [u8],
     packet: &[u8],
     out: &mut [u8],
-    told: &mut [u64; 6],
+    report: &mut [u64; 6],
 ) -> u8
     ensures { λ r. ⌜ r ≡ inboundNumber (now (pair .entry)) (now (regions .entry)) (now (entries .entry)) (now (saved .entry)) (now (mem .entry)) (now (packet .entry)) (now (out .entry)) ⌝ }
     ensures { λ r. ⌜ now (pair .exit) ≡ inboundWords (now (pair .entry)) (now (regions .entry)) (now (entries .entry)) (now (saved .entry)) (now (mem .entry)) (now (packet .entry)) (now (out .entry)) ⌝ }
     ensures { λ r. ⌜ now (saved .exit) ≡ inboundRows (now (pair .entry)) (now (regions .entry)) (now (entries .entry)) (now (saved .entry)) (now (mem .entry)) (now (packet .entry)) (now (out .entry)) ⌝ }
     ensures { λ r. ⌜ now (mem .exit) ≡ inboundBytes (now (pair .entry)) (now (regions .entry)) (now (entries .entry)) (now (saved .entry)) (now (mem .entry)) (now (packet .entry)) (now (out .entry)) ⌝ }
     ensures { λ r. ⌜ now (out .exit) ≡ inboundOutput (now (pair .entry)) (now (regions .entry)) (now (entries .entry)) (now (saved .entry)) (now (mem .entry)) (now (packet .entry)) (now (out .entry)) ⌝ }
-    ensures { λ r. ⌜ now (told .exit) ≡ inboundTold (now (pair .entry)) (now (regions .entry)) (now (entries .entry)) (now (saved .entry)) (now (mem .entry)) (now (packet .entry)) (now (out .entry)) ⌝ }
-    ensures { λ r. ⌜ strange (now (pair .exit)) ≡ strange (now (pair .entry)) ⌝ }
+    ensures { λ r. ⌜ now (report .exit) ≡ inboundReport (now (pair .entry)) (now (regions .entry)) (now (entries .entry)) (now (saved .entry)) (now (mem .entry)) (now (packet .entry)) (now (out .entry)) ⌝ }
+    ensures { λ r. ⌜ malformed (now (pair .exit)) ≡ malformed (now (pair .entry)) ⌝ }
 {
     let q = abi::pair_of(pair);
     let own = abi::pair_words(q);
     let said = abi::same(pair, &own);
     if !said {
-        *told = [0; 6];
+        *report = [0; 6];
         return 34;
     }
-    let odd = odd_for(regions, wide(q.setup.memory), packet);
+    let odd = malformed_for(regions, wide(q.setup.memory), packet);
     if odd {
-        *told = [0; 6];
+        *report = [0; 6];
         return 34;
     }
     let got = responder::inbound(q, regions, entries, saved, mem, packet, out);
     let completion = got.completion;
-    *told = told_words(got.sent, completion);
+    *report = report_words(got.outgoing, completion);
     let left = got.pair;
     let status = got.status;
     let next = abi::pair_words(left);
-    abi::put(pair, &next);
+    abi::overwrite_words(pair, &next);
     status.number()
 }
 
@@ -89,26 +89,26 @@ pub extern "C" fn udalopek_next_response(
     pair: &mut [u64],
     mem: &[u8],
     out: &mut [u8],
-    told: &mut [u64; 1],
+    report: &mut [u64; 1],
 ) -> u8
     ensures { λ r. ⌜ r ≡ nextNumber (now (pair .entry)) (now (mem .entry)) (now (out .entry)) ⌝ }
     ensures { λ r. ⌜ now (pair .exit) ≡ nextWords (now (pair .entry)) (now (mem .entry)) (now (out .entry)) ⌝ }
     ensures { λ r. ⌜ now (out .exit) ≡ nextOutput (now (pair .entry)) (now (mem .entry)) (now (out .entry)) ⌝ }
-    ensures { λ r. ⌜ now (told .exit) ≡ nextTold (now (pair .entry)) (now (mem .entry)) (now (out .entry)) ⌝ }
-    ensures { λ r. ⌜ strange (now (pair .exit)) ≡ strange (now (pair .entry)) ⌝ }
+    ensures { λ r. ⌜ now (report .exit) ≡ nextReport (now (pair .entry)) (now (mem .entry)) (now (out .entry)) ⌝ }
+    ensures { λ r. ⌜ malformed (now (pair .exit)) ≡ malformed (now (pair .entry)) ⌝ }
 {
     let q = abi::pair_of(pair);
     let own = abi::pair_words(q);
     let said = abi::same(pair, &own);
     if !said {
-        *told = [0; 1];
+        *report = [0; 1];
         return 34;
     }
     let got = responder::next_response(q, mem, out);
-    *told = [wide(got.sent)];
+    *report = [wide(got.outgoing)];
     let after = got.pair;
     let status = got.status;
     let next = abi::pair_words(after);
-    abi::put(pair, &next);
+    abi::overwrite_words(pair, &next);
     status.number()
 }

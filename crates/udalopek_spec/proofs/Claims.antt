@@ -20,20 +20,20 @@ use Rattle.responder_spec.specs.Inbound.{inbound, inboundMemory, inboundSaved, 
 use Rattle.responder_spec.specs.Response.{nextResponse, nextOut}
 use Rattle.responder_spec.specs.Effects.{Silent}
 use Rattle.responder_spec.proofs.Effects.{inbound-table}
-use Rattle.abi_spec.specs.Pair.{pairOf, pairWords, strange}
-use Rattle.abi_spec.specs.Rows.{strangeFrom}
+use Rattle.abi_spec.specs.Pair.{pairOf, pairWords, malformed}
+use Rattle.abi_spec.specs.Rows.{malformedFrom}
 use Rattle.abi_spec.specs.Claims.{PairFields}
 use Rattle.abi_spec.proofs.Laws.{let-in, pair-back, others-strange}
 use Rattle.abi_spec.proofs.Regions.{regions-let-in, row-strange}
-use Rattle.udalopek_spec.specs.Packets.{names, oddFor, refused, inboundNumber, inboundWords, inboundRows, inboundBytes, inboundOutput, inboundTold, toldWords, nextNumber, nextWords, nextOutput, nextTold}
-use Rattle.udalopek_spec.specs.Cutting.{requestOf, cutTold}
+use Rattle.udalopek_spec.specs.Packets.{names, malformedFor, refused, inboundNumber, inboundWords, inboundRows, inboundBytes, inboundOutput, inboundReport, reportWords, nextNumber, nextWords, nextOutput, nextReport}
+use Rattle.udalopek_spec.specs.Cutting.{requestOf, cutReport}
 use Rattle.udalopek_spec.specs.Host.{unmade, oddRegions, resetNumber, resetWords, resetTable, readyNumber, readyWords, addNumber, addTable, removeNumber, removeTable, postNumber, postWords, postTable}
 use Rattle.udalopek_spec.specs.Claims.{ToldSays, KindsAre, CutTells, InboundKeeps, NamesNone, WordsRefused, RowRefused, Keyed, Readable, InboundIs, NextIs, PostIs, ReadyIs, ResetIs, AddIs, RemoveIs}
 use Rattle.udalopek_spec.proofs.Steps.{second, first, refused-words}
 
 -- nothing is told of a completion that is none
-silent : (c : Completion) → Silent c → toldWords 0 c ≡ replicate 6 0
-unfolding toldWords
+silent : (c : Completion) → Silent c → reportWords 0 c ≡ replicate 6 0
+unfolding reportWords
 silent c s = simp (s .some, s .number, s .length, s .immediate, s .value)
 
 -- behind a test that refuses with 34: what a drop or a refusal keeps there is kept
@@ -41,12 +41,12 @@ behind : {A : Type 0} (b : Bool) (n : ℕ) (x y : A) → (b ≡ false → (n ≡
 behind true n x y f h = refl
 behind false n x y f h = f refl h
 
-let-through : (w : List ℕ) (regions : List (List ℕ)) (p : List ℕ) → refused w regions p ≡ false → strange w ≡ false
+let-through : (w : List ℕ) (regions : List (List ℕ)) (p : List ℕ) → refused w regions p ≡ false → malformed w ≡ false
 unfolding refused
-let-through w regions p e = or-left (strange w) (oddFor regions (pairOf w .setup .memory) p) e
+let-through w regions p e = or-left (malformed w) (malformedFor regions (pairOf w .setup .memory) p) e
 
 pub inbound-keeps : InboundKeeps
-unfolding inboundNumber inboundWords inboundRows inboundBytes inboundOutput inboundTold
+unfolding inboundNumber inboundWords inboundRows inboundBytes inboundOutput inboundReport
 inbound-keeps w regions entries saved m p out h =
     let b = refused w regions p in
     let t = inbound-table (pairOf w) regions entries saved m p out in (
@@ -54,13 +54,13 @@ inbound-keeps w regions entries saved m p out h =
       behind b _ saved _ (λ e g. t .quiet g .still .saved) h,
       behind b _ m _ (λ e g. t .quiet g .still .memory) h,
       behind b _ out _ (λ e g. t .quiet g .out) h,
-      behind b _ (replicate 6 0) _ (λ e g. ap (λ n. toldWords n (inbound (pairOf w) regions entries saved m p out .completion)) (t .quiet g .sent) ∙ silent _ (t .quiet g .still .completion)) h,
+      behind b _ (replicate 6 0) _ (λ e g. ap (λ n. reportWords n (inbound (pairOf w) regions entries saved m p out .completion)) (t .quiet g .outgoing) ∙ silent _ (t .quiet g .still .completion)) h,
     )
 
 -- the words of a pair are let in, and its table
-readable : (q : Pair) (regions : List (List ℕ)) (p : List ℕ) → Readable q regions p → oddFor regions (q .setup .memory) p ≡ false
-unfolding oddFor
-readable q regions p (inl e) = ap (λ b. cond b (strangeFrom regions (q .setup .memory) 0 16) false) e
+readable : (q : Pair) (regions : List (List ℕ)) (p : List ℕ) → Readable q regions p → malformedFor regions (q .setup .memory) p ≡ false
+unfolding malformedFor
+readable q regions p (inl e) = ap (λ b. cond b (malformedFrom regions (q .setup .memory) 0 16) false) e
 readable q regions p (inr (s, k)) = ap (λ b. cond (names p) b false) (regions-let-in (q .setup .memory) regions s k) ∙ both (names p)
   where
     both : (b : Bool) → cond b false false ≡ false
@@ -68,26 +68,26 @@ readable q regions p (inr (s, k)) = ap (λ b. cond (names p) b false) (regions-l
     both false = refl
 
 pub inbound-is : InboundIs
-unfolding inboundNumber inboundWords inboundRows inboundBytes inboundOutput inboundTold refused
+unfolding inboundNumber inboundWords inboundRows inboundBytes inboundOutput inboundReport refused
 inbound-is q regions entries saved m p out f r =
     let b = pair-back q f in
-    let n : refused (pairWords q) regions p ≡ false = neither (b .1) (ap (λ x. oddFor regions (x .setup .memory) p) (b .0) ∙ readable q regions p r) in (
+    let n : refused (pairWords q) regions p ≡ false = neither (b .1) (ap (λ x. malformedFor regions (x .setup .memory) p) (b .0) ∙ readable q regions p r) in (
       sym (second _ 34 _ n) ∙ ap (λ x. statusNumber (inbound x regions entries saved m p out .status)) (b .0),
       sym (second _ _ _ n) ∙ ap (λ x. pairWords (inbound x regions entries saved m p out .pair)) (b .0),
       sym (second _ _ _ n) ∙ ap (λ x. inboundSaved x regions entries saved m p out) (b .0),
       sym (second _ _ _ n) ∙ ap (λ x. inboundMemory x regions entries saved m p out) (b .0),
       sym (second _ _ _ n) ∙ ap (λ x. inboundOut x regions entries saved m p out) (b .0),
-      sym (second _ _ _ n) ∙ ap (λ x. toldWords (inbound x regions entries saved m p out .sent) (inbound x regions entries saved m p out .completion)) (b .0),
+      sym (second _ _ _ n) ∙ ap (λ x. reportWords (inbound x regions entries saved m p out .outgoing) (inbound x regions entries saved m p out .completion)) (b .0),
     )
 
 pub next-is : NextIs
-unfolding nextNumber nextWords nextOutput nextTold
+unfolding nextNumber nextWords nextOutput nextReport
 next-is q m out f =
     let b = pair-back q f in (
       sym (second _ 34 _ (b .1)) ∙ ap (λ x. statusNumber (nextResponse x m out .status)) (b .0),
       sym (second _ _ _ (b .1)) ∙ ap (λ x. pairWords (nextResponse x m out .pair)) (b .0),
       sym (second _ _ _ (b .1)) ∙ ap (λ x. nextOut x m out) (b .0),
-      sym (second _ _ _ (b .1)) ∙ ap (λ x. nextResponse x m out .sent ∷ []) (b .0),
+      sym (second _ _ _ (b .1)) ∙ ap (λ x. nextResponse x m out .outgoing ∷ []) (b .0),
     )
 
 pub post-is : PostIs
@@ -108,11 +108,11 @@ unfolding inboundNumber
 words-refused w regions entries saved m p out n = sym (first _ 34 _ (refused-words w regions p (others-strange w n)))
 
 pub row-refused : RowRefused
-unfolding inboundNumber refused oddFor names
+unfolding inboundNumber refused malformedFor names
 row-refused w regions entries saved m p out i h k n =
     let s = row-strange (pairOf w .setup .memory) regions i h n in
-    let o : oddFor regions (pairOf w .setup .memory) p ≡ true = rw (le-leb 6 (getD p 0 0 % 32) k) s in
-    sym (first _ 34 _ (either (strange w) (oddFor regions (pairOf w .setup .memory) p) o))
+    let o : malformedFor regions (pairOf w .setup .memory) p ≡ true = rw (le-leb 6 (getD p 0 0 % 32) k) s in
+    sym (first _ 34 _ (either (malformed w) (malformedFor regions (pairOf w .setup .memory) p) o))
   where
     either : (a b : Bool) → b ≡ true → (a || b) ≡ true
     either true b e = refl
@@ -144,7 +144,7 @@ reset-is q rows f s =
 -- its table has no row out of range
 even : (q : Pair) (rows : List (List ℕ)) → PairFields q → RegionsSound (q .setup .memory) rows → Keyed rows → oddRegions (pairWords q) rows ≡ false
 unfolding oddRegions
-even q rows f s k = ap (λ x. strangeFrom rows (x .setup .memory) 0 16) (pair-back q f .0) ∙ regions-let-in (q .setup .memory) rows s k
+even q rows f s k = ap (λ x. malformedFrom rows (x .setup .memory) 0 16) (pair-back q f .0) ∙ regions-let-in (q .setup .memory) rows s k
 
 pub add-is : AddIs
 unfolding addNumber addTable
@@ -166,9 +166,9 @@ remove-is q rows key f s g k =
     )
 
 pub told-says : ToldSays
-unfolding toldWords
+unfolding reportWords
 told-says n c = record {
-  sent = refl;
+  outgoing = refl;
   completes = λ e. ap (λ b. cond b 1 0) e;
   nothing = λ e. ap (λ b. cond b 1 0) e;
   entry = refl;
@@ -183,5 +183,5 @@ unfolding requestOf
 kinds-are address key length swap compare immediate = (refl, refl, refl, refl, refl, refl, refl)
 
 pub cut-tells : CutTells
-unfolding cutTold
+unfolding cutReport
 cut-tells n psn = (refl, λ k z. rw (ne-eqb k 0 z))

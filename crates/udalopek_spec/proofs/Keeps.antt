@@ -11,9 +11,9 @@ use Rattle.pair.specs.declared.Pair.{Pair}
 use Rattle.pair.specs.Answer.{statusNumber, executed}
 use Rattle.pair.specs.Host.{setUp, setUpStatus, setUpRegions, resetTo, resetStatus, resetRegions, madeReady, readyStatus, addStatus, addRegions, removeStatus, removeRegions, posted, postStatus, postEntries}
 use Rattle.responder_spec.specs.Response.{nextResponse, nextStatus, nextOut}
-use Rattle.abi_spec.specs.Pair.{pairOf, pairWords, strange}
+use Rattle.abi_spec.specs.Pair.{pairOf, pairWords, malformed}
 use Rattle.abi_spec.proofs.Laws.{let-in, others-strange}
-use Rattle.udalopek_spec.specs.Packets.{nextNumber, nextWords, nextOutput, nextTold}
+use Rattle.udalopek_spec.specs.Packets.{nextNumber, nextWords, nextOutput, nextReport}
 use Rattle.udalopek_spec.specs.Host.{otherLength, unmade, oddRegions, setUpNumber, setUpWords, setUpTable, resetNumber, resetWords, resetTable, readyNumber, readyWords, addNumber, addTable, removeNumber, removeTable, postNumber, postWords, postTable}
 use Rattle.udalopek_spec.specs.Claims.{NextKeeps, SetUpKeeps, ResetKeeps, ReadyKeeps, AddKeeps, RemoveKeeps, PostKeeps, OthersRefused}
 use Rattle.udalopek_spec.proofs.Steps.{first}
@@ -33,36 +33,36 @@ kept : {A : Type 0} (s : Status) (x y : A) → 32 ≤ statusNumber s → cond (e
 kept s x y h = ap (λ b. cond b y x) (not-done s h)
 
 -- the words of the pair that words say, where it is as it was
-words-kept : (w : List ℕ) (s : Status) (q : Pair) → strange w ≡ false → 32 ≤ statusNumber s → pairWords (cond (executed s) q (pairOf w)) ≡ w
+words-kept : (w : List ℕ) (s : Status) (q : Pair) → malformed w ≡ false → 32 ≤ statusNumber s → pairWords (cond (executed s) q (pairOf w)) ≡ w
 words-kept w s q e h = ap pairWords (kept s (pairOf w) q h) ∙ sym (let-in w e)
 
 pub post-keeps : PostKeeps
 unfolding postNumber postWords postTable posted postEntries
 post-keeps w rows e h = (
-  behind (strange w) _ w _ (λ b g. words-kept w (postStatus (pairOf w) e) _ b g) h,
-  behind (strange w) _ rows _ (λ b g. kept (postStatus (pairOf w) e) rows _ g) h,
+  behind (malformed w) _ w _ (λ b g. words-kept w (postStatus (pairOf w) e) _ b g) h,
+  behind (malformed w) _ rows _ (λ b g. kept (postStatus (pairOf w) e) rows _ g) h,
 )
 
 pub ready-keeps : ReadyKeeps
 unfolding readyNumber readyWords madeReady
-ready-keeps w h = behind (strange w) _ w _ (λ b g. words-kept w (readyStatus (pairOf w)) _ b g) h
+ready-keeps w h = behind (malformed w) _ w _ (λ b g. words-kept w (readyStatus (pairOf w)) _ b g) h
 
 pub reset-keeps : ResetKeeps
 unfolding resetNumber resetWords resetTable resetTo resetRegions
 reset-keeps w rows h = (
-  behind (strange w) _ w _ (λ b g. behind (unmade w) _ w _ (λ c k. words-kept w (resetStatus (pairOf w)) _ b k) g) h,
-  behind (strange w) _ rows _ (λ b g. behind (unmade w) _ rows _ (λ c k. kept (resetStatus (pairOf w)) rows _ k) g) h,
+  behind (malformed w) _ w _ (λ b g. behind (unmade w) _ w _ (λ c k. words-kept w (resetStatus (pairOf w)) _ b k) g) h,
+  behind (malformed w) _ rows _ (λ b g. behind (unmade w) _ rows _ (λ c k. kept (resetStatus (pairOf w)) rows _ k) g) h,
 )
 
 pub add-keeps : AddKeeps
 unfolding addNumber addTable addRegions
 add-keeps w rows r h =
-    behind (strange w) _ rows _ (λ b g. behind (oddRegions w rows) _ rows _ (λ c k. kept (addStatus (pairOf w) rows r) rows _ k) g) h
+    behind (malformed w) _ rows _ (λ b g. behind (oddRegions w rows) _ rows _ (λ c k. kept (addStatus (pairOf w) rows r) rows _ k) g) h
 
 pub remove-keeps : RemoveKeeps
 unfolding removeNumber removeTable removeRegions
 remove-keeps w rows key h =
-    behind (strange w) _ rows _
+    behind (malformed w) _ rows _
     (λ b g. behind (unmade w) _ rows _ (λ c k. behind (oddRegions w rows) _ rows _ (λ d l. kept (removeStatus rows key) rows _ l) k) g)
     h
 
@@ -74,21 +74,21 @@ set-up-keeps w rows s h = (
 )
 
 pub next-keeps : NextKeeps
-unfolding nextNumber nextWords nextOutput nextTold nextResponse nextOut
+unfolding nextNumber nextWords nextOutput nextReport nextResponse nextOut
 next-keeps w m out h = (
-  behind (strange w) _ w _ (λ b g. words-kept w _ _ b g) h,
-  behind (strange w) _ out _ (λ b g. kept _ out _ g) h,
-  behind (strange w) _ (0 ∷ []) _ (λ b g. ap (λ n. n ∷ []) (kept _ 0 _ g)) h,
+  behind (malformed w) _ w _ (λ b g. words-kept w _ _ b g) h,
+  behind (malformed w) _ out _ (λ b g. kept _ out _ g) h,
+  behind (malformed w) _ (0 ∷ []) _ (λ b g. ap (λ n. n ∷ []) (kept _ 0 _ g)) h,
 )
 
 pub others-refused : OthersRefused
 unfolding nextNumber resetNumber readyNumber addNumber removeNumber postNumber
 others-refused w m out rows r key e n =
     let s = others-strange w n in (
-      sym (first (strange w) 34 _ s),
-      sym (first (strange w) 34 _ s),
-      sym (first (strange w) 34 _ s),
-      sym (first (strange w) 34 _ s),
-      sym (first (strange w) 34 _ s),
-      sym (first (strange w) 34 _ s),
+      sym (first (malformed w) 34 _ s),
+      sym (first (malformed w) 34 _ s),
+      sym (first (malformed w) 34 _ s),
+      sym (first (malformed w) 34 _ s),
+      sym (first (malformed w) 34 _ s),
+      sym (first (malformed w) 34 _ s),
     )

@@ -6,10 +6,10 @@ use mathlib.Core.List.{List, [], _∷_}
 use lib.ListN.{length}
 use native.Mathlib.Omega.{arith}
 use Rattle.pair.specs.declared.Pair.{Pair}
-use Rattle.abi_spec.specs.Words.{eqWords, put}
-use Rattle.abi_spec.specs.Pair.{pairOf, pairWords, strange}
+use Rattle.abi_spec.specs.Words.{eqWords, overwriteWords}
+use Rattle.abi_spec.specs.Pair.{pairOf, pairWords, malformed}
 use Rattle.abi_spec.proofs.Laws.{put-pair}
-use Rattle.udalopek_spec.specs.Packets.{refused, oddFor, names}
+use Rattle.udalopek_spec.specs.Packets.{refused, malformedFor, names}
 
 -- a test that is false leads to the second, one that is true to the first
 pub second : {A : Type 0} (b : Bool) (x y : A) → b ≡ false → y ≡ cond b x y
@@ -19,13 +19,13 @@ pub first : {A : Type 0} (b : Bool) (x y : A) → b ≡ true → x ≡ cond b x 
 first b x y e = ap (λ t. cond t x y) (sym e)
 
 -- when a packet is refused for its words or for a row
-pub refused-words : (w : List ℕ) (rows : List (List ℕ)) (p : List ℕ) → strange w ≡ true → refused w rows p ≡ true
+pub refused-words : (w : List ℕ) (rows : List (List ℕ)) (p : List ℕ) → malformed w ≡ true → refused w rows p ≡ true
 unfolding refused
-refused-words w rows p e = ap (λ b. b || oddFor rows (pairOf w .setup .memory) p) e
+refused-words w rows p e = ap (λ b. b || malformedFor rows (pairOf w .setup .memory) p) e
 
-pub refused-rows : (w : List ℕ) (rows : List (List ℕ)) (p : List ℕ) (b : Bool) → strange w ≡ false → oddFor rows (pairOf w .setup .memory) p ≡ b → refused w rows p ≡ b
+pub refused-rows : (w : List ℕ) (rows : List (List ℕ)) (p : List ℕ) (b : Bool) → malformed w ≡ false → malformedFor rows (pairOf w .setup .memory) p ≡ b → refused w rows p ≡ b
 unfolding refused
-refused-rows w rows p b e h = ap (λ c. c || oddFor rows (pairOf w .setup .memory) p) e ∙ h
+refused-rows w rows p b e h = ap (λ c. c || malformedFor rows (pairOf w .setup .memory) p) e ∙ h
 
 -- a packet of no bytes names nothing
 pub empty-names : (p : List ℕ) → length p ≡ 0 → false ≡ names p
@@ -37,10 +37,10 @@ pub thirty-four : _≡_ {A = ℕ} 34 0 → ⊥
 thirty-four e = omega arith
 
 -- words read, written anew and compared with themselves: whether they are strange
-pub strange-by : (w own : List ℕ) (q : Pair) (s : Bool) → q ≡ pairOf w → own ≡ pairWords q → s ≡ eqWords w own → strange w ≡ not s
-unfolding strange
+pub strange-by : (w own : List ℕ) (q : Pair) (s : Bool) → q ≡ pairOf w → own ≡ pairWords q → s ≡ eqWords w own → malformed w ≡ not s
+unfolding malformed
 strange-by w own q s a b c = ap not (ap (λ x. eqWords w (pairWords x)) (sym a) ∙ ap (eqWords w) (sym b) ∙ sym c)
 
 -- a pair written over words that were let in
-pub left-words : (w own new : List ℕ) (q : Pair) → strange w ≡ false → own ≡ pairWords q → new ≡ put w own → new ≡ pairWords q
-left-words w own new q p b e = e ∙ ap (put w) b ∙ put-pair w q p
+pub left-words : (w own new : List ℕ) (q : Pair) → malformed w ≡ false → own ≡ pairWords q → new ≡ overwriteWords w own → new ≡ pairWords q
+left-words w own new q p b e = e ∙ ap (overwriteWords w) b ∙ put-pair w q p

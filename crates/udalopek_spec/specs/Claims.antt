@@ -19,8 +19,8 @@ use Rattle.responder_spec.specs.declared.Completion.{Completion}
 use Rattle.cut_spec.specs.declared.Request.the-variants.{Send, SendImmediate, Write, WriteImmediate, Read, CmpSwap, FetchAdd}
 use Rattle.abi_spec.specs.Pair.{pairOf, pairWords}
 use Rattle.abi_spec.specs.Claims.{PairFields, RegionNumbers}
-use Rattle.udalopek_spec.specs.Packets.{names, inboundNumber, inboundWords, inboundRows, inboundBytes, inboundOutput, inboundTold, toldWords, nextNumber, nextWords, nextOutput, nextTold}
-use Rattle.udalopek_spec.specs.Cutting.{requestOf, cutTold}
+use Rattle.udalopek_spec.specs.Packets.{names, inboundNumber, inboundWords, inboundRows, inboundBytes, inboundOutput, inboundReport, reportWords, nextNumber, nextWords, nextOutput, nextReport}
+use Rattle.udalopek_spec.specs.Cutting.{requestOf, cutReport}
 use Rattle.udalopek_spec.specs.Host.{setUpNumber, setUpWords, setUpTable, resetNumber, resetWords, resetTable, readyNumber, readyWords, addNumber, addTable, removeNumber, removeTable, postNumber, postWords, postTable}
 
 -- A packet dropped or a call refused leaves all words, rows and bytes as they were, and tells nothing.
@@ -32,13 +32,13 @@ InboundKeeps =
     × (inboundRows w regions entries saved m p out ≡ saved)
     × (inboundBytes w regions entries saved m p out ≡ m)
     × (inboundOutput w regions entries saved m p out ≡ out)
-    × (inboundTold w regions entries saved m p out ≡ replicate 6 0)
+    × (inboundReport w regions entries saved m p out ≡ replicate 6 0)
 
 -- So does every other call that is refused. Numbers from 32 on are the refusals.
 abbrev pub NextKeeps : Type 0
 NextKeeps =
     (w m out : List ℕ) → 32 ≤ nextNumber w m out
-    → (nextWords w m out ≡ w) × (nextOutput w m out ≡ out) × (nextTold w m out ≡ 0 ∷ [])
+    → (nextWords w m out ≡ w) × (nextOutput w m out ≡ out) × (nextReport w m out ≡ 0 ∷ [])
 
 abbrev pub SetUpKeeps : Type 0
 SetUpKeeps =
@@ -101,8 +101,8 @@ InboundIs =
     × (inboundRows (pairWords q) regions entries saved m p out ≡ inboundSaved q regions entries saved m p out)
     × (inboundBytes (pairWords q) regions entries saved m p out ≡ inboundMemory q regions entries saved m p out)
     × (inboundOutput (pairWords q) regions entries saved m p out ≡ inboundOut q regions entries saved m p out)
-    × (inboundTold (pairWords q) regions entries saved m p out
-    ≡ toldWords (inbound q regions entries saved m p out .sent) (inbound q regions entries saved m p out .completion))
+    × (inboundReport (pairWords q) regions entries saved m p out
+    ≡ reportWords (inbound q regions entries saved m p out .outgoing) (inbound q regions entries saved m p out .completion))
 
 abbrev pub NextIs : Type 0
 NextIs =
@@ -110,7 +110,7 @@ NextIs =
     → (nextNumber (pairWords q) m out ≡ statusNumber (nextResponse q m out .status))
     × (nextWords (pairWords q) m out ≡ pairWords (nextResponse q m out .pair))
     × (nextOutput (pairWords q) m out ≡ nextOut q m out)
-    × (nextTold (pairWords q) m out ≡ nextResponse q m out .sent ∷ [])
+    × (nextReport (pairWords q) m out ≡ nextResponse q m out .outgoing ∷ [])
 
 abbrev pub PostIs : Type 0
 PostIs =
@@ -147,7 +147,7 @@ RemoveIs =
 -- What the host is told, word by word, listed here once more and not by the definition under test; so are the kinds of a cut and
 -- what a cut tells.
 pub record Tells (n : ℕ) (c : Completion) (t : List ℕ) : Type 0 where
-  pub sent : getD t 0 0 ≡ n
+  pub outgoing : getD t 0 0 ≡ n
   pub completes : c .some ≡ true → getD t 1 0 ≡ 1
   pub nothing : c .some ≡ false → getD t 1 0 ≡ 0
   pub entry : getD t 2 0 ≡ c .number
@@ -157,7 +157,7 @@ pub record Tells (n : ℕ) (c : Completion) (t : List ℕ) : Type 0 where
   pub value : getD t 5 0 ≡ c .value
 
 abbrev pub ToldSays : Type 0
-ToldSays = (n : ℕ) (c : Completion) → Tells n c (toldWords n c)
+ToldSays = (n : ℕ) (c : Completion) → Tells n c (reportWords n c)
 
 abbrev pub KindsAre : Type 0
 KindsAre =
@@ -171,4 +171,4 @@ KindsAre =
     × (requestOf 6 address key length swap compare immediate ≡ FetchAdd (record { address = address; key = key }) swap)
 
 abbrev pub CutTells : Type 0
-CutTells = (n psn : ℕ) → (cutTold 0 n psn ≡ n ∷ psn ∷ []) × ((k : ℕ) → (k ≡ 0 → ⊥) → cutTold k n psn ≡ 0 ∷ 0 ∷ [])
+CutTells = (n psn : ℕ) → (cutReport 0 n psn ≡ n ∷ psn ∷ []) × ((k : ℕ) → (k ≡ 0 → ⊥) → cutReport k n psn ≡ 0 ∷ 0 ∷ [])

@@ -31,8 +31,8 @@ followingPsn (Next psn) = psn .0
 followingPsn (Refused number) = 0
 
 -- what is told: the bytes written, and the PSN of the message after this one; of a refused cut nothing
-unfoldable pub cutTold : ℕ → ℕ → ℕ → List ℕ
-cutTold number n psn = cond (eqb number 0) (n ∷ psn ∷ []) (0 ∷ 0 ∷ [])
+unfoldable pub cutReport : ℕ → ℕ → ℕ → List ℕ
+cutReport number n psn = cond (eqb number 0) (n ∷ psn ∷ []) (0 ∷ 0 ∷ [])
 
 -- a kind over 6 is a bad number
 module _ (kind : ℕ) (c : Connection) (r : Request) (d : List ℕ) (first : Psn) (i : ℕ) (out : List ℕ) where
@@ -45,5 +45,5 @@ module _ (kind : ℕ) (c : Connection) (r : Request) (d : List ℕ) (first : Psn
   unfoldable pub cutWords : List ℕ
   cutWords =
       cond (ltb 6 kind) (0 ∷ 0 ∷ [])
-      (cutTold (answerNumber (cutWritten c r d first i (length out))) (doneBytes (cutWritten c r d first i (length out)))
+      (cutReport (answerNumber (cutWritten c r d first i (length out))) (doneBytes (cutWritten c r d first i (length out)))
       (followingPsn (nextAnswer r (length d) (c .pmtu) first)))

@@ -24,8 +24,8 @@ unfoldable pub toldExtension : HeaderRead → List ℕ → List ℕ
 toldExtension (Accepted h) old = extensionWords (h .extension)
 toldExtension (Dropped check) old = old
 
-unfoldable pub readNumber : List ℕ → ℕ
-readNumber p = readCheck (readHeader p)
+unfoldable pub readHeaderNumber : List ℕ → ℕ
+readHeaderNumber p = readCheck (readHeader p)
 
 unfoldable pub readBth : List ℕ → List ℕ → List ℕ
 readBth p old = toldBth (readHeader p) old
@@ -47,5 +47,5 @@ writeNumber b e out = cond (ownWords b e) (answerNumber (written (headerFrom b e
 unfoldable pub writeOutput : List ℕ → List ℕ → List ℕ → List ℕ
 writeOutput b e out = cond (ownWords b e) (writtenOut (headerFrom b e) out) out
 
-unfoldable pub writeTold : List ℕ → List ℕ → List ℕ → List ℕ
-writeTold b e out = cond (ownWords b e) (doneBytes (written (headerFrom b e) (length out)) ∷ []) (0 ∷ [])
+unfoldable pub writeReport : List ℕ → List ℕ → List ℕ → List ℕ
+writeReport b e out = cond (ownWords b e) (doneBytes (written (headerFrom b e) (length out)) ∷ []) (0 ∷ [])

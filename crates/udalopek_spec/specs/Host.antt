@@ -10,8 +10,8 @@ use Rattle.pair.specs.declared.Setup.{Setup}
 use Rattle.pair.specs.Answer.{statusNumber, executed}
 use Rattle.pair.specs.Host.{setUp, setUpRegions, resetTo, resetRegions, madeReady, addStatus, addRegions, removeStatus, removeRegions, posted, postEntries}
 use Rattle.pair.specs.Sound.{pairUnsound}
-use Rattle.abi_spec.specs.Pair.{pairOf, pairWords, strange}
-use Rattle.abi_spec.specs.Rows.{strangeFrom}
+use Rattle.abi_spec.specs.Pair.{pairOf, pairWords, malformed}
+use Rattle.abi_spec.specs.Rows.{malformedFrom}
 
 -- words of another length are refused; what they are does not matter to a set-up
 unfoldable pub otherLength : List ℕ → Bool
@@ -31,43 +31,43 @@ unfoldable pub unmade : List ℕ → Bool
 unmade w = pairUnsound (pairOf w)
 
 unfoldable pub resetNumber : List ℕ → ℕ
-resetNumber w = cond (strange w) 34 (cond (unmade w) 34 (statusNumber (resetTo (pairOf w) .status)))
+resetNumber w = cond (malformed w) 34 (cond (unmade w) 34 (statusNumber (resetTo (pairOf w) .status)))
 
 unfoldable pub resetWords : List ℕ → List ℕ
-resetWords w = cond (strange w) w (cond (unmade w) w (pairWords (resetTo (pairOf w) .pair)))
+resetWords w = cond (malformed w) w (cond (unmade w) w (pairWords (resetTo (pairOf w) .pair)))
 
 unfoldable pub resetTable : List ℕ → List (List ℕ) → List (List ℕ)
-resetTable w rows = cond (strange w) rows (cond (unmade w) rows (resetRegions (pairOf w) rows))
+resetTable w rows = cond (malformed w) rows (cond (unmade w) rows (resetRegions (pairOf w) rows))
 
 unfoldable pub readyNumber : List ℕ → ℕ
-readyNumber w = cond (strange w) 34 (statusNumber (madeReady (pairOf w) .status))
+readyNumber w = cond (malformed w) 34 (statusNumber (madeReady (pairOf w) .status))
 
 unfoldable pub readyWords : List ℕ → List ℕ
-readyWords w = cond (strange w) w (pairWords (madeReady (pairOf w) .pair))
+readyWords w = cond (malformed w) w (pairWords (madeReady (pairOf w) .pair))
 
 -- a table of regions with a row that no call wrote is refused too
 unfoldable pub oddRegions : List ℕ → List (List ℕ) → Bool
-oddRegions w rows = strangeFrom rows (pairOf w .setup .memory) 0 16
+oddRegions w rows = malformedFrom rows (pairOf w .setup .memory) 0 16
 
 unfoldable pub addNumber : List ℕ → List (List ℕ) → Region → ℕ
-addNumber w rows r = cond (strange w) 34 (cond (oddRegions w rows) 34 (statusNumber (addStatus (pairOf w) rows r)))
+addNumber w rows r = cond (malformed w) 34 (cond (oddRegions w rows) 34 (statusNumber (addStatus (pairOf w) rows r)))
 
 unfoldable pub addTable : List ℕ → List (List ℕ) → Region → List (List ℕ)
-addTable w rows r = cond (strange w) rows (cond (oddRegions w rows) rows (addRegions (pairOf w) rows r))
+addTable w rows r = cond (malformed w) rows (cond (oddRegions w rows) rows (addRegions (pairOf w) rows r))
 
 unfoldable pub removeNumber : List ℕ → List (List ℕ) → ℕ → ℕ
 removeNumber w rows key =
-    cond (strange w) 34 (cond (unmade w) 34 (cond (oddRegions w rows) 34 (statusNumber (removeStatus rows key))))
+    cond (malformed w) 34 (cond (unmade w) 34 (cond (oddRegions w rows) 34 (statusNumber (removeStatus rows key))))
 
 unfoldable pub removeTable : List ℕ → List (List ℕ) → ℕ → List (List ℕ)
 removeTable w rows key =
-    cond (strange w) rows (cond (unmade w) rows (cond (oddRegions w rows) rows (removeRegions rows key)))
+    cond (malformed w) rows (cond (unmade w) rows (cond (oddRegions w rows) rows (removeRegions rows key)))
 
 unfoldable pub postNumber : List ℕ → Entry → ℕ
-postNumber w e = cond (strange w) 34 (statusNumber (posted (pairOf w) e .status))
+postNumber w e = cond (malformed w) 34 (statusNumber (posted (pairOf w) e .status))
 
 unfoldable pub postWords : List ℕ → Entry → List ℕ
-postWords w e = cond (strange w) w (pairWords (posted (pairOf w) e .pair))
+postWords w e = cond (malformed w) w (pairWords (posted (pairOf w) e .pair))
 
 unfoldable pub postTable : List ℕ → List (List ℕ) → Entry → List (List ℕ)
-postTable w rows e = cond (strange w) rows (postEntries (pairOf w) rows e)
+postTable w rows e = cond (malformed w) rows (postEntries (pairOf w) rows e)

@@ -8,24 +8,24 @@ use Rattle.pair.specs.Answer.{statusNumber}
 use Rattle.responder_spec.specs.declared.Completion.{Completion}
 use Rattle.responder_spec.specs.Inbound.{inbound, inboundMemory, inboundSaved, inboundOut}
 use Rattle.responder_spec.specs.Response.{nextResponse, nextOut}
-use Rattle.abi_spec.specs.Pair.{pairOf, pairWords, strange}
-use Rattle.abi_spec.specs.Rows.{strangeFrom}
+use Rattle.abi_spec.specs.Pair.{pairOf, pairWords, malformed}
+use Rattle.abi_spec.specs.Rows.{malformedFrom}
 
 -- a packet may name a region unless its opcode is one of SEND's, 0 to 5
 unfoldable pub names : List ℕ → Bool
 names p = leb 6 (getD p 0 0 % 32)
 
 -- then a row that no call wrote is refused
-unfoldable pub oddFor : List (List ℕ) → ℕ → List ℕ → Bool
-oddFor rows memory p = cond (names p) (strangeFrom rows memory 0 16) false
+unfoldable pub malformedFor : List (List ℕ) → ℕ → List ℕ → Bool
+malformedFor rows memory p = cond (names p) (malformedFrom rows memory 0 16) false
 
 -- what the host is told: the bytes to send; 1 if a message completed, its entry and its bytes; 1 if it has an immediate, and
 -- the immediate. All of it 0 where there is nothing to tell
-unfoldable pub toldWords : ℕ → Completion → List ℕ
-toldWords sent c = sent ∷ cond (c .some) 1 0 ∷ c .number ∷ c .length ∷ cond (c .immediate) 1 0 ∷ c .value ∷ []
+unfoldable pub reportWords : ℕ → Completion → List ℕ
+reportWords outgoing c = outgoing ∷ cond (c .some) 1 0 ∷ c .number ∷ c .length ∷ cond (c .immediate) 1 0 ∷ c .value ∷ []
 
 unfoldable pub refused : List ℕ → List (List ℕ) → List ℕ → Bool
-refused w regions p = strange w || oddFor regions (pairOf w .setup .memory) p
+refused w regions p = malformed w || malformedFor regions (pairOf w .setup .memory) p
 
 module _ (w : List ℕ) (regions entries saved : List (List ℕ)) (m p out : List ℕ) where
   unfoldable pub inboundNumber : ℕ
@@ -43,20 +43,20 @@ module _ (w : List ℕ) (regions entries saved : List (List ℕ)) (m p out : Lis
   unfoldable pub inboundOutput : List ℕ
   inboundOutput = cond (refused w regions p) out (inboundOut (pairOf w) regions entries saved m p out)
 
-  unfoldable pub inboundTold : List ℕ
-  inboundTold =
+  unfoldable pub inboundReport : List ℕ
+  inboundReport =
       cond (refused w regions p) (replicate 6 0)
-      (toldWords (inbound (pairOf w) regions entries saved m p out .sent) (inbound (pairOf w) regions entries saved m p out .completion))
+      (reportWords (inbound (pairOf w) regions entries saved m p out .outgoing) (inbound (pairOf w) regions entries saved m p out .completion))
 
 module _ (w : List ℕ) (m out : List ℕ) where
   unfoldable pub nextNumber : ℕ
-  nextNumber = cond (strange w) 34 (statusNumber (nextResponse (pairOf w) m out .status))
+  nextNumber = cond (malformed w) 34 (statusNumber (nextResponse (pairOf w) m out .status))
 
   unfoldable pub nextWords : List ℕ
-  nextWords = cond (strange w) w (pairWords (nextResponse (pairOf w) m out .pair))
+  nextWords = cond (malformed w) w (pairWords (nextResponse (pairOf w) m out .pair))
 
   unfoldable pub nextOutput : List ℕ
-  nextOutput = cond (strange w) out (nextOut (pairOf w) m out)
+  nextOutput = cond (malformed w) out (nextOut (pairOf w) m out)
 
-  unfoldable pub nextTold : List ℕ
-  nextTold = cond (strange w) (0 ∷ []) (nextResponse (pairOf w) m out .sent ∷ [])
+  unfoldable pub nextReport : List ℕ
+  nextReport = cond (malformed w) (0 ∷ []) (nextResponse (pairOf w) m out .outgoing ∷ [])

@@ -34,8 +34,8 @@ mul-still-2 c = search needs
 shared-slice-read-still-2 : tie.Need-shared-slice-read-still-2 Inv-loop μ-loop
 shared-slice-read-still-2 c = search needs
 
-still-requires : tie.Need-still-requires Inv-loop μ-loop
-still-requires c κs = search needs
+same-so-far-requires : tie.Need-same-so-far-requires Inv-loop μ-loop
+same-so-far-requires c κs = search needs
 
 add-i : tie.Need-add-i Inv-loop μ-loop
 add-i c = search needs
@@ -44,7 +44,7 @@ loop-less : tie.Need-loop-less Inv-loop μ-loop
 loop-less c = omega arith
 
 loop-again : tie.Need-loop-again Inv-loop μ-loop
-loop-again c = let C = c .before .before .before .before in let A = C .before .before .before .before .args in let n = C .loop .i in (omega arith, (C .loop .inv .1 .0 ∙ still-next (C .loop .ok) (A .a .now) (A .b .now) n (omega arith) (omega arith) ∙ ap (λ t. cond t (eqWords (drop (suc n) (A .a .now)) (drop (suc n) (A .b .now))) false) (sym (c .still .ensures)) ∙ ap (λ (m : ℕ). cond (c .still .result) (eqWords (drop m (A .a .now)) (drop m (A .b .now))) false) (sym (add-one n)), C .loop .inv .1 .1))
+loop-again c = let C = c .before .before .before .before in let A = C .before .before .before .before .args in let n = C .loop .i in (omega arith, (C .loop .inv .1 .0 ∙ still-next (C .loop .ok) (A .a .now) (A .b .now) n (omega arith) (omega arith) ∙ ap (λ t. cond t (eqWords (drop (suc n) (A .a .now)) (drop (suc n) (A .b .now))) false) (sym (c .same-so-far .ensures)) ∙ ap (λ (m : ℕ). cond (c .same-so-far .result) (eqWords (drop m (A .a .now)) (drop m (A .b .now))) false) (sym (add-one n)), C .loop .inv .1 .1))
 
 returns-2 : tie.Need-returns-2 Inv-loop μ-loop
 returns-2 c = let C = c .before in let A = C .before .before .before .before .args in sym (C .loop .inv .1 .0 ∙ still-end (C .loop .ok) (A .a .now) (A .b .now) (C .loop .i) (omega arith) (C .loop .inv .1 .1))
@@ -61,7 +61,7 @@ same-spec =
     shared-slice-read-still
     mul-still-2
     shared-slice-read-still-2
-    still-requires
+    same-so-far-requires
     add-i
     loop-less
     loop-again

@@ -5,8 +5,8 @@ use borrow.Author.Needs.{needs}
 use Rattle.apply.proofs.change.Statement.{statement}
 use Rattle.apply.proofs.change.Tie as tie
 
-place-part-requires : tie.Need-place-part-requires
-place-part-requires c κs = search needs
+store-part-requires : tie.Need-store-part-requires
+store-part-requires c κs = search needs
 
 same-length : tie.Need-same-length
 same-length c = search needs
@@ -15,7 +15,7 @@ returns : tie.Need-returns
 unfolding memoryBy actsAtomic valueBy
 returns c =
     let is = c .before .before .before .before .if1 .taken in
-    (simp is, simp (eq-eqb _ _ is, ← c .before .before .place-part .ensures))
+    (simp is, simp (eq-eqb _ _ is, ← c .before .before .store-part .ensures))
 
 fetch-add-requires : tie.Need-fetch-add-requires
 fetch-add-requires c κs = search needs
@@ -55,7 +55,7 @@ pub change-spec : {M : Type 1} → statement M
 change-spec =
     tie.close
     (tie.spec
-    place-part-requires
+    store-part-requires
     same-length
     returns
     fetch-add-requires

@@ -14,17 +14,17 @@ use Rattle.decide.proofs.class_of.Reads as class-of-reads
 use Rattle.decide.proofs.take.Reads as take-reads
 use Rattle.decide.proofs.unreliable_service.Reads as unreliable-service-reads
 use Rattle.idle.proofs.ahead.Reads as ahead-reads
-use Rattle.idle.proofs.quietly.Reads as quietly-reads
+use Rattle.idle.proofs.no_reply.Reads as no-reply-reads
 use Rattle.request_checks.proofs.packet_of.Reads as packet-of-reads
 
 -- src/lib.rt:154:9
-quietly-requires : tie.Need-quietly-requires
-quietly-requires c κs = search needs
+no-reply-requires : tie.Need-no-reply-requires
+no-reply-requires c κs = search needs
 
 -- src/lib.rt:154:9
 returns : tie.Need-returns
 unfolding guarded
-returns c = simp (lt-leb _ _ (c .before .if1 .taken), lt-ltb _ _ (c .before .if1 .taken), ← c .quietly .ensures)
+returns c = simp (lt-leb _ _ (c .before .if1 .taken), lt-ltb _ _ (c .before .if1 .taken), ← c .no-reply .ensures)
 
 -- src/lib.rt:156:9
 packet-of-requires : tie.Need-packet-of-requires
@@ -93,7 +93,7 @@ pub decision-spec : {M : Type 1} → statement M
 decision-spec =
     tie.close
     (tie.spec
-    quietly-requires
+    no-reply-requires
     returns
     packet-of-requires
     unreliable-service-requires

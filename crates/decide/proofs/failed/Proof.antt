@@ -4,7 +4,7 @@ use borrow.Author.Needs.{needs}
 use Rattle.decide.proofs.failed.Statement.{statement}
 use Rattle.decide.proofs.failed.Tie as tie
 use Rattle.idle.proofs.acknowledging.Reads as acknowledging-reads
-use Rattle.idle.proofs.quietly.Reads as quietly-reads
+use Rattle.idle.proofs.no_reply.Reads as no-reply-reads
 
 acknowledging-requires : tie.Need-acknowledging-requires
 acknowledging-requires c κs = search needs
@@ -30,12 +30,12 @@ returns-3 : tie.Need-returns-3
 unfolding failed
 returns-3 c = simp (ne-eqb _ _ (c .before .before .before .if1 .left), ne-eqb _ _ (c .before .before .if2 .left), eq-eqb _ _ (c .before .if3 .taken), ← c .acknowledging3 .ensures)
 
-quietly-requires : tie.Need-quietly-requires
-quietly-requires c κs = search needs
+no-reply-requires : tie.Need-no-reply-requires
+no-reply-requires c κs = search needs
 
 returns-4 : tie.Need-returns-4
 unfolding failed
-returns-4 c = simp (ne-eqb _ _ (c .before .before .before .if1 .left), ne-eqb _ _ (c .before .before .if2 .left), ne-eqb _ _ (c .before .if3 .left), ← c .quietly .ensures)
+returns-4 c = simp (ne-eqb _ _ (c .before .before .before .if1 .left), ne-eqb _ _ (c .before .before .if2 .left), ne-eqb _ _ (c .before .if3 .left), ← c .no-reply .ensures)
 
 pub failed-spec : {M : Type 1} → statement M
 failed-spec =
@@ -48,5 +48,5 @@ failed-spec =
     add-acknowledging
     acknowledging-requires-3
     returns-3
-    quietly-requires
+    no-reply-requires
     returns-4)

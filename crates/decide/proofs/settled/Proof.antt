@@ -7,15 +7,15 @@ use Rattle.decide.specs.Guard.{Executable}
 use Rattle.decide.specs.Either.{metBy, finished}
 use Rattle.decide.proofs.Places.{executable}
 use Rattle.decide.proofs.Either.{early-5, early-6, refuses, executes, passed, current-met}
-use Rattle.decide.proofs.settled.Statement.{statement}
-use Rattle.decide.proofs.settled.Tie as tie
-use Rattle.decide.proofs.settled.Reads as reads
-use Rattle.decide.proofs.settled.Lts as lts
+use Rattle.decide.proofs.checkedDecision.Statement.{statement}
+use Rattle.decide.proofs.checkedDecision.Tie as tie
+use Rattle.decide.proofs.checkedDecision.Reads as reads
+use Rattle.decide.proofs.checkedDecision.Lts as lts
 use Rattle.decide.proofs.execute.finished.Reads as finished-reads
 use Rattle.decide.proofs.refused.Reads as refused-reads
 use Rattle.decide.proofs.unreliable.early.Reads as early-reads
 use Rattle.decide.proofs.unreliable.met.Reads as met-reads
-use Rattle.idle.proofs.quietly.Reads as quietly-reads
+use Rattle.idle.proofs.no_reply.Reads as no-reply-reads
 use Rattle.request_checks.proofs.current.Reads as current-reads
 use Rattle.request_checks.proofs.expected_code.Reads as expected-code-reads
 
@@ -24,16 +24,16 @@ early-requires : tie.Need-early-requires
 early-requires c κs = search needs
 
 -- src/lib.rt:90:9
-quietly-requires : tie.Need-quietly-requires
-quietly-requires c κs = search needs
+no-reply-requires : tie.Need-no-reply-requires
+no-reply-requires c κs = search needs
 
 -- src/lib.rt:90:9
 returns : tie.Need-returns
-returns c = c .quietly .ensures ∙ early-5 (c .before .before .before .before .before .args .p) (c .before .before .before .before .before .args .pair .setup) (c .before .before .before .before .before .args .pair .expected) (c .before .before .before .before .before .args .pair .message) (c .before .before .before .before .before .args .pair .entries .count) (c .before .before .before .before .before .args .entry) (c .before .before .before .before .before .args .region) (c .before .before .before .before .before .args .uc) (sym (c .before .before .early .ensures) ∙ c .before .if1 .taken)
+returns c = c .no-reply .ensures ∙ early-5 (c .before .before .before .before .before .args .p) (c .before .before .before .before .before .args .pair .setup) (c .before .before .before .before .before .args .pair .expected) (c .before .before .before .before .before .args .pair .message) (c .before .before .before .before .before .args .pair .entries .count) (c .before .before .before .before .before .args .entry) (c .before .before .before .before .before .args .region) (c .before .before .before .before .before .args .uc) (sym (c .before .before .early .ensures) ∙ c .before .if1 .taken)
 
 -- src/lib.rt:94:9
-quietly-requires-2 : tie.Need-quietly-requires-2
-quietly-requires-2 c κs = search needs
+no-reply-requires-2 : tie.Need-no-reply-requires-2
+no-reply-requires-2 c κs = search needs
 
 -- src/lib.rt:94:9
 returns-2 : tie.Need-returns-2
@@ -66,14 +66,14 @@ finished-requires : tie.Need-finished-requires
 finished-requires c κs =
     let A = c .before .before .before .before .before .before .before .before .before .args in
     let s = A .pair .setup in
-    let under = A .pair .message in
+    let opened = A .pair .message in
     let P = passed (c .before .before .before .before .before .before .before .before .before .args .p) (c .before .before .before .before .before .before .before .before .before .args .pair .setup) (c .before .before .before .before .before .before .before .before .before .args .pair .expected) (c .before .before .before .before .before .before .before .before .before .args .pair .message) (c .before .before .before .before .before .before .before .before .before .args .pair .entries .count) (c .before .before .before .before .before .before .before .before .before .args .entry) (c .before .before .before .before .before .before .before .before .before .args .region) (c .before .before .before .before .before .before .before .before .before .args .uc) ((ap (λ x. expectedCode (c .before .before .before .before .before .before .before .before .before .args .pair .setup) x (c .before .before .before .before .before .before .before .before .before .args .p) (c .before .before .before .before .before .before .before .before .before .args .pair .entries .count) (c .before .before .before .before .before .before .before .before .before .args .entry) (c .before .before .before .before .before .before .before .before .before .args .region)) (sym (c .before .before .before .met .ensures)) ∙ sym (c .before .before .expected-code .ensures)) ∙ c .before .if3 .left) in
     let memory : s .memory < 2 ^ 64 = omega (arith, c .before .before .before .before .before .before .before .before .before .good .1 .0) in
-    let placed : c .current .result .placed < 2 ^ 64 = omega arith in
+    let stored : c .current .result .stored < 2 ^ 64 = omega arith in
     let length : c .current .result .length < 2 ^ 64 = omega arith in
-    let m = c .current .ensures ∙ sym (current-met (A .uc) under (A .p)) in
+    let m = c .current .ensures ∙ sym (current-met (A .uc) opened (A .p)) in
     subst (λ x. Executable (A .p) x (A .entry) (A .region)) (sym m)
-    (executable s (metBy (A .uc) (A .p .place) under) (A .p) (A .entry) (A .region) P (c .before .before .before .before .before .before .before .before .before .pre .0) memory (subst (λ x. x .placed < 2 ^ 64) m placed) (subst (λ x. x .length < 2 ^ 64) m length))
+    (executable s (metBy (A .uc) (A .p .place) opened) (A .p) (A .entry) (A .region) P (c .before .before .before .before .before .before .before .before .before .pre .0) memory (subst (λ x. x .stored < 2 ^ 64) m stored) (subst (λ x. x .length < 2 ^ 64) m length))
 
 -- src/lib.rt:80:1
 returns-4 : tie.Need-returns-4
@@ -88,9 +88,9 @@ settled-spec =
     tie.close
     (tie.spec
     early-requires
-    quietly-requires
+    no-reply-requires
     returns
-    quietly-requires-2
+    no-reply-requires-2
     returns-2
     met-requires
     expected-code-requires

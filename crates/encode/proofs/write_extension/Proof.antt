@@ -15,8 +15,8 @@ enum-told c = search needs
 slice-aggregate-place : tie.Need-slice-aggregate-place
 slice-aggregate-place c = search needs
 
-place-requires : tie.Need-place-requires
-place-requires c κs = search needs
+store-requires : tie.Need-store-requires
+store-requires c κs = search needs
 
 enum-known-e : tie.Need-enum-known-e
 enum-known-e c = search needs
@@ -27,8 +27,8 @@ reth-bytes-requires c κs = search needs
 slice-aggregate-place-2 : tie.Need-slice-aggregate-place-2
 slice-aggregate-place-2 c = search needs
 
-place-requires-2 : tie.Need-place-requires-2
-place-requires-2 c κs = search needs
+store-requires-2 : tie.Need-store-requires-2
+store-requires-2 c κs = search needs
 
 enum-known-e-2 : tie.Need-enum-known-e-2
 enum-known-e-2 c = search needs
@@ -39,8 +39,8 @@ reth-bytes-requires-2 c κs = search needs
 slice-aggregate-place-3 : tie.Need-slice-aggregate-place-3
 slice-aggregate-place-3 c = search needs
 
-place-requires-3 : tie.Need-place-requires-3
-place-requires-3 c κs = search needs
+store-requires-3 : tie.Need-store-requires-3
+store-requires-3 c κs = search needs
 
 immediate-bytes-requires : tie.Need-immediate-bytes-requires
 immediate-bytes-requires c κs = search needs
@@ -48,8 +48,8 @@ immediate-bytes-requires c κs = search needs
 slice-aggregate-place-4 : tie.Need-slice-aggregate-place-4
 slice-aggregate-place-4 c = search needs
 
-place-requires-4 : tie.Need-place-requires-4
-place-requires-4 c κs = search needs
+store-requires-4 : tie.Need-store-requires-4
+store-requires-4 c κs = search needs
 
 enum-known-e-3 : tie.Need-enum-known-e-3
 enum-known-e-3 c = search needs
@@ -60,8 +60,8 @@ immediate-bytes-requires-2 c κs = search needs
 slice-aggregate-place-5 : tie.Need-slice-aggregate-place-5
 slice-aggregate-place-5 c = search needs
 
-place-requires-5 : tie.Need-place-requires-5
-place-requires-5 c κs = search needs
+store-requires-5 : tie.Need-store-requires-5
+store-requires-5 c κs = search needs
 
 enum-known-e-4 : tie.Need-enum-known-e-4
 enum-known-e-4 c = search needs
@@ -72,8 +72,8 @@ atomic-bytes-requires c κs = search needs
 slice-aggregate-place-6 : tie.Need-slice-aggregate-place-6
 slice-aggregate-place-6 c = search needs
 
-place-requires-6 : tie.Need-place-requires-6
-place-requires-6 c κs = search needs
+store-requires-6 : tie.Need-store-requires-6
+store-requires-6 c κs = search needs
 
 enum-known-e-5 : tie.Need-enum-known-e-5
 enum-known-e-5 c = search needs
@@ -84,8 +84,8 @@ aeth-bytes-requires c κs = search needs
 slice-aggregate-place-7 : tie.Need-slice-aggregate-place-7
 slice-aggregate-place-7 c = search needs
 
-place-requires-7 : tie.Need-place-requires-7
-place-requires-7 c κs = search needs
+store-requires-7 : tie.Need-store-requires-7
+store-requires-7 c κs = search needs
 
 enum-known-e-6 : tie.Need-enum-known-e-6
 enum-known-e-6 c = search needs
@@ -96,8 +96,8 @@ aeth-bytes-requires-2 c κs = search needs
 slice-aggregate-place-8 : tie.Need-slice-aggregate-place-8
 slice-aggregate-place-8 c = search needs
 
-place-requires-8 : tie.Need-place-requires-8
-place-requires-8 c κs = search needs
+store-requires-8 : tie.Need-store-requires-8
+store-requires-8 c κs = search needs
 
 value-bytes-requires : tie.Need-value-bytes-requires
 value-bytes-requires c κs = search needs
@@ -105,15 +105,15 @@ value-bytes-requires c κs = search needs
 slice-aggregate-place-9 : tie.Need-slice-aggregate-place-9
 slice-aggregate-place-9 c = search needs
 
-place-requires-9 : tie.Need-place-requires-9
-place-requires-9 c κs = search needs
+store-requires-9 : tie.Need-store-requires-9
+store-requires-9 c κs = search needs
 
 same-length : tie.Need-same-length
 same-length c = search needs
 
 returns : tie.Need-returns
 unfolding extensionBytes
-returns c = simp (c .before .before .before .before .before .enum-told .given .1, ← c .before .before .place .ensures)
+returns c = simp (c .before .before .before .before .before .enum-told .given .1, ← c .before .before .store .ensures)
 
 same-length-2 : tie.Need-same-length-2
 same-length-2 c = search needs
@@ -173,37 +173,37 @@ write-extension-spec =
     (tie.spec
     enum-told
     slice-aggregate-place
-    place-requires
+    store-requires
     enum-known-e
     reth-bytes-requires
     slice-aggregate-place-2
-    place-requires-2
+    store-requires-2
     enum-known-e-2
     reth-bytes-requires-2
     slice-aggregate-place-3
-    place-requires-3
+    store-requires-3
     immediate-bytes-requires
     slice-aggregate-place-4
-    place-requires-4
+    store-requires-4
     enum-known-e-3
     immediate-bytes-requires-2
     slice-aggregate-place-5
-    place-requires-5
+    store-requires-5
     enum-known-e-4
     atomic-bytes-requires
     slice-aggregate-place-6
-    place-requires-6
+    store-requires-6
     enum-known-e-5
     aeth-bytes-requires
     slice-aggregate-place-7
-    place-requires-7
+    store-requires-7
     enum-known-e-6
     aeth-bytes-requires-2
     slice-aggregate-place-8
-    place-requires-8
+    store-requires-8
     value-bytes-requires
     slice-aggregate-place-9
-    place-requires-9
+    store-requires-9
     same-length
     returns
     same-length-2

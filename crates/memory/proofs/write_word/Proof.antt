@@ -9,17 +9,17 @@ low-bytes-requires c κs = search needs
 slice-aggregate-place : tie.Need-slice-aggregate-place
 slice-aggregate-place c = search needs
 
-place-requires : tie.Need-place-requires
-place-requires c κs = search needs
+store-requires : tie.Need-store-requires
+store-requires c κs = search needs
 
 same-length : tie.Need-same-length
 same-length c = search needs
 
 returns : tie.Need-returns
 unfolding wordPut
-returns c = simp (← c .before .before .before .before .before .low-bytes .ensures, ← c .before .before .place .ensures)
+returns c = simp (← c .before .before .before .before .before .low-bytes .ensures, ← c .before .before .store .ensures)
 
 pub write-word-spec : {M : Type 1} → statement M
 write-word-spec =
     tie.close
-    (tie.spec low-bytes-requires slice-aggregate-place place-requires same-length returns)
+    (tie.spec low-bytes-requires slice-aggregate-place store-requires same-length returns)

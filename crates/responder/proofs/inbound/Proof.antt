@@ -49,8 +49,8 @@ pair-after-requires c κs = search needs
 reply-requires : tie.Need-reply-requires
 reply-requires c κs = search needs
 
-told-requires : tie.Need-told-requires
-told-requires c κs = search needs
+outcome-with-requires : tie.Need-outcome-with-requires
+outcome-with-requires c κs = search needs
 
 same-length : tie.Need-same-length
 same-length c = search needs
@@ -61,7 +61,7 @@ same-length-2 c = search needs
 returns-3 : tie.Need-returns-3
 returns-3 c =
     let A = c .before .before .before .before .before .before .before .before .before .before .before .before .before .before .before .before .before .before .before .before .before .before .before .before .before .args in
-    whole (A .pair) (A .regions .now) (A .entries .now) (A .saved .now) (A .mem .now) (A .packet .now) (A .out .now) (c .before .before .before .before .before .before .before .before .before .before .before .before .before .before .before .before .before .before .before .before .before .refusal .result) (c .before .before .before .before .before .before .before .before .before .before .before .before .before .before .before .before .before .before .before .before .before .refusal .ensures) (c .before .before .before .before .before .before .before .before .before .before .before .before .before .before .before .before .before .before .before .before .number .result) (c .before .before .before .before .before .before .before .before .before .before .before .before .before .before .before .before .before .before .before .before .number .ensures) (c .before .before .before .before .before .before .before .before .before .before .before .before .before .before .before .before .before .before .before .if1 .left) (c .before .before .before .before .before .before .before .before .before .before .before .before .before .before .before .before .before .admit .result) (c .before .before .before .before .before .before .before .before .before .before .before .before .before .before .before .before .before .admit .ensures) _ (c .before .before .before .before .before .before .before .before .before .before .before .before .before .before .before .found .given .1) (c .before .before .before .before .before .before .before .before .before .before .before .before .decision .result) (c .before .before .before .before .before .before .before .before .before .before .before .before .decision .ensures) _ (c .before .before .before .before .before .before .before .before .before .before .change .ensures .1) (c .before .before .before .before .before .before .before .before .before .before .change .result) (c .before .before .before .before .before .before .before .before .before .before .change .ensures .0) _ (c .before .before .before .before .before .before .keep .ensures) (c .before .before .before .before .before .pair-after .result) (c .before .before .before .before .before .pair-after .ensures) _ (c .before .before .before .reply .ensures) (c .told .result) (c .told .ensures)
+    whole (A .pair) (A .regions .now) (A .entries .now) (A .saved .now) (A .mem .now) (A .packet .now) (A .out .now) (c .before .before .before .before .before .before .before .before .before .before .before .before .before .before .before .before .before .before .before .before .before .refusal .result) (c .before .before .before .before .before .before .before .before .before .before .before .before .before .before .before .before .before .before .before .before .before .refusal .ensures) (c .before .before .before .before .before .before .before .before .before .before .before .before .before .before .before .before .before .before .before .before .number .result) (c .before .before .before .before .before .before .before .before .before .before .before .before .before .before .before .before .before .before .before .before .number .ensures) (c .before .before .before .before .before .before .before .before .before .before .before .before .before .before .before .before .before .before .before .if1 .left) (c .before .before .before .before .before .before .before .before .before .before .before .before .before .before .before .before .before .admit .result) (c .before .before .before .before .before .before .before .before .before .before .before .before .before .before .before .before .before .admit .ensures) _ (c .before .before .before .before .before .before .before .before .before .before .before .before .before .before .before .found .given .1) (c .before .before .before .before .before .before .before .before .before .before .before .before .decision .result) (c .before .before .before .before .before .before .before .before .before .before .before .before .decision .ensures) _ (c .before .before .before .before .before .before .before .before .before .before .change .ensures .1) (c .before .before .before .before .before .before .before .before .before .before .change .result) (c .before .before .before .before .before .before .before .before .before .before .change .ensures .0) _ (c .before .before .before .before .before .before .keep .ensures) (c .before .before .before .before .before .pair-after .result) (c .before .before .before .before .before .pair-after .ensures) _ (c .before .before .before .reply .ensures) (c .outcome-with .result) (c .outcome-with .ensures)
 
 pub inbound-spec : {M : Type 1} → statement M
 inbound-spec =
@@ -81,7 +81,7 @@ inbound-spec =
     keep-requires
     pair-after-requires
     reply-requires
-    told-requires
+    outcome-with-requires
     same-length
     same-length-2
     returns-3)

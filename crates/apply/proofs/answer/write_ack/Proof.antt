@@ -17,8 +17,8 @@ bth-bytes-requires c κs = search needs
 slice-aggregate-place : tie.Need-slice-aggregate-place
 slice-aggregate-place c = search needs
 
-place-requires : tie.Need-place-requires
-place-requires c κs = search needs
+store-requires : tie.Need-store-requires
+store-requires c κs = search needs
 
 aeth-bytes-requires : tie.Need-aeth-bytes-requires
 aeth-bytes-requires c κs = search needs
@@ -26,8 +26,8 @@ aeth-bytes-requires c κs = search needs
 slice-aggregate-place-2 : tie.Need-slice-aggregate-place-2
 slice-aggregate-place-2 c = search needs
 
-place-requires-2 : tie.Need-place-requires-2
-place-requires-2 c κs = search needs
+store-requires-2 : tie.Need-store-requires-2
+store-requires-2 c κs = search needs
 
 same-length : tie.Need-same-length
 same-length c = search needs
@@ -38,7 +38,7 @@ returns c =
     let A = c .before .before .before .before .before .before .before .before .before .before .before .before .before .before .args in
     let eb = c .before .before .before .before .before .before .before .before .before .before .before .bth-bytes .ensures ∙ ap bthBytes (c .before .before .before .before .before .before .before .before .before .before .before .before .reply-bth .ensures) in
     let ea = c .before .before .before .before .before .aeth-bytes .ensures in
-    in-two (A .out .now) _ _ _ _ (ap length eb) (ap length ea) (c .before .before .before .before .before .before .before .before .place .ensures) (c .before .before .place2 .ensures) _ (λ i. sym eb i ++ sym ea i) (c .before .before .before .before .before .before .before .before .before .before .before .before .before .before .pre)
+    in-two (A .out .now) _ _ _ _ (ap length eb) (ap length ea) (c .before .before .before .before .before .before .before .before .store .ensures) (c .before .before .place2 .ensures) _ (λ i. sym eb i ++ sym ea i) (c .before .before .before .before .before .before .before .before .before .before .before .before .before .before .pre)
 
 pub write-ack-spec : {M : Type 1} → statement M
 write-ack-spec =
@@ -47,9 +47,9 @@ write-ack-spec =
     reply-bth-requires
     bth-bytes-requires
     slice-aggregate-place
-    place-requires
+    store-requires
     aeth-bytes-requires
     slice-aggregate-place-2
-    place-requires-2
+    store-requires-2
     same-length
     returns)

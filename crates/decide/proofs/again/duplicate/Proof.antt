@@ -3,12 +3,12 @@ use Rattle.responder_spec.specs.Decide.{duplicateDecision}
 use borrow.Author.Needs.{needs}
 use Rattle.decide.proofs.again.duplicate.Statement.{statement}
 use Rattle.decide.proofs.again.duplicate.Tie as tie
-use Rattle.idle.proofs.atomic_again.Reads as atomic-again-reads
+use Rattle.idle.proofs.duplicate_atomic.Reads as duplicate-atomic-reads
 use Rattle.idle.proofs.is_atomic.Reads as is-atomic-reads
 use Rattle.idle.proofs.psn_before.Reads as psn-before-reads
 use Rattle.decide.proofs.again.reread.Reads as reread-reads
 use Rattle.idle.proofs.acknowledging.Reads as acknowledging-reads
-use Rattle.idle.proofs.quietly.Reads as quietly-reads
+use Rattle.idle.proofs.no_reply.Reads as no-reply-reads
 use Rattle.request_checks.proofs.carrying.Reads as carrying-reads
 use Rattle.table.proofs.newest.Reads as newest-reads
 
@@ -38,19 +38,19 @@ is-atomic-requires c κs = search needs
 newest-requires : tie.Need-newest-requires
 newest-requires c κs = search needs
 
-atomic-again-requires : tie.Need-atomic-again-requires
-atomic-again-requires c κs = search needs
+duplicate-atomic-requires : tie.Need-duplicate-atomic-requires
+duplicate-atomic-requires c κs = search needs
 
 returns-3 : tie.Need-returns-3
 unfolding duplicateDecision
-returns-3 c = simp (← c .before .before .before .before .before .before .before .before .carrying .ensures, c .before .before .before .before .before .before .before .if1 .left, ne-eqb _ _ (c .before .before .before .before .before .if2 .left), ← c .before .before .before .before .is-atomic .ensures, c .before .before .before .if3 .taken, ← c .before .newest .ensures, ← c .atomic-again .ensures)
+returns-3 c = simp (← c .before .before .before .before .before .before .before .before .carrying .ensures, c .before .before .before .before .before .before .before .if1 .left, ne-eqb _ _ (c .before .before .before .before .before .if2 .left), ← c .before .before .before .before .is-atomic .ensures, c .before .before .before .if3 .taken, ← c .before .newest .ensures, ← c .duplicate-atomic .ensures)
 
-quietly-requires : tie.Need-quietly-requires
-quietly-requires c κs = search needs
+no-reply-requires : tie.Need-no-reply-requires
+no-reply-requires c κs = search needs
 
 returns-4 : tie.Need-returns-4
 unfolding duplicateDecision
-returns-4 c = simp (← c .before .before .before .before .before .before .carrying .ensures, c .before .before .before .before .before .if1 .left, ne-eqb _ _ (c .before .before .before .if2 .left), ← c .before .before .is-atomic .ensures, c .before .if3 .left, ← c .quietly .ensures)
+returns-4 c = simp (← c .before .before .before .before .before .before .carrying .ensures, c .before .before .before .before .before .if1 .left, ne-eqb _ _ (c .before .before .before .if2 .left), ← c .before .before .is-atomic .ensures, c .before .if3 .left, ← c .no-reply .ensures)
 
 pub duplicate-spec : {M : Type 1} → statement M
 duplicate-spec =
@@ -64,7 +64,7 @@ duplicate-spec =
     returns-2
     is-atomic-requires
     newest-requires
-    atomic-again-requires
+    duplicate-atomic-requires
     returns-3
-    quietly-requires
+    no-reply-requires
     returns-4)

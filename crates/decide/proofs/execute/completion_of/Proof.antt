@@ -1,5 +1,5 @@
 use Rattle.responder_spec.specs.Decide.{completionOf}
-use Rattle.request_spec.specs.Verdict.{netOf}
+use Rattle.request_spec.specs.Verdict.{payloadSize}
 use borrow.Author.Needs.{needs}
 use Rattle.decide.proofs.execute.completion_of.Statement.{statement}
 use Rattle.decide.proofs.execute.completion_of.Tie as tie
@@ -15,18 +15,18 @@ less-requires : tie.Need-less-requires
 less-requires c κs = search needs
 
 counted-requires : tie.Need-counted-requires
-unfolding netOf
+unfolding payloadSize
 counted-requires c κs = search needs
 
 returns : tie.Need-returns
-unfolding completionOf netOf
+unfolding completionOf payloadSize
 returns c = simp (← c .before .before .before .completes .ensures, c .before .before .if1 .taken, ← c .before .less .ensures, ← c .counted .ensures)
 
 no-completion-requires : tie.Need-no-completion-requires
 no-completion-requires c κs = search needs
 
 returns-2 : tie.Need-returns-2
-unfolding completionOf netOf
+unfolding completionOf payloadSize
 returns-2 c = simp (← c .before .before .completes .ensures, c .before .if1 .left, ← c .no-completion .ensures)
 
 pub completion-of-spec : {M : Type 1} → statement M

@@ -1,15 +1,15 @@
 use Rattle.responder_spec.specs.Decide.{acknowledging}
 use borrow.Author.Needs.{needs}
-use Rattle.idle.proofs.still.acknowledging.Statement.{statement}
-use Rattle.idle.proofs.still.acknowledging.Tie as tie
-use Rattle.idle.proofs.still.still.Reads as still-reads
+use Rattle.idle.proofs.replyOnly.acknowledging.Statement.{statement}
+use Rattle.idle.proofs.replyOnly.acknowledging.Tie as tie
+use Rattle.idle.proofs.replyOnly.reply_only.Reads as reply-only-reads
 
-still-requires : tie.Need-still-requires
-still-requires c κs = search needs
+reply-only-requires : tie.Need-reply-only-requires
+reply-only-requires c κs = search needs
 
 returns : tie.Need-returns
 unfolding acknowledging
-returns c = simp (← c .still .ensures)
+returns c = simp (← c .reply-only .ensures)
 
 pub acknowledging-spec : {M : Type 1} → statement M
-acknowledging-spec = tie.close (tie.spec still-requires returns)
+acknowledging-spec = tie.close (tie.spec reply-only-requires returns)

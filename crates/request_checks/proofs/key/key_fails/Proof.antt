@@ -1,7 +1,7 @@
 use native.Mathlib.Omega.{arith}
 use Rattle.request_checks.proofs.Keys.{below-top, past, judged}
 use borrow.Author.Tests.{eq-eqb, ne-eqb}
-use Rattle.request_spec.specs.Verdict.{keyFails, keyLacking, keySpan}
+use Rattle.request_spec.specs.Verdict.{keyFails, keyLacking, bytesToCome}
 use borrow.Author.Needs.{needs}
 use Rattle.request_checks.proofs.key.key_fails.Statement.{statement}
 use Rattle.request_checks.proofs.key.key_fails.Tie as tie
@@ -12,14 +12,14 @@ use Rattle.request_checks.proofs.wide.Reads as wide-reads
 use Rattle.table.proofs.past_top.Reads as past-top-reads
 
 returns : tie.Need-returns
-unfolding keyFails keyLacking keySpan
+unfolding keyFails keyLacking bytesToCome
 returns c = simp (eq-eqb _ _ (c .if1 .taken))
 
 less-requires : tie.Need-less-requires
 less-requires c κs = search needs
 
 returns-2 : tie.Need-returns-2
-unfolding keyFails keyLacking keySpan
+unfolding keyFails keyLacking bytesToCome
 returns-2 c = simp (ne-eqb _ _ (c .before .before .if1 .left), ← c .before .less .ensures, eq-eqb _ _ (c .if2 .taken))
 
 wide-requires : tie.Need-wide-requires

@@ -1,5 +1,5 @@
 use borrow.Author.Tests.{le-leb, le-ltb, lt-leb, lt-ltb}
-use Rattle.request_spec.specs.Verdict.{lengthsOff, netOf}
+use Rattle.request_spec.specs.Verdict.{lengthsOff, payloadSize}
 use borrow.Author.Needs.{needs}
 use Rattle.request_checks.proofs.lengths.lengths_off.Statement.{statement}
 use Rattle.request_checks.proofs.lengths.lengths_off.Tie as tie
@@ -9,7 +9,7 @@ use Rattle.request_checks.proofs.lengths.size_off.Reads as size-off-rea
 use Rattle.request_checks.proofs.lengths.total_off.Reads as total-off-reads
 
 returns : tie.Need-returns
-unfolding lengthsOff netOf
+unfolding lengthsOff payloadSize
 returns c = simp (lt-leb _ _ (c .if1 .taken), lt-ltb _ _ (c .if1 .taken))
 
 carrying-requires : tie.Need-carrying-requires
@@ -19,21 +19,21 @@ size-off-requires : tie.Need-size-off-requires
 size-off-requires c κs = search needs
 
 returns-2 : tie.Need-returns-2
-unfolding lengthsOff netOf
+unfolding lengthsOff payloadSize
 returns-2 c = simp (le-ltb _ _ (c .before .before .before .before .before .if1 .left), le-leb _ _ (c .before .before .before .before .before .if1 .left), ← c .before .before .before .before .carrying .ensures, c .before .before .before .if2 .taken, ← c .before .size-off .ensures, c .if3 .taken)
 
 total-off-requires : tie.Need-total-off-requires
 total-off-requires c κs = search needs
 
 returns-3 : tie.Need-returns-3
-unfolding lengthsOff netOf
+unfolding lengthsOff payloadSize
 returns-3 c = simp (le-ltb _ _ (c .before .before .before .before .before .before .if1 .left), le-leb _ _ (c .before .before .before .before .before .before .if1 .left), ← c .before .before .before .before .before .carrying .ensures, c .before .before .before .before .if2 .taken, ← c .before .before .size-off .ensures, c .before .if3 .left, ← c .total-off .ensures)
 
 bare-off-requires : tie.Need-bare-off-requires
 bare-off-requires c κs = search needs
 
 returns-4 : tie.Need-returns-4
-unfolding lengthsOff netOf
+unfolding lengthsOff payloadSize
 returns-4 c = simp (le-ltb _ _ (c .before .before .before .if1 .left), le-leb _ _ (c .before .before .before .if1 .left), ← c .before .before .carrying .ensures, c .before .if2 .left, ← c .bare-off .ensures)
 
 pub lengths-off-spec : {M : Type 1} → statement M

@@ -8,10 +8,10 @@ use Rattle.request_checks.proofs.lengths.no_more.Statement.{statement}
 use Rattle.request_checks.proofs.lengths.no_more.Tie as tie
 
 returns : tie.Need-returns
-returns c = sym (ap not (le-ltb (c .before .args .placed + c .before .args .net) (c .before .args .length) (omega arith)))
+returns c = sym (ap not (le-ltb (c .before .args .stored + c .before .args .size) (c .before .args .length) (omega arith)))
 
 returns-2 : tie.Need-returns-2
-returns-2 c = no-less (c .before .args .length) (c .before .args .placed) (c .before .args .net) (c .if1 .left)
+returns-2 c = no-less (c .before .args .length) (c .before .args .stored) (c .before .args .size) (c .if1 .left)
 
 pub no-more-spec : {M : Type 1} → statement M
 no-more-spec = tie.close (tie.spec returns returns-2)

@@ -7,10 +7,10 @@ use Rattle.request_checks.proofs.lengths.over.Statement.{statement}
 use Rattle.request_checks.proofs.lengths.over.Tie as tie
 
 returns : tie.Need-returns
-returns c = sym (lt-ltb (c .before .args .most) (c .before .args .placed + c .before .args .net) (omega arith))
+returns c = sym (lt-ltb (c .before .args .most) (c .before .args .stored + c .before .args .size) (omega arith))
 
 returns-2 : tie.Need-returns-2
-returns-2 c = over-left (c .before .args .most) (c .before .args .placed) (c .before .args .net) (c .if1 .left)
+returns-2 c = over-left (c .before .args .most) (c .before .args .stored) (c .before .args .size) (c .if1 .left)
 
 pub over-spec : {M : Type 1} → statement M
 over-spec = tie.close (tie.spec returns returns-2)

@@ -1,4 +1,4 @@
-use Rattle.responder.proofs.Nexts.{refused, inside, sent}
+use Rattle.responder.proofs.Nexts.{refused, inside, outgoing}
 use native.Mathlib.Omega.{arith}
 use Prim.Native.Nat.{_<_, _^_}
 use borrow.Author.Needs.{needs}
@@ -67,8 +67,8 @@ done-bytes-requires c κs = search needs
 one-fewer-requires : tie.Need-one-fewer-requires
 one-fewer-requires c κs = search needs
 
-sending-requires : tie.Need-sending-requires
-sending-requires c κs = search needs
+responded-requires : tie.Need-responded-requires
+responded-requires c κs = search needs
 
 same-length : tie.Need-same-length
 same-length c = search needs
@@ -77,7 +77,7 @@ returns-2 : tie.Need-returns-2
 returns-2 c =
     let A = c .before .before .before .before .before .before .before .before .before .before .before .before .before .before .before .before .before .before .before .before .before .before .before .args in
     let pkey : A .pair .setup .pkey < 2 ^ 16 = omega (arith, c .before .before .before .before .before .before .before .before .before .before .before .before .before .before .before .before .before .before .before .before .before .before .before .good .0) in
-    sent (A .pair) (A .mem .now) (A .out .now) (c .before .before .before .before .before .before .before .before .before .before .before .before .before .before .before .before .before .before .before .before .next-status .result) (c .before .before .before .before .before .before .before .before .before .before .before .before .before .before .before .before .before .before .before .before .next-status .ensures) (c .before .before .before .before .before .before .before .before .before .before .before .before .before .before .before .before .before .before .before .number .result) (c .before .before .before .before .before .before .before .before .before .before .before .before .before .before .before .before .before .before .before .number .ensures) (c .before .before .before .before .before .before .before .before .before .before .before .before .before .before .before .before .before .before .if1 .left) pkey (c .before .before .before .before .before .before .before .before .before .before .before .before .before .before .before .index-of .result) (c .before .before .before .before .before .before .before .before .before .before .before .before .before .before .before .index-of .ensures) (c .before .before .before .before .before .before .before .before .before .before .before .before .before .before .part .result) (c .before .before .before .before .before .before .before .before .before .before .before .before .before .before .part .ensures) (c .before .before .before .before .before .before .before .before .response-header .result) (c .before .before .before .before .before .before .before .before .response-header .ensures) (c .before .before .before .before .before .write .result) (c .before .before .before .before .before .write .ensures .0) _ (c .before .before .before .before .before .write .ensures .1) (c .before .before .done-bytes .result) (c .before .before .done-bytes .ensures) (c .before .one-fewer .result) (c .before .one-fewer .ensures) (c .sending .result) (c .sending .ensures)
+    outgoing (A .pair) (A .mem .now) (A .out .now) (c .before .before .before .before .before .before .before .before .before .before .before .before .before .before .before .before .before .before .before .before .next-status .result) (c .before .before .before .before .before .before .before .before .before .before .before .before .before .before .before .before .before .before .before .before .next-status .ensures) (c .before .before .before .before .before .before .before .before .before .before .before .before .before .before .before .before .before .before .before .number .result) (c .before .before .before .before .before .before .before .before .before .before .before .before .before .before .before .before .before .before .before .number .ensures) (c .before .before .before .before .before .before .before .before .before .before .before .before .before .before .before .before .before .before .if1 .left) pkey (c .before .before .before .before .before .before .before .before .before .before .before .before .before .before .before .index-of .result) (c .before .before .before .before .before .before .before .before .before .before .before .before .before .before .before .index-of .ensures) (c .before .before .before .before .before .before .before .before .before .before .before .before .before .before .part .result) (c .before .before .before .before .before .before .before .before .before .before .before .before .before .before .part .ensures) (c .before .before .before .before .before .before .before .before .response-header .result) (c .before .before .before .before .before .before .before .before .response-header .ensures) (c .before .before .before .before .before .write .result) (c .before .before .before .before .before .write .ensures .0) _ (c .before .before .before .before .before .write .ensures .1) (c .before .before .done-bytes .result) (c .before .before .done-bytes .ensures) (c .before .one-fewer .result) (c .before .one-fewer .ensures) (c .responded .result) (c .responded .ensures)
 
 pub next-response-spec : {M : Type 1} → statement M
 next-response-spec =
@@ -99,6 +99,6 @@ next-response-spec =
     write-requires
     done-bytes-requires
     one-fewer-requires
-    sending-requires
+    responded-requires
     same-length
     returns-2)

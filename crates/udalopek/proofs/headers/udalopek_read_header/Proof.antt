@@ -1,5 +1,5 @@
 use mathlib.Core.Path.{sym, ap, _∙_}
-use Rattle.udalopek_spec.specs.Headers.{readNumber, readBth, readExtension, readCheck, toldBth, toldExtension}
+use Rattle.udalopek_spec.specs.Headers.{readHeaderNumber, readBth, readExtension, readCheck, toldBth, toldExtension}
 use borrow.Author.Needs.{needs}
 use Rattle.udalopek.proofs.headers.udalopek_read_header.Statement.{statement}
 use Rattle.udalopek.proofs.headers.udalopek_read_header.Tie as tie
@@ -17,14 +17,14 @@ tell-header-requires : tie.Need-tell-header-requires
 tell-header-requires c κs = search needs
 
 returns : tie.Need-returns
-unfolding readNumber readBth readExtension readCheck toldBth toldExtension
+unfolding readHeaderNumber readBth readExtension readCheck toldBth toldExtension
 returns c =
     let A = c .before .before .before .before .before .args in
     let e = sym (c .before .before .before .read .ensures) ∙ c .before .found .given .1 in
     (sym (ap readCheck e), (sym (ap (λ h. toldBth h (A .bth .now)) e), sym (ap (λ h. toldExtension h (A .extension .now)) e)))
 
 returns-2 : tie.Need-returns-2
-unfolding readNumber readBth readExtension readCheck toldBth toldExtension
+unfolding readHeaderNumber readBth readExtension readCheck toldBth toldExtension
 returns-2 c =
     let A = c .before .before .before .before .before .before .before .before .args in
     let e = sym (c .before .before .before .before .before .before .read .ensures) ∙ c .before .before .before .before .found2 .given .1 in

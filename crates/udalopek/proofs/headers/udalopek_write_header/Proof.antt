@@ -1,4 +1,4 @@
-use Rattle.udalopek_spec.specs.Headers.{writeNumber, writeOutput, writeTold}
+use Rattle.udalopek_spec.specs.Headers.{writeNumber, writeOutput, writeReport}
 use borrow.Author.Needs.{needs}
 use Rattle.udalopek.proofs.headers.udalopek_write_header.Statement.{statement}
 use Rattle.udalopek.proofs.headers.udalopek_write_header.Tie as tie
@@ -15,21 +15,21 @@ extension-from-requires c κs = search needs
 write-requires : tie.Need-write-requires
 write-requires c κs = search needs
 
-bytes-told-requires : tie.Need-bytes-told-requires
-bytes-told-requires c κs = search needs
+bytes-written-requires : tie.Need-bytes-written-requires
+bytes-written-requires c κs = search needs
 
-refusal-told-requires : tie.Need-refusal-told-requires
-refusal-told-requires c κs = search needs
+refusal-number-requires : tie.Need-refusal-number-requires
+refusal-number-requires c κs = search needs
 
 same-length : tie.Need-same-length
 same-length c = search needs
 
 returns : tie.Need-returns
-unfolding writeNumber writeOutput writeTold
-returns c = (simp (← c .before .before .before .before .before .before .before .before .before .before .own-words .ensures, c .before .before .before .before .before .before .before .before .before .if1 .taken, ← c .before .before .before .before .before .before .before .before .bth-from .ensures, ← c .before .before .before .before .before .before .before .extension-from .ensures, ← c .before .before .before .before .before .write .ensures .1, ← c .before .before .before .before .before .write .ensures .0, ← c .before .before .bytes-told .ensures, ← c .refusal-told .ensures), (simp (← c .before .before .before .before .before .before .before .before .before .before .own-words .ensures, c .before .before .before .before .before .before .before .before .before .if1 .taken, ← c .before .before .before .before .before .before .before .before .bth-from .ensures, ← c .before .before .before .before .before .before .before .extension-from .ensures, ← c .before .before .before .before .before .write .ensures .1, ← c .before .before .before .before .before .write .ensures .0, ← c .before .before .bytes-told .ensures, ← c .refusal-told .ensures), simp (← c .before .before .before .before .before .before .before .before .before .before .own-words .ensures, c .before .before .before .before .before .before .before .before .before .if1 .taken, ← c .before .before .before .before .before .before .before .before .bth-from .ensures, ← c .before .before .before .before .before .before .before .extension-from .ensures, ← c .before .before .before .before .before .write .ensures .1, ← c .before .before .before .before .before .write .ensures .0, ← c .before .before .bytes-told .ensures, ← c .refusal-told .ensures)))
+unfolding writeNumber writeOutput writeReport
+returns c = (simp (← c .before .before .before .before .before .before .before .before .before .before .own-words .ensures, c .before .before .before .before .before .before .before .before .before .if1 .taken, ← c .before .before .before .before .before .before .before .before .bth-from .ensures, ← c .before .before .before .before .before .before .before .extension-from .ensures, ← c .before .before .before .before .before .write .ensures .1, ← c .before .before .before .before .before .write .ensures .0, ← c .before .before .bytes-written .ensures, ← c .refusal-number .ensures), (simp (← c .before .before .before .before .before .before .before .before .before .before .own-words .ensures, c .before .before .before .before .before .before .before .before .before .if1 .taken, ← c .before .before .before .before .before .before .before .before .bth-from .ensures, ← c .before .before .before .before .before .before .before .extension-from .ensures, ← c .before .before .before .before .before .write .ensures .1, ← c .before .before .before .before .before .write .ensures .0, ← c .before .before .bytes-written .ensures, ← c .refusal-number .ensures), simp (← c .before .before .before .before .before .before .before .before .before .before .own-words .ensures, c .before .before .before .before .before .before .before .before .before .if1 .taken, ← c .before .before .before .before .before .before .before .before .bth-from .ensures, ← c .before .before .before .before .before .before .before .extension-from .ensures, ← c .before .before .before .before .before .write .ensures .1, ← c .before .before .before .before .before .write .ensures .0, ← c .before .before .bytes-written .ensures, ← c .refusal-number .ensures)))
 
 returns-2 : tie.Need-returns-2
-unfolding writeNumber writeOutput writeTold
+unfolding writeNumber writeOutput writeReport
 returns-2 c = (simp (← c .before .before .own-words .ensures, c .before .if1 .left), (simp (← c .before .before .own-words .ensures, c .before .if1 .left), simp (← c .before .before .own-words .ensures, c .before .if1 .left)))
 
 pub udalopek-write-header-spec : {M : Type 1} → statement M
@@ -40,8 +40,8 @@ udalopek-write-header-spec =
     bth-from-requires
     extension-from-requires
     write-requires
-    bytes-told-requires
-    refusal-told-requires
+    bytes-written-requires
+    refusal-number-requires
     same-length
     returns
     returns-2)

@@ -1,6 +1,6 @@
 use mathlib.Core.Path.{sym, ap, _∙_}
-use Rattle.abi_spec.specs.Words.{put}
-use Rattle.abi_spec.specs.Pair.{strange}
+use Rattle.abi_spec.specs.Words.{overwriteWords}
+use Rattle.abi_spec.specs.Pair.{malformed}
 use borrow.Author.Needs.{needs}
 use Rattle.udalopek.proofs.host_calls.leave.Statement.{statement}
 use Rattle.udalopek.proofs.host_calls.leave.Tie as tie
@@ -11,8 +11,8 @@ pair-words-requires c κs = search needs
 slice-aggregate-put : tie.Need-slice-aggregate-put
 slice-aggregate-put c = search needs
 
-put-requires : tie.Need-put-requires
-put-requires c κs = search needs
+overwrite-words-requires : tie.Need-overwrite-words-requires
+overwrite-words-requires c κs = search needs
 
 number-requires : tie.Need-number-requires
 number-requires c κs = search needs
@@ -23,7 +23,7 @@ same-length c = search needs
 returns : tie.Need-returns
 returns c =
     let e = c .before .before .before .before .before .before .pair-words .ensures in
-    (c .number .ensures, (c .before .before .before .put .ensures ∙ ap (λ x. put (c .before .before .before .before .before .before .before .before .args .pair .now) x) (e .0), sym (ap strange (e .0)) ∙ e .1))
+    (c .number .ensures, (c .before .before .before .overwrite-words .ensures ∙ ap (λ x. overwriteWords (c .before .before .before .before .before .before .before .before .args .pair .now) x) (e .0), sym (ap malformed (e .0)) ∙ e .1))
 
 pub leave-spec : {M : Type 1} → statement M
 leave-spec =
@@ -31,7 +31,7 @@ leave-spec =
     (tie.spec
     pair-words-requires
     slice-aggregate-put
-    put-requires
+    overwrite-words-requires
     number-requires
     same-length
     returns)

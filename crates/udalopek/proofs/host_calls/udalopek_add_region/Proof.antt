@@ -3,12 +3,12 @@ use borrow.Author.Needs.{needs}
 use Rattle.udalopek.proofs.host_calls.udalopek_add_region.Statement.{statement}
 use Rattle.udalopek.proofs.host_calls.udalopek_add_region.Tie as tie
 
-strange-requires : tie.Need-strange-requires
-strange-requires c κs = search needs
+malformed-requires : tie.Need-malformed-requires
+malformed-requires c κs = search needs
 
 returns : tie.Need-returns
 unfolding addNumber addTable oddRegions
-returns c = (simp (← c .before .strange .ensures, c .if1 .taken), simp (← c .before .strange .ensures, c .if1 .taken))
+returns c = (simp (← c .before .malformed .ensures, c .if1 .taken), simp (← c .before .malformed .ensures, c .if1 .taken))
 
 pair-of-requires : tie.Need-pair-of-requires
 pair-of-requires c κs = search needs
@@ -16,12 +16,12 @@ pair-of-requires c κs = search needs
 wide-requires : tie.Need-wide-requires
 wide-requires c κs = search needs
 
-regions-strange-requires : tie.Need-regions-strange-requires
-regions-strange-requires c κs = search needs
+regions-malformed-requires : tie.Need-regions-malformed-requires
+regions-malformed-requires c κs = search needs
 
 returns-2 : tie.Need-returns-2
 unfolding addNumber addTable oddRegions
-returns-2 c = (simp (← c .before .before .before .before .before .before .strange .ensures, c .before .before .before .before .before .if1 .left, ← c .before .before .before .before .pair-of .ensures, ← c .before .before .wide .ensures, ← c .before .regions-strange .ensures, c .if2 .taken), simp (← c .before .before .before .before .before .before .strange .ensures, c .before .before .before .before .before .if1 .left, ← c .before .before .before .before .pair-of .ensures, ← c .before .before .wide .ensures, ← c .before .regions-strange .ensures, c .if2 .taken))
+returns-2 c = (simp (← c .before .before .before .before .before .before .malformed .ensures, c .before .before .before .before .before .if1 .left, ← c .before .before .before .before .pair-of .ensures, ← c .before .before .wide .ensures, ← c .before .regions-malformed .ensures, c .if2 .taken), simp (← c .before .before .before .before .before .before .malformed .ensures, c .before .before .before .before .before .if1 .left, ← c .before .before .before .before .pair-of .ensures, ← c .before .before .wide .ensures, ← c .before .regions-malformed .ensures, c .if2 .taken))
 
 add-region-requires : tie.Need-add-region-requires
 add-region-requires c κs = search needs
@@ -31,17 +31,17 @@ number-requires c κs = search needs
 
 returns-3 : tie.Need-returns-3
 unfolding addNumber addTable oddRegions
-returns-3 c = (simp (← c .before .before .before .before .before .before .before .before .before .strange .ensures, c .before .before .before .before .before .before .before .before .if1 .left, ← c .before .before .before .before .before .before .before .pair-of .ensures, ← c .before .before .before .before .before .wide .ensures, ← c .before .before .before .before .regions-strange .ensures, c .before .before .before .if2 .left, ← c .before .add-region .ensures .1, ← c .before .add-region .ensures .0, ← c .number .ensures), simp (← c .before .before .before .before .before .before .before .before .before .strange .ensures, c .before .before .before .before .before .before .before .before .if1 .left, ← c .before .before .before .before .before .before .before .pair-of .ensures, ← c .before .before .before .before .before .wide .ensures, ← c .before .before .before .before .regions-strange .ensures, c .before .before .before .if2 .left, ← c .before .add-region .ensures .1, ← c .before .add-region .ensures .0, ← c .number .ensures))
+returns-3 c = (simp (← c .before .before .before .before .before .before .before .before .before .malformed .ensures, c .before .before .before .before .before .before .before .before .if1 .left, ← c .before .before .before .before .before .before .before .pair-of .ensures, ← c .before .before .before .before .before .wide .ensures, ← c .before .before .before .before .regions-malformed .ensures, c .before .before .before .if2 .left, ← c .before .add-region .ensures .1, ← c .before .add-region .ensures .0, ← c .number .ensures), simp (← c .before .before .before .before .before .before .before .before .before .malformed .ensures, c .before .before .before .before .before .before .before .before .if1 .left, ← c .before .before .before .before .before .before .before .pair-of .ensures, ← c .before .before .before .before .before .wide .ensures, ← c .before .before .before .before .regions-malformed .ensures, c .before .before .before .if2 .left, ← c .before .add-region .ensures .1, ← c .before .add-region .ensures .0, ← c .number .ensures))
 
 pub udalopek-add-region-spec : {M : Type 1} → statement M
 udalopek-add-region-spec =
     tie.close
     (tie.spec
-    strange-requires
+    malformed-requires
     returns
     pair-of-requires
     wide-requires
-    regions-strange-requires
+    regions-malformed-requires
     returns-2
     add-region-requires
     number-requires

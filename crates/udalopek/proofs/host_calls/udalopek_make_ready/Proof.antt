@@ -1,7 +1,7 @@
 use mathlib.Core.Path.{_≡_, refl, sym, ap, _∙_}
 use mathlib.Core.Bool.{false}
 use Rattle.pair.specs.Answer.{statusNumber}
-use Rattle.abi_spec.specs.Pair.{strange, pairWords}
+use Rattle.abi_spec.specs.Pair.{malformed, pairWords}
 use Rattle.abi_spec.proofs.Laws.{put-pair}
 use Rattle.udalopek_spec.proofs.Steps.{second, first}
 use Rattle.pair.specs.Host.{madeReady}
@@ -10,15 +10,15 @@ use borrow.Author.Needs.{needs}
 use Rattle.udalopek.proofs.host_calls.udalopek_make_ready.Statement.{statement}
 use Rattle.udalopek.proofs.host_calls.udalopek_make_ready.Tie as tie
 
-strange-requires : tie.Need-strange-requires
-strange-requires c κs = search needs
+malformed-requires : tie.Need-malformed-requires
+malformed-requires c κs = search needs
 
 same-length : tie.Need-same-length
 same-length c = search needs
 
 returns : tie.Need-returns
 unfolding readyNumber readyWords
-returns c = let p = sym (c .before .strange .ensures) ∙ c .if1 .taken in (first _ 34 _ p, (first _ _ _ p, refl))
+returns c = let p = sym (c .before .malformed .ensures) ∙ c .if1 .taken in (first _ 34 _ p, (first _ _ _ p, refl))
 
 pair-of-requires : tie.Need-pair-of-requires
 pair-of-requires c κs = search needs
@@ -35,15 +35,15 @@ same-length-2 c = search needs
 returns-2 : tie.Need-returns-2
 unfolding readyNumber readyWords
 returns-2 c =
-    let p : strange (c .before .before .before .before .before .before .before .before .before .before .before .before .args .pair .now) ≡ false = sym (c .before .before .before .before .before .before .before .before .before .strange .ensures) ∙ c .before .before .before .before .before .before .before .before .if1 .left in
+    let p : malformed (c .before .before .before .before .before .before .before .before .before .before .before .before .args .pair .now) ≡ false = sym (c .before .before .before .before .before .before .before .before .before .malformed .ensures) ∙ c .before .before .before .before .before .before .before .before .if1 .left in
     let e = c .before .before .before .before .before .make-ready .ensures ∙ ap (λ x. madeReady x) (c .before .before .before .before .before .before .pair-of .ensures) in
-    (c .before .before .leave .ensures .0 ∙ ap (λ o. statusNumber (o .status)) e ∙ second _ 34 _ p, (c .before .before .leave .ensures .1 .0 ∙ put-pair _ _ p ∙ ap (λ o. pairWords (o .pair)) e ∙ second _ _ _ p, ap strange (c .before .before .leave .ensures .1 .0 ∙ put-pair _ _ p) ∙ c .before .before .leave .ensures .1 .1 ∙ sym p))
+    (c .before .before .leave .ensures .0 ∙ ap (λ o. statusNumber (o .status)) e ∙ second _ 34 _ p, (c .before .before .leave .ensures .1 .0 ∙ put-pair _ _ p ∙ ap (λ o. pairWords (o .pair)) e ∙ second _ _ _ p, ap malformed (c .before .before .leave .ensures .1 .0 ∙ put-pair _ _ p) ∙ c .before .before .leave .ensures .1 .1 ∙ sym p))
 
 pub udalopek-make-ready-spec : {M : Type 1} → statement M
 udalopek-make-ready-spec =
     tie.close
     (tie.spec
-    strange-requires
+    malformed-requires
     same-length
     returns
     pair-of-requires

@@ -1,7 +1,7 @@
 use mathlib.Core.Path.{_≡_, refl, sym, ap, _∙_}
 use mathlib.Core.Bool.{true, false}
 use Rattle.pair.specs.Answer.{statusNumber}
-use Rattle.abi_spec.specs.Pair.{strange, pairWords}
+use Rattle.abi_spec.specs.Pair.{malformed, pairWords}
 use Rattle.pair.specs.Host.{posted, postEntries}
 use Rattle.udalopek_spec.proofs.Steps.{second, first, strange-by, left-words}
 use Rattle.udalopek_spec.specs.Host.{postNumber, postWords, postTable}
@@ -29,7 +29,7 @@ unfolding postNumber postWords postTable
 returns c =
     let A = c .before .before .before .before .before .before .before .before .args in
     let q = c .before .before .before .before .before .pair-of .ensures in
-    let p : strange (A .pair .now) ≡ true = strange-by (A .pair .now) _ _ _ q (c .before .before .before .before .pair-words .ensures .0) (c .before .same .ensures) ∙ c .if1 .taken in
+    let p : malformed (A .pair .now) ≡ true = strange-by (A .pair .now) _ _ _ q (c .before .before .before .before .pair-words .ensures .0) (c .before .same .ensures) ∙ c .if1 .taken in
     (first _ 34 _ p, (first _ _ _ p, (first _ _ _ p, refl)))
 
 post-entry-requires : tie.Need-post-entry-requires
@@ -41,8 +41,8 @@ pair-words-requires-2 c κs = search needs
 slice-aggregate-put : tie.Need-slice-aggregate-put
 slice-aggregate-put c = search needs
 
-put-requires : tie.Need-put-requires
-put-requires c κs = search needs
+overwrite-words-requires : tie.Need-overwrite-words-requires
+overwrite-words-requires c κs = search needs
 
 number-requires : tie.Need-number-requires
 number-requires c κs = search needs
@@ -55,9 +55,9 @@ unfolding postNumber postWords postTable
 returns-2 c =
     let A = c .before .before .before .before .before .before .before .before .before .before .before .before .before .before .before .before .before .before .args in
     let q = c .before .before .before .before .before .before .before .before .before .before .before .before .before .before .before .pair-of .ensures in
-    let p : strange (A .pair .now) ≡ false = strange-by (A .pair .now) _ _ _ q (c .before .before .before .before .before .before .before .before .before .before .before .before .before .before .pair-words .ensures .0) (c .before .before .before .before .before .before .before .before .before .before .before .same .ensures) ∙ c .before .before .before .before .before .before .before .before .before .before .if1 .left in
-    let l = left-words (A .pair .now) _ _ _ p (c .before .before .before .before .before .before .pair-words2 .ensures .0) (c .before .before .before .put .ensures) in
-    let s = ap strange l ∙ sym (ap strange (c .before .before .before .before .before .before .pair-words2 .ensures .0)) ∙ c .before .before .before .before .before .before .pair-words2 .ensures .1 ∙ sym p in
+    let p : malformed (A .pair .now) ≡ false = strange-by (A .pair .now) _ _ _ q (c .before .before .before .before .before .before .before .before .before .before .before .before .before .before .pair-words .ensures .0) (c .before .before .before .before .before .before .before .before .before .before .before .same .ensures) ∙ c .before .before .before .before .before .before .before .before .before .before .if1 .left in
+    let l = left-words (A .pair .now) _ _ _ p (c .before .before .before .before .before .before .pair-words2 .ensures .0) (c .before .before .before .overwrite-words .ensures) in
+    let s = ap malformed l ∙ sym (ap malformed (c .before .before .before .before .before .before .pair-words2 .ensures .0)) ∙ c .before .before .before .before .before .before .pair-words2 .ensures .1 ∙ sym p in
     let o = c .before .before .before .before .before .before .before .before .post-entry .ensures .0 ∙ ap (λ x. posted x (record { number = A .number; offset = A .offset; length = A .length })) q in
     (c .number .ensures ∙ ap (λ x. statusNumber (x .status)) o ∙ second _ 34 _ p, (l ∙ ap (λ x. pairWords (x .pair)) o ∙ second _ _ _ p, (c .before .before .before .before .before .before .before .before .post-entry .ensures .1 ∙ ap (λ x. postEntries x (A .entries .now) (record { number = A .number; offset = A .offset; length = A .length })) q ∙ second _ _ _ p, s)))
 
@@ -74,7 +74,7 @@ udalopek-post-entry-spec =
     post-entry-requires
     pair-words-requires-2
     slice-aggregate-put
-    put-requires
+    overwrite-words-requires
     number-requires
     same-length-2
     returns-2)

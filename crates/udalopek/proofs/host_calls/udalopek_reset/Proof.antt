@@ -1,7 +1,7 @@
 use mathlib.Core.Path.{_≡_, refl, sym, ap, _∙_}
 use mathlib.Core.Bool.{true, false}
 use Rattle.pair.specs.Answer.{statusNumber}
-use Rattle.abi_spec.specs.Pair.{strange, pairWords}
+use Rattle.abi_spec.specs.Pair.{malformed, pairWords}
 use Rattle.abi_spec.proofs.Laws.{put-pair}
 use Rattle.udalopek_spec.proofs.Steps.{second, first}
 use Rattle.pair.specs.Sound.{pairUnsound}
@@ -11,15 +11,15 @@ use borrow.Author.Needs.{needs}
 use Rattle.udalopek.proofs.host_calls.udalopek_reset.Statement.{statement}
 use Rattle.udalopek.proofs.host_calls.udalopek_reset.Tie as tie
 
-strange-requires : tie.Need-strange-requires
-strange-requires c κs = search needs
+malformed-requires : tie.Need-malformed-requires
+malformed-requires c κs = search needs
 
 same-length : tie.Need-same-length
 same-length c = search needs
 
 returns : tie.Need-returns
 unfolding resetNumber resetWords resetTable unmade
-returns c = let p = sym (c .before .strange .ensures) ∙ c .if1 .taken in (first _ 34 _ p, (first _ _ _ p, (first _ _ _ p, refl)))
+returns c = let p = sym (c .before .malformed .ensures) ∙ c .if1 .taken in (first _ 34 _ p, (first _ _ _ p, (first _ _ _ p, refl)))
 
 pair-of-requires : tie.Need-pair-of-requires
 pair-of-requires c κs = search needs
@@ -34,7 +34,7 @@ returns-2 : tie.Need-returns-2
 unfolding resetNumber resetWords resetTable unmade
 returns-2 c =
     let A = c .before .before .before .before .before .before .before .before .args in
-    let p : strange (A .pair .now) ≡ false = sym (c .before .before .before .before .before .strange .ensures) ∙ c .before .before .before .before .if1 .left in
+    let p : malformed (A .pair .now) ≡ false = sym (c .before .before .before .before .before .malformed .ensures) ∙ c .before .before .before .before .if1 .left in
     let u : unmade (A .pair .now) ≡ true = ap pairUnsound (sym (c .before .before .pair-of .ensures)) ∙ sym (c .before .unsound .ensures) ∙ c .if2 .taken in
     (first _ 34 _ u ∙ second _ 34 _ p, (first _ _ _ u ∙ second _ _ _ p, (first _ _ _ u ∙ second _ _ _ p, refl)))
 
@@ -51,17 +51,17 @@ returns-3 : tie.Need-returns-3
 unfolding resetNumber resetWords resetTable unmade
 returns-3 c =
     let A = c .before .before .before .before .before .before .before .before .before .before .before .before .before .before .before .args in
-    let p : strange (A .pair .now) ≡ false = sym (c .before .before .before .before .before .before .before .before .before .before .before .before .strange .ensures) ∙ c .before .before .before .before .before .before .before .before .before .before .before .if1 .left in
+    let p : malformed (A .pair .now) ≡ false = sym (c .before .before .before .before .before .before .before .before .before .before .before .before .malformed .ensures) ∙ c .before .before .before .before .before .before .before .before .before .before .before .if1 .left in
     let q = c .before .before .before .before .before .before .before .before .before .pair-of .ensures in
     let u : unmade (A .pair .now) ≡ false = ap pairUnsound (sym q) ∙ sym (c .before .before .before .before .before .before .before .before .unsound .ensures) ∙ c .before .before .before .before .before .before .before .if2 .left in
     let e = c .before .before .before .before .before .reset .ensures .0 ∙ ap resetTo q in
-    (c .before .before .leave .ensures .0 ∙ ap (λ o. statusNumber (o .status)) e ∙ second _ 34 _ u ∙ second _ 34 _ p, (c .before .before .leave .ensures .1 .0 ∙ put-pair _ _ p ∙ ap (λ o. pairWords (o .pair)) e ∙ second _ _ _ u ∙ second _ _ _ p, (c .before .before .before .before .before .reset .ensures .1 ∙ ap (λ x. resetRegions x (A .regions .now)) q ∙ second _ _ _ u ∙ second _ _ _ p, ap strange (c .before .before .leave .ensures .1 .0 ∙ put-pair _ _ p) ∙ c .before .before .leave .ensures .1 .1 ∙ sym p)))
+    (c .before .before .leave .ensures .0 ∙ ap (λ o. statusNumber (o .status)) e ∙ second _ 34 _ u ∙ second _ 34 _ p, (c .before .before .leave .ensures .1 .0 ∙ put-pair _ _ p ∙ ap (λ o. pairWords (o .pair)) e ∙ second _ _ _ u ∙ second _ _ _ p, (c .before .before .before .before .before .reset .ensures .1 ∙ ap (λ x. resetRegions x (A .regions .now)) q ∙ second _ _ _ u ∙ second _ _ _ p, ap malformed (c .before .before .leave .ensures .1 .0 ∙ put-pair _ _ p) ∙ c .before .before .leave .ensures .1 .1 ∙ sym p)))
 
 pub udalopek-reset-spec : {M : Type 1} → statement M
 udalopek-reset-spec =
     tie.close
     (tie.spec
-    strange-requires
+    malformed-requires
     same-length
     returns
     pair-of-requires

@@ -3,7 +3,7 @@ use mathlib.Core.Bool.{not}
 use lib.Dec.{eqb}
 use borrow.Author.Tests.{eq-eqb, ne-eqb}
 use Rattle.pair.specs.Answer.{statusNumber, executed}
-use Rattle.abi_spec.specs.Pair.{pairWords, strange}
+use Rattle.abi_spec.specs.Pair.{pairWords, malformed}
 use Rattle.abi_spec.proofs.Laws.{put-many}
 use Rattle.udalopek_spec.proofs.Steps.{second, first, thirty-four}
 use Rattle.udalopek_spec.specs.Host.{setUpNumber, setUpWords, setUpTable, otherLength}
@@ -47,7 +47,7 @@ returns-3 c =
     let e = c .before .before .before .before .before .before .before .set-up .ensures .0 in
     let n = c .before .before .before .before .before .before .number .ensures ∙ ap (λ o. statusNumber (o .status)) e in
     let x = ap (λ m. eqb m 0) (sym n) ∙ eq-eqb _ _ (c .before .before .before .before .before .if2 .left) in
-    (c .before .before .leave .ensures .0 ∙ ap (λ o. statusNumber (o .status)) e ∙ second _ 34 _ t, (c .before .before .leave .ensures .1 .0 ∙ put-many _ _ (c .before .before .before .before .before .before .before .before .before .if1 .left) ∙ ap (λ o. pairWords (o .pair)) e ∙ first _ _ _ x ∙ second _ _ _ t, (c .before .before .before .before .before .before .before .set-up .ensures .1 ∙ second _ _ _ t, λ z. ap strange (c .before .before .leave .ensures .1 .0 ∙ put-many _ _ (c .before .before .before .before .before .before .before .before .before .if1 .left)) ∙ c .before .before .leave .ensures .1 .1)))
+    (c .before .before .leave .ensures .0 ∙ ap (λ o. statusNumber (o .status)) e ∙ second _ 34 _ t, (c .before .before .leave .ensures .1 .0 ∙ put-many _ _ (c .before .before .before .before .before .before .before .before .before .if1 .left) ∙ ap (λ o. pairWords (o .pair)) e ∙ first _ _ _ x ∙ second _ _ _ t, (c .before .before .before .before .before .before .before .set-up .ensures .1 ∙ second _ _ _ t, λ z. ap malformed (c .before .before .leave .ensures .1 .0 ∙ put-many _ _ (c .before .before .before .before .before .before .before .before .before .if1 .left)) ∙ c .before .before .leave .ensures .1 .1)))
 
 pub udalopek-set-up-spec : {M : Type 1} → statement M
 udalopek-set-up-spec =

@@ -17,24 +17,24 @@ next-psn-requires c κs = search needs
 cut-requires : tie.Need-cut-requires
 cut-requires c κs = search needs
 
-refusal-told-requires : tie.Need-refusal-told-requires
-refusal-told-requires c κs = search needs
+refusal-number-requires : tie.Need-refusal-number-requires
+refusal-number-requires c κs = search needs
 
-bytes-told-requires : tie.Need-bytes-told-requires
-bytes-told-requires c κs = search needs
+bytes-written-requires : tie.Need-bytes-written-requires
+bytes-written-requires c κs = search needs
 
 following-psn-requires : tie.Need-following-psn-requires
 following-psn-requires c κs = search needs
 
-cut-told-requires : tie.Need-cut-told-requires
-cut-told-requires c κs = search needs
+cut-report-requires : tie.Need-cut-report-requires
+cut-report-requires c κs = search needs
 
 same-length : tie.Need-same-length
 same-length c = search needs
 
 returns-2 : tie.Need-returns-2
 unfolding cutNumber cutOutput cutWords
-returns-2 c = (simp (le-ltb _ _ (c .before .before .before .before .before .before .before .before .before .before .if1 .left), le-leb _ _ (c .before .before .before .before .before .before .before .before .before .before .if1 .left), ← c .before .before .before .before .before .before .before .before .before .request-of .ensures, ← c .before .before .before .before .before .before .before .before .next-psn .ensures, ← c .before .before .before .before .before .before .cut .ensures .1, ← c .before .before .before .before .before .before .cut .ensures .0, ← c .before .before .before .refusal-told .ensures, ← c .before .before .bytes-told .ensures, ← c .before .following-psn .ensures, ← c .cut-told .ensures), (simp (le-ltb _ _ (c .before .before .before .before .before .before .before .before .before .before .if1 .left), le-leb _ _ (c .before .before .before .before .before .before .before .before .before .before .if1 .left), ← c .before .before .before .before .before .before .before .before .before .request-of .ensures, ← c .before .before .before .before .before .before .before .before .next-psn .ensures, ← c .before .before .before .before .before .before .cut .ensures .1, ← c .before .before .before .before .before .before .cut .ensures .0, ← c .before .before .before .refusal-told .ensures, ← c .before .before .bytes-told .ensures, ← c .before .following-psn .ensures, ← c .cut-told .ensures), simp (le-ltb _ _ (c .before .before .before .before .before .before .before .before .before .before .if1 .left), le-leb _ _ (c .before .before .before .before .before .before .before .before .before .before .if1 .left), ← c .before .before .before .before .before .before .before .before .before .request-of .ensures, ← c .before .before .before .before .before .before .before .before .next-psn .ensures, ← c .before .before .before .before .before .before .cut .ensures .1, ← c .before .before .before .before .before .before .cut .ensures .0, ← c .before .before .before .refusal-told .ensures, ← c .before .before .bytes-told .ensures, ← c .before .following-psn .ensures, ← c .cut-told .ensures)))
+returns-2 c = (simp (le-ltb _ _ (c .before .before .before .before .before .before .before .before .before .before .if1 .left), le-leb _ _ (c .before .before .before .before .before .before .before .before .before .before .if1 .left), ← c .before .before .before .before .before .before .before .before .before .request-of .ensures, ← c .before .before .before .before .before .before .before .before .next-psn .ensures, ← c .before .before .before .before .before .before .cut .ensures .1, ← c .before .before .before .before .before .before .cut .ensures .0, ← c .before .before .before .refusal-number .ensures, ← c .before .before .bytes-written .ensures, ← c .before .following-psn .ensures, ← c .cut-report .ensures), (simp (le-ltb _ _ (c .before .before .before .before .before .before .before .before .before .before .if1 .left), le-leb _ _ (c .before .before .before .before .before .before .before .before .before .before .if1 .left), ← c .before .before .before .before .before .before .before .before .before .request-of .ensures, ← c .before .before .before .before .before .before .before .before .next-psn .ensures, ← c .before .before .before .before .before .before .cut .ensures .1, ← c .before .before .before .before .before .before .cut .ensures .0, ← c .before .before .before .refusal-number .ensures, ← c .before .before .bytes-written .ensures, ← c .before .following-psn .ensures, ← c .cut-report .ensures), simp (le-ltb _ _ (c .before .before .before .before .before .before .before .before .before .before .if1 .left), le-leb _ _ (c .before .before .before .before .before .before .before .before .before .before .if1 .left), ← c .before .before .before .before .before .before .before .before .before .request-of .ensures, ← c .before .before .before .before .before .before .before .before .next-psn .ensures, ← c .before .before .before .before .before .before .cut .ensures .1, ← c .before .before .before .before .before .before .cut .ensures .0, ← c .before .before .before .refusal-number .ensures, ← c .before .before .bytes-written .ensures, ← c .before .following-psn .ensures, ← c .cut-report .ensures)))
 
 pub udalopek-cut-spec : {M : Type 1} → statement M
 udalopek-cut-spec =
@@ -44,9 +44,9 @@ udalopek-cut-spec =
     request-of-requires
     next-psn-requires
     cut-requires
-    refusal-told-requires
-    bytes-told-requires
+    refusal-number-requires
+    bytes-written-requires
     following-psn-requires
-    cut-told-requires
+    cut-report-requires
     same-length
     returns-2)

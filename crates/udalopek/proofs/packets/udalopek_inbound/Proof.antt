@@ -1,10 +1,10 @@
 use mathlib.Core.Path.{_≡_, refl, sym, ap, _∙_}
 use mathlib.Core.Bool.{true, false}
 use Rattle.pair.specs.Answer.{statusNumber}
-use Rattle.abi_spec.specs.Pair.{strange, pairWords}
+use Rattle.abi_spec.specs.Pair.{malformed, pairWords}
 use Rattle.responder_spec.specs.Inbound.{inbound, inboundMemory, inboundSaved, inboundOut}
 use Rattle.udalopek_spec.proofs.Steps.{second, first, strange-by, left-words, refused-words, refused-rows}
-use Rattle.udalopek_spec.specs.Packets.{inboundNumber, inboundWords, inboundRows, inboundBytes, inboundOutput, inboundTold, oddFor, toldWords}
+use Rattle.udalopek_spec.specs.Packets.{inboundNumber, inboundWords, inboundRows, inboundBytes, inboundOutput, inboundReport, malformedFor, reportWords}
 use Rattle.responder_spec.specs.Inbound.{inbound, inboundMemory, inboundSaved, inboundOut}
 use borrow.Author.Needs.{needs}
 use Rattle.udalopek.proofs.packets.udalopek_inbound.Statement.{statement}
@@ -26,38 +26,38 @@ same-length : tie.Need-same-length
 same-length c = search needs
 
 returns : tie.Need-returns
-unfolding inboundNumber inboundWords inboundRows inboundBytes inboundOutput inboundTold
+unfolding inboundNumber inboundWords inboundRows inboundBytes inboundOutput inboundReport
 returns c =
     let A = c .before .before .before .before .before .before .before .before .before .before .before .before .args in
     let q = c .before .before .before .before .before .before .pair-of .ensures in
-    let p : strange (A .pair .now) ≡ true = strange-by (A .pair .now) _ _ _ q (c .before .before .before .before .before .pair-words .ensures .0) (c .before .before .same .ensures) ∙ c .before .if1 .taken in
+    let p : malformed (A .pair .now) ≡ true = strange-by (A .pair .now) _ _ _ q (c .before .before .before .before .before .pair-words .ensures .0) (c .before .before .same .ensures) ∙ c .before .if1 .taken in
     let r = refused-words (A .pair .now) (A .regions .now) (A .packet .now) p in
     (first _ 34 _ r, (first _ _ _ r, (first _ _ _ r, (first _ _ _ r, (first _ _ _ r, (first _ _ _ r, refl))))))
 
 wide-requires : tie.Need-wide-requires
 wide-requires c κs = search needs
 
-odd-for-requires : tie.Need-odd-for-requires
-odd-for-requires c κs = search needs
+malformed-for-requires : tie.Need-malformed-for-requires
+malformed-for-requires c κs = search needs
 
 same-length-2 : tie.Need-same-length-2
 same-length-2 c = search needs
 
 returns-2 : tie.Need-returns-2
-unfolding inboundNumber inboundWords inboundRows inboundBytes inboundOutput inboundTold
+unfolding inboundNumber inboundWords inboundRows inboundBytes inboundOutput inboundReport
 returns-2 c =
     let A = c .before .before .before .before .before .before .before .before .before .before .before .before .before .before .before .args in
     let q = c .before .before .before .before .before .before .before .before .before .pair-of .ensures in
-    let p : strange (A .pair .now) ≡ false = strange-by (A .pair .now) _ _ _ q (c .before .before .before .before .before .before .before .before .pair-words .ensures .0) (c .before .before .before .before .before .same .ensures) ∙ c .before .before .before .before .if1 .left in
-    let h = ap (λ x. oddFor (A .regions .now) (x .setup .memory) (A .packet .now)) (sym q) ∙ ap (λ n. oddFor (A .regions .now) n (A .packet .now)) (sym (c .before .before .before .wide .ensures)) ∙ sym (c .before .before .odd-for .ensures) ∙ c .before .if2 .taken in
+    let p : malformed (A .pair .now) ≡ false = strange-by (A .pair .now) _ _ _ q (c .before .before .before .before .before .before .before .before .pair-words .ensures .0) (c .before .before .before .before .before .same .ensures) ∙ c .before .before .before .before .if1 .left in
+    let h = ap (λ x. malformedFor (A .regions .now) (x .setup .memory) (A .packet .now)) (sym q) ∙ ap (λ n. malformedFor (A .regions .now) n (A .packet .now)) (sym (c .before .before .before .wide .ensures)) ∙ sym (c .before .before .malformed-for .ensures) ∙ c .before .if2 .taken in
     let r = refused-rows (A .pair .now) (A .regions .now) (A .packet .now) _ p h in
     (first _ 34 _ r, (first _ _ _ r, (first _ _ _ r, (first _ _ _ r, (first _ _ _ r, (first _ _ _ r, refl))))))
 
 inbound-requires : tie.Need-inbound-requires
 inbound-requires c κs = search needs
 
-told-words-requires : tie.Need-told-words-requires
-told-words-requires c κs = search needs
+report-words-requires : tie.Need-report-words-requires
+report-words-requires c κs = search needs
 
 pair-words-requires-2 : tie.Need-pair-words-requires-2
 pair-words-requires-2 c κs = search needs
@@ -65,8 +65,8 @@ pair-words-requires-2 c κs = search needs
 slice-aggregate-put : tie.Need-slice-aggregate-put
 slice-aggregate-put c = search needs
 
-put-requires : tie.Need-put-requires
-put-requires c κs = search needs
+overwrite-words-requires : tie.Need-overwrite-words-requires
+overwrite-words-requires c κs = search needs
 
 number-requires : tie.Need-number-requires
 number-requires c κs = search needs
@@ -81,17 +81,17 @@ same-length-5 : tie.Need-same-length-5
 same-length-5 c = search needs
 
 returns-3 : tie.Need-returns-3
-unfolding inboundNumber inboundWords inboundRows inboundBytes inboundOutput inboundTold
+unfolding inboundNumber inboundWords inboundRows inboundBytes inboundOutput inboundReport
 returns-3 c =
     let A = c .before .before .before .before .before .before .before .before .before .before .before .before .before .before .before .before .before .before .before .before .before .before .before .before .before .before .before .before .before .before .before .before .args in
     let q = c .before .before .before .before .before .before .before .before .before .before .before .before .before .before .before .before .before .before .before .before .before .before .before .before .before .before .pair-of .ensures in
-    let p : strange (A .pair .now) ≡ false = strange-by (A .pair .now) _ _ _ q (c .before .before .before .before .before .before .before .before .before .before .before .before .before .before .before .before .before .before .before .before .before .before .before .before .before .pair-words .ensures .0) (c .before .before .before .before .before .before .before .before .before .before .before .before .before .before .before .before .before .before .before .before .before .before .same .ensures) ∙ c .before .before .before .before .before .before .before .before .before .before .before .before .before .before .before .before .before .before .before .before .before .if1 .left in
-    let h = ap (λ x. oddFor (A .regions .now) (x .setup .memory) (A .packet .now)) (sym q) ∙ ap (λ n. oddFor (A .regions .now) n (A .packet .now)) (sym (c .before .before .before .before .before .before .before .before .before .before .before .before .before .before .before .before .before .before .before .before .wide .ensures)) ∙ sym (c .before .before .before .before .before .before .before .before .before .before .before .before .before .before .before .before .before .before .before .odd-for .ensures) ∙ c .before .before .before .before .before .before .before .before .before .before .before .before .before .before .before .before .before .before .if2 .left in
+    let p : malformed (A .pair .now) ≡ false = strange-by (A .pair .now) _ _ _ q (c .before .before .before .before .before .before .before .before .before .before .before .before .before .before .before .before .before .before .before .before .before .before .before .before .before .pair-words .ensures .0) (c .before .before .before .before .before .before .before .before .before .before .before .before .before .before .before .before .before .before .before .before .before .before .same .ensures) ∙ c .before .before .before .before .before .before .before .before .before .before .before .before .before .before .before .before .before .before .before .before .before .if1 .left in
+    let h = ap (λ x. malformedFor (A .regions .now) (x .setup .memory) (A .packet .now)) (sym q) ∙ ap (λ n. malformedFor (A .regions .now) n (A .packet .now)) (sym (c .before .before .before .before .before .before .before .before .before .before .before .before .before .before .before .before .before .before .before .before .wide .ensures)) ∙ sym (c .before .before .before .before .before .before .before .before .before .before .before .before .before .before .before .before .before .before .before .malformed-for .ensures) ∙ c .before .before .before .before .before .before .before .before .before .before .before .before .before .before .before .before .before .before .if2 .left in
     let r = refused-rows (A .pair .now) (A .regions .now) (A .packet .now) _ p h in
-    let l = left-words (A .pair .now) _ _ _ p (c .before .before .before .before .before .before .pair-words2 .ensures .0) (c .before .before .before .put .ensures) in
-    let s = ap strange l ∙ sym (ap strange (c .before .before .before .before .before .before .pair-words2 .ensures .0)) ∙ c .before .before .before .before .before .before .pair-words2 .ensures .1 ∙ sym p in
+    let l = left-words (A .pair .now) _ _ _ p (c .before .before .before .before .before .before .pair-words2 .ensures .0) (c .before .before .before .overwrite-words .ensures) in
+    let s = ap malformed l ∙ sym (ap malformed (c .before .before .before .before .before .before .pair-words2 .ensures .0)) ∙ c .before .before .before .before .before .before .pair-words2 .ensures .1 ∙ sym p in
     let o = c .before .before .before .before .before .before .before .before .before .before .before .before .before .before .inbound .ensures .0 ∙ ap (λ x. inbound x (A .regions .now) (A .entries .now) (A .saved .now) (A .mem .now) (A .packet .now) (A .out .now)) q in
-    (c .number .ensures ∙ ap (λ x. statusNumber (x .status)) o ∙ second _ 34 _ r, (l ∙ ap (λ x. pairWords (x .pair)) o ∙ second _ _ _ r, (c .before .before .before .before .before .before .before .before .before .before .before .before .before .before .inbound .ensures .1 .1 .0 ∙ ap (λ x. inboundSaved x (A .regions .now) (A .entries .now) (A .saved .now) (A .mem .now) (A .packet .now) (A .out .now)) q ∙ second _ _ _ r, (c .before .before .before .before .before .before .before .before .before .before .before .before .before .before .inbound .ensures .1 .0 ∙ ap (λ x. inboundMemory x (A .regions .now) (A .entries .now) (A .saved .now) (A .mem .now) (A .packet .now) (A .out .now)) q ∙ second _ _ _ r, (c .before .before .before .before .before .before .before .before .before .before .before .before .before .before .inbound .ensures .1 .1 .1 ∙ ap (λ x. inboundOut x (A .regions .now) (A .entries .now) (A .saved .now) (A .mem .now) (A .packet .now) (A .out .now)) q ∙ second _ _ _ r, (c .before .before .before .before .before .before .before .before .told-words .ensures ∙ ap (λ x. toldWords (x .sent) (x .completion)) o ∙ second _ _ _ r, s))))))
+    (c .number .ensures ∙ ap (λ x. statusNumber (x .status)) o ∙ second _ 34 _ r, (l ∙ ap (λ x. pairWords (x .pair)) o ∙ second _ _ _ r, (c .before .before .before .before .before .before .before .before .before .before .before .before .before .before .inbound .ensures .1 .1 .0 ∙ ap (λ x. inboundSaved x (A .regions .now) (A .entries .now) (A .saved .now) (A .mem .now) (A .packet .now) (A .out .now)) q ∙ second _ _ _ r, (c .before .before .before .before .before .before .before .before .before .before .before .before .before .before .inbound .ensures .1 .0 ∙ ap (λ x. inboundMemory x (A .regions .now) (A .entries .now) (A .saved .now) (A .mem .now) (A .packet .now) (A .out .now)) q ∙ second _ _ _ r, (c .before .before .before .before .before .before .before .before .before .before .before .before .before .before .inbound .ensures .1 .1 .1 ∙ ap (λ x. inboundOut x (A .regions .now) (A .entries .now) (A .saved .now) (A .mem .now) (A .packet .now) (A .out .now)) q ∙ second _ _ _ r, (c .before .before .before .before .before .before .before .before .report-words .ensures ∙ ap (λ x. reportWords (x .outgoing) (x .completion)) o ∙ second _ _ _ r, s))))))
 
 pub udalopek-inbound-spec : {M : Type 1} → statement M
 udalopek-inbound-spec =
@@ -104,14 +104,14 @@ udalopek-inbound-spec =
     same-length
     returns
     wide-requires
-    odd-for-requires
+    malformed-for-requires
     same-length-2
     returns-2
     inbound-requires
-    told-words-requires
+    report-words-requires
     pair-words-requires-2
     slice-aggregate-put
-    put-requires
+    overwrite-words-requires
     number-requires
     same-length-3
     same-length-4

@@ -1,11 +1,11 @@
 use mathlib.Core.Path.{_≡_, refl, sym, ap, _∙_}
 use mathlib.Core.Bool.{true, false}
 use Rattle.pair.specs.Answer.{statusNumber}
-use Rattle.abi_spec.specs.Pair.{strange, pairWords}
+use Rattle.abi_spec.specs.Pair.{malformed, pairWords}
 use mathlib.Core.List.{[], _∷_}
 use Rattle.responder_spec.specs.Response.{nextResponse, nextOut}
 use Rattle.udalopek_spec.proofs.Steps.{second, first, strange-by, left-words}
-use Rattle.udalopek_spec.specs.Packets.{nextNumber, nextWords, nextOutput, nextTold}
+use Rattle.udalopek_spec.specs.Packets.{nextNumber, nextWords, nextOutput, nextReport}
 use Rattle.responder_spec.specs.Response.{nextResponse, nextOut}
 use borrow.Author.Needs.{needs}
 use Rattle.udalopek.proofs.packets.udalopek_next_response.Statement.{statement}
@@ -27,11 +27,11 @@ same-length : tie.Need-same-length
 same-length c = search needs
 
 returns : tie.Need-returns
-unfolding nextNumber nextWords nextOutput nextTold
+unfolding nextNumber nextWords nextOutput nextReport
 returns c =
     let A = c .before .before .before .before .before .before .before .before .before .before .before .args in
     let q = c .before .before .before .before .before .before .pair-of .ensures in
-    let p : strange (A .pair .now) ≡ true = strange-by (A .pair .now) _ _ _ q (c .before .before .before .before .before .pair-words .ensures .0) (c .before .before .same .ensures) ∙ c .before .if1 .taken in
+    let p : malformed (A .pair .now) ≡ true = strange-by (A .pair .now) _ _ _ q (c .before .before .before .before .before .pair-words .ensures .0) (c .before .before .same .ensures) ∙ c .before .if1 .taken in
     (first _ 34 _ p, (first _ _ _ p, (first _ _ _ p, (first _ _ _ p, refl))))
 
 next-response-requires : tie.Need-next-response-requires
@@ -46,8 +46,8 @@ pair-words-requires-2 c κs = search needs
 slice-aggregate-put : tie.Need-slice-aggregate-put
 slice-aggregate-put c = search needs
 
-put-requires : tie.Need-put-requires
-put-requires c κs = search needs
+overwrite-words-requires : tie.Need-overwrite-words-requires
+overwrite-words-requires c κs = search needs
 
 number-requires : tie.Need-number-requires
 number-requires c κs = search needs
@@ -59,15 +59,15 @@ same-length-3 : tie.Need-same-length-3
 same-length-3 c = search needs
 
 returns-2 : tie.Need-returns-2
-unfolding nextNumber nextWords nextOutput nextTold
+unfolding nextNumber nextWords nextOutput nextReport
 returns-2 c =
     let A = c .before .before .before .before .before .before .before .before .before .before .before .before .before .before .before .before .before .before .before .before .before .before .before .before .args in
     let q = c .before .before .before .before .before .before .before .before .before .before .before .before .before .before .before .before .before .before .before .pair-of .ensures in
-    let p : strange (A .pair .now) ≡ false = strange-by (A .pair .now) _ _ _ q (c .before .before .before .before .before .before .before .before .before .before .before .before .before .before .before .before .before .before .pair-words .ensures .0) (c .before .before .before .before .before .before .before .before .before .before .before .before .before .before .before .same .ensures) ∙ c .before .before .before .before .before .before .before .before .before .before .before .before .before .before .if1 .left in
-    let l = left-words (A .pair .now) _ _ _ p (c .before .before .before .before .before .before .pair-words2 .ensures .0) (c .before .before .before .put .ensures) in
-    let s = ap strange l ∙ sym (ap strange (c .before .before .before .before .before .before .pair-words2 .ensures .0)) ∙ c .before .before .before .before .before .before .pair-words2 .ensures .1 ∙ sym p in
+    let p : malformed (A .pair .now) ≡ false = strange-by (A .pair .now) _ _ _ q (c .before .before .before .before .before .before .before .before .before .before .before .before .before .before .before .before .before .before .pair-words .ensures .0) (c .before .before .before .before .before .before .before .before .before .before .before .before .before .before .before .same .ensures) ∙ c .before .before .before .before .before .before .before .before .before .before .before .before .before .before .if1 .left in
+    let l = left-words (A .pair .now) _ _ _ p (c .before .before .before .before .before .before .pair-words2 .ensures .0) (c .before .before .before .overwrite-words .ensures) in
+    let s = ap malformed l ∙ sym (ap malformed (c .before .before .before .before .before .before .pair-words2 .ensures .0)) ∙ c .before .before .before .before .before .before .pair-words2 .ensures .1 ∙ sym p in
     let o = c .before .before .before .before .before .before .before .before .before .before .before .before .next-response .ensures .0 ∙ ap (λ x. nextResponse x (A .mem .now) (A .out .now)) q in
-    (c .number .ensures ∙ ap (λ x. statusNumber (x .status)) o ∙ second _ 34 _ p, (l ∙ ap (λ x. pairWords (x .pair)) o ∙ second _ _ _ p, (c .before .before .before .before .before .before .before .before .before .before .before .before .next-response .ensures .1 ∙ ap (λ x. nextOut x (A .mem .now) (A .out .now)) q ∙ second _ _ _ p, (ap (λ n. n ∷ []) (c .before .before .before .before .before .before .before .before .before .wide .ensures ∙ ap (λ x. x .sent) o) ∙ second _ _ _ p, s))))
+    (c .number .ensures ∙ ap (λ x. statusNumber (x .status)) o ∙ second _ 34 _ p, (l ∙ ap (λ x. pairWords (x .pair)) o ∙ second _ _ _ p, (c .before .before .before .before .before .before .before .before .before .before .before .before .next-response .ensures .1 ∙ ap (λ x. nextOut x (A .mem .now) (A .out .now)) q ∙ second _ _ _ p, (ap (λ n. n ∷ []) (c .before .before .before .before .before .before .before .before .before .wide .ensures ∙ ap (λ x. x .outgoing) o) ∙ second _ _ _ p, s))))
 
 pub udalopek-next-response-spec : {M : Type 1} → statement M
 udalopek-next-response-spec =
@@ -83,7 +83,7 @@ udalopek-next-response-spec =
     wide-requires
     pair-words-requires-2
     slice-aggregate-put
-    put-requires
+    overwrite-words-requires
     number-requires
     same-length-2
     same-length-3

@@ -1,0 +1,45 @@
+use mathlib.Core.Path.{ap, _∙_}
+use Rattle.memory.specs.Memory.{store}
+use Rattle.apply.proofs.Steps.{part-cut}
+use borrow.Author.Needs.{needs}
+use Rattle.apply.proofs.store_part.Statement.{statement}
+use Rattle.apply.proofs.store_part.Tie as tie
+
+least-requires : tie.Need-least-requires
+least-requires c κs = search needs
+
+least-requires-2 : tie.Need-least-requires-2
+least-requires-2 c κs = search needs
+
+sub-place : tie.Need-sub-place
+sub-place c = search needs
+
+part-place-start : tie.Need-part-place-start
+part-place-start c = search needs
+
+part-place-end : tie.Need-part-place-end
+part-place-end c = search needs
+
+store-requires : tie.Need-store-requires
+store-requires c κs = search needs
+
+same-length : tie.Need-same-length
+same-length c = search needs
+
+returns : tie.Need-returns
+returns c =
+    let A = c .before .before .before .before .before .before .before .before .before .args in
+    c .before .before .store .ensures ∙ ap (store (A .mem .now) (A .at)) (part-cut (A .packet .now) (A .start) (A .end) _ _ (c .before .before .before .before .before .before .least .ensures) (c .before .before .before .before .before .least2 .ensures))
+
+pub store-part-spec : {M : Type 1} → statement M
+store-part-spec =
+    tie.close
+    (tie.spec
+    least-requires
+    least-requires-2
+    sub-place
+    part-place-start
+    part-place-end
+    store-requires
+    same-length
+    returns)
