@@ -20,7 +20,7 @@ use Rattle.header.specs.declared.Answer.{Answer}
 use Rattle.header.specs.declared.Answer.the-variants.{Refused}
 use Rattle.packet.specs.Packet.{packetWritten, packetOut}
 use Rattle.pmtu.specs.Pieces.{pmtuFits, pieces, placeAt, pieceAt, partAt}
-use Rattle.pmtu.specs.declared.Part.{Part}
+use Rattle.pmtu.specs.declared.Range.{Range}
 use Rattle.pmtu.proofs.Counting.{pmtus}
 use Rattle.pmtu.proofs.Cuts.{parts, parts-within}
 use Rattle.cut_spec.specs.Message.{carries, carried, carriedLength, messageLength, messageLimit, packetsOf, lengthRefusal}
@@ -69,7 +69,7 @@ module _ (c : Connection) (r : Request) (n : ℕ) (first : Psn) (i : ℕ) (e : c
   pub length-small : (whole : ℕ) → whole ≡ messageLength r n → whole ≤ messageLimit
   length-small whole q = subst (λ x. x ≤ messageLimit) (sym q) (P .1)
 
-pub header-is : (c : Connection) (r : Request) (n : ℕ) (first : Psn) (i bytes count place low whole : ℕ) (part : Part) (bth : Bth) (x : Extension)
+pub header-is : (c : Connection) (r : Request) (n : ℕ) (first : Psn) (i bytes count place low whole : ℕ) (part : Range) (bth : Bth) (x : Extension)
     → bytes ≡ carriedLength r n → count ≡ pieces bytes (c .pmtu) → place ≡ placeAt count i → part ≡ partAt bytes (c .pmtu) i
     → low ≡ lowFor r place → bth ≡ bthAt c low first i count (part .end - part .start) → whole ≡ messageLength r n
     → x ≡ extensionFor r whole place
@@ -94,7 +94,7 @@ length-carried r d = go (carries r)
     go false = refl
 
 -- the part of the lent bytes is the piece of what is carried
-abbrev partOf : List ℕ → Part → List ℕ
+abbrev partOf : List ℕ → Range → List ℕ
 partOf d s = take (s .end - s .start) (drop (s .start) d)
 
 none : (d : List ℕ) (pmtu i : ℕ) → partOf d (partAt 0 pmtu i) ≡ pieceAt [] pmtu i
@@ -112,7 +112,7 @@ part-carried r d pmtu i = go (carries r)
     go true = parts d pmtu i
     go false = none d pmtu i
 
-pub span-inside : (r : Request) (n carried pmtu i : ℕ) (part : Part) → carried ≡ carriedLength r n → part ≡ partAt carried pmtu i
+pub span-inside : (r : Request) (n carried pmtu i : ℕ) (part : Range) → carried ≡ carriedLength r n → part ≡ partAt carried pmtu i
     → (part .start ≤ part .end) × (part .end ≤ n)
 unfolding carriedLength
 span-inside r n carried pmtu i part o s =
@@ -122,7 +122,7 @@ span-inside r n carried pmtu i part o s =
       subst (λ x. x .end ≤ n) (sym s) (omega (arith, W .1)),
     )
 
-pub whole : (c : Connection) (r : Request) (d out : List ℕ) (first : Psn) (i code bytes : ℕ) (h : Header) (part : Part) (a : Answer)
+pub whole : (c : Connection) (r : Request) (d out : List ℕ) (first : Psn) (i code bytes : ℕ) (h : Header) (part : Range) (a : Answer)
     (w : List ℕ) → code ≡ cutRefusal c r (length d) (first .0) i → code ≡ 0 → h ≡ headerAt c r (length d) first i
     → bytes ≡ carriedLength r (length d)
     → part ≡ partAt bytes (c .pmtu) i

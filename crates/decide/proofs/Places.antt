@@ -186,7 +186,7 @@ header-short h = go (eqb (Opcode.serviceOf (h .bth .opcode)) 0) (eqb (Opcode.ser
     go false false c = omega arith
 
 pub shaped : (h : Header) (n : ℕ) → n < 2 ^ 64 → Shaped (packetOf h n)
-unfolding packetOf payloadSize starts lowClass Opcode.targetOffset
+unfolding packetOf payloadSize starts lowClass Opcode.placeOf
 shaped h n b =
     record {
       end = omega (arith, header-short h);

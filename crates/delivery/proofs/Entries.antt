@@ -11,7 +11,7 @@ use Rattle.table.specs.Claims.{EntriesSound}
 use Rattle.table.specs.declared.Entry.{Entry}
 use Rattle.table.specs.declared.Ring.{Ring}
 use Rattle.table.proofs.Regions.{entry-tested, entry-rows}
-use Rattle.table.proofs.Rings.{takesEntry}
+use Rattle.table.proofs.Rings.{takes}
 use Rattle.responder_spec.specs.Apply.{ringTaken, entriesBy}
 use Rattle.delivery.specs.Plain.{firstOf}
 use Rattle.delivery.specs.Demand.{entryOf}
@@ -33,7 +33,7 @@ unfolding ringFrom
 ring-rest rows head zero h = absurd (omega arith)
 ring-rest rows head (suc n) h =
     let e : suc n - 1 ≡ n = omega arith in
-    ap (λ k. map entryOf (inRing rows (record { head = slotAt head 1; count = k }))) e ∙ ap (map entryOf) (takesEntry rows head n)
+    ap (λ k. map entryOf (inRing rows (record { head = slotAt head 1; count = k }))) e ∙ ap (map entryOf) (takes rows head n)
 
 module _ (rows : List (List ℕ)) (r : Ring) (es : List Entry) (is : map entryOf (inRing rows r) ≡ es) where
   pub count-is : r .count ≡ length es

@@ -22,7 +22,7 @@ use Rattle.cut_spec.specs.declared.Request.the-variants.{Send, SendImmediate, W
 use Rattle.request_spec.specs.declared.Packet.{Packet}
 use Rattle.request_spec.specs.Verdict.{carrying, notEnabled, needsEntry, keyFails, keyLacking, rightOf, sizeOff, totalOff, bareOff, payloadSize, lengthsOff}
 use Rattle.responder_spec.specs.Decide.{regionFor}
-use Rattle.delivery.specs.Plain.{needs}
+use Rattle.delivery.specs.Plain.{needsEntryAt}
 use Rattle.delivery.specs.Demand.{Allowed}
 use Rattle.delivery.proofs.Places.{Sizes}
 use Rattle.delivery.proofs.Operands.{addressOf, keyOf, namedOf, immediateOf}
@@ -64,7 +64,7 @@ and-false true = refl
 and-false false = refl
 
 pub needs-is : (r : Request) (place i count : ℕ) (b : Bool) → starts place ≡ eqb i 0 → ends place ≡ eqb (suc i) count → b ≡ (ends place && immediateOf r)
-    → needsEntry (kindNumber r) place b ≡ needs r i count
+    → needsEntry (kindNumber r) place b ≡ needsEntryAt r i count
 unfolding needsEntry
 needs-is Send place i count b e f g = e
 needs-is (SendImmediate v) place i count b e f g = e

@@ -131,7 +131,7 @@ module _ (ms : List Message) (S : List Slot) (p : Plain) (x : Run) (L : Link ms 
         (behinds
         (λ e.
         taken ms S p x L Y G lt ml C Z free
-        (Z .needs (t .index) _ ∙ (sym immediate-is ∙ subst (λ k. (eqb k 0 || cutPacket t .operands .immediate) ≡ true) (Z .kind) e)) .0)
+        (Z .needsEntryAt (t .index) _ ∙ (sym immediate-is ∙ subst (λ k. (eqb k 0 || cutPacket t .operands .immediate) ≡ true) (Z .kind) e)) .0)
         (Z .suits (length (t .message .bytes)) (getD entry 2 0)))
         (carries-here (ap (λ k. ltb k 12) (Z .kind)))
         (writes ms S p x L Y G lt ml C Z free)

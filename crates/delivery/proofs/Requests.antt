@@ -26,7 +26,7 @@ use Rattle.request_spec.specs.Verdict.{rightOf}
 use Rattle.responder_spec.specs.Apply.{memoryBy}
 use Rattle.responder_spec.specs.declared.Decision.{Decision}
 use Rattle.delivery.specs.Stream.{psnCountOf}
-use Rattle.delivery.specs.Plain.{needs, takesEntry, completionWith, completionFor, regionOffset, memoryAfter, isRead}
+use Rattle.delivery.specs.Plain.{needsEntryAt, takesEntry, completionWith, completionFor, regionOffset, memoryAfter, isRead}
 use Rattle.delivery.specs.Demand.{InRegion, Allowed, AtLeast}
 use Rattle.delivery.proofs.Operands.{keyOf, addressOf, namedOf, immediateOf, valueOf}
 use Rattle.delivery.proofs.Rel.{Holding}
@@ -43,7 +43,7 @@ pub record Carries (r : Request) : Type 0 where
 pub record Sends (r : Request) : Type 0 where
   pub kind : kindNumber r ≡ 0
   pub takesEntry : takesEntry r ≡ true
-  pub needs : (i n : ℕ) → needs r i n ≡ eqb i 0
+  pub needsEntryAt : (i n : ℕ) → needsEntryAt r i n ≡ eqb i 0
   pub lands : (regions : List (List ℕ)) (pmtu : ℕ) (d : List ℕ) (i : ℕ) (e : Entry) (m : List ℕ) → memoryAfter r regions pmtu d i e m ≡ overwrite m (e .offset + i * pmtu) (pieceAt d pmtu i)
   pub holding : (n : ℕ) (held : List Entry) (e : Entry) → held ≡ e ∷ [] → n ≤ e .length → Holding r n held
   pub held : (n : ℕ) (held : List Entry) → Holding r n held → (e : Entry) × (held ≡ e ∷ []) × (n ≤ e .length)
@@ -53,7 +53,7 @@ pub record Sends (r : Request) : Type 0 where
 pub record Writes (r : Request) : Type 0 where
   pub kind : kindNumber r ≡ 6
   pub takesEntry : takesEntry r ≡ immediateOf r
-  pub needs : (i n : ℕ) → needs r i n ≡ (eqb (suc i) n && immediateOf r)
+  pub needsEntryAt : (i n : ℕ) → needsEntryAt r i n ≡ (eqb (suc i) n && immediateOf r)
   pub lands : (regions : List (List ℕ)) (pmtu : ℕ) (d : List ℕ) (i : ℕ) (e : Entry) (m : List ℕ) → memoryAfter r regions pmtu d i e m ≡ overwrite m (regionOffset regions (keyOf r) (addressOf r) + i * pmtu) (pieceAt d pmtu i)
   pub holding : (n : ℕ) (held : List Entry) → held ≡ [] → Holding r n held
   pub held : (n : ℕ) (held : List Entry) → Holding r n held → held ≡ []
@@ -65,7 +65,7 @@ pub record Writes (r : Request) : Type 0 where
 pub record Single (r : Request) : Type 0 where
   pub bare : Carrier r → ⊥
   pub takesEntry : takesEntry r ≡ false
-  pub needs : (i n : ℕ) → needs r i n ≡ false
+  pub needsEntryAt : (i n : ℕ) → needsEntryAt r i n ≡ false
   pub suits : (n most : ℕ) → Suits r n most
   pub immediate : immediateOf r ≡ false
 
@@ -90,7 +90,7 @@ send-sends =
     record {
       kind = refl;
       takesEntry = refl;
-      needs = λ i n. refl;
+      needsEntryAt = λ i n. refl;
       lands = λ g p d i e m. refl;
       holding = λ n h e q l. (e, q, l);
       held = λ n h w. w;
@@ -103,7 +103,7 @@ send-imm-sends v =
     record {
       kind = refl;
       takesEntry = refl;
-      needs = λ i n. refl;
+      needsEntryAt = λ i n. refl;
       lands = λ g p d i e m. refl;
       holding = λ n h e q l. (e, q, l);
       held = λ n h w. w;
@@ -124,7 +124,7 @@ write-writes t =
     record {
       kind = refl;
       takesEntry = refl;
-      needs = λ i n. and-false (eqb (suc i) n);
+      needsEntryAt = λ i n. and-false (eqb (suc i) n);
       lands = λ g p d i e m. refl;
       holding = λ n h q. q;
       held = λ n h w. w;
@@ -138,7 +138,7 @@ write-imm-writes t v =
     record {
       kind = refl;
       takesEntry = refl;
-      needs = λ i n. true-and (eqb (suc i) n);
+      needsEntryAt = λ i n. true-and (eqb (suc i) n);
       lands = λ g p d i e m. refl;
       holding = λ n h q. q;
       held = λ n h w. w;
@@ -148,13 +148,13 @@ write-imm-writes t v =
     }
 
 pub read-single : (a : Reth) → Single (Read a)
-read-single a = record { bare = λ c. c; takesEntry = refl; needs = λ i n. refl; suits = λ n most. tt; immediate = refl }
+read-single a = record { bare = λ c. c; takesEntry = refl; needsEntryAt = λ i n. refl; suits = λ n most. tt; immediate = refl }
 
 pub swap-single : (a : AtomicEth) → Single (CmpSwap a)
-swap-single a = record { bare = λ c. c; takesEntry = refl; needs = λ i n. refl; suits = λ n most. tt; immediate = refl }
+swap-single a = record { bare = λ c. c; takesEntry = refl; needsEntryAt = λ i n. refl; suits = λ n most. tt; immediate = refl }
 
 pub add-single : (t : Target) (v : ℕ) → Single (FetchAdd t v)
-add-single t v = record { bare = λ c. c; takesEntry = refl; needs = λ i n. refl; suits = λ n most. tt; immediate = refl }
+add-single t v = record { bare = λ c. c; takesEntry = refl; needsEntryAt = λ i n. refl; suits = λ n most. tt; immediate = refl }
 
 pub record Reads (r : Request) : Type 0 where
   pub kind : kindNumber r ≡ 12

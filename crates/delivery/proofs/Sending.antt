@@ -73,7 +73,7 @@ module _ (ms : List Message) (S : List Slot) (p : Plain) (x : Run) (L : Link ms 
   entered = go (eqb (t .index) 0) refl (L .opened)
     where
       needing-is : needsEntry t ≡ eqb (t .index) 0
-      needing-is = Z .needs (t .index) (packetCount (t .message))
+      needing-is = Z .needsEntryAt (t .index) (packetCount (t .message))
 
       count : x .whole .pair .entries .count ≡ length (p .held ++ p .waiting)
       count = count-is (x .whole .entries) (x .whole .pair .entries) (p .held ++ p .waiting) (L .entries)
@@ -138,11 +138,11 @@ module _ (ms : List Message) (S : List Slot) (p : Plain) (x : Run) (L : Link ms 
       ∙ λ i. cond (sym g i) [] (cond (sym e i) (take 1 (p .waiting)) (p .held)) ++ cond (sym e i) (drop 1 (p .waiting)) (p .waiting))
     where
       started : a ≡ true → p .held ≡ []
-      started z = subst (λ y. Under y t (x .whole .pair .message) (p .held)) (sym (Z .needs (t .index) (packetCount (t .message))) ∙ (e ∙ z)) (L .opened) .1
+      started z = subst (λ y. Under y t (x .whole .pair .message) (p .held)) (sym (Z .needsEntryAt (t .index) (packetCount (t .message))) ∙ (e ∙ z)) (L .opened) .1
 
       going : a ≡ false → (y : Entry) × (p .held ≡ y ∷ [])
       going z =
-          let u = subst (λ y. Under y t (x .whole .pair .message) (p .held)) (sym (Z .needs (t .index) (packetCount (t .message))) ∙ (e ∙ z)) (L .opened) in
+          let u = subst (λ y. Under y t (x .whole .pair .message) (p .held)) (sym (Z .needsEntryAt (t .index) (packetCount (t .message))) ∙ (e ∙ z)) (L .opened) in
           let w = Z .held (length (t .message .bytes)) (p .held) (u .1) in
           (w .0, w .1)
 

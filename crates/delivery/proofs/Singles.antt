@@ -68,7 +68,7 @@ module _ (ms : List Message) (S : List Slot) (p : Plain) (x : Run) (L : Link ms 
   placed-none = N .stored ∙ omega (arith, ap (λ i. i * t .message .connection .pmtu) zeroth)
 
   needing-is : needsEntry t ≡ false
-  needing-is = O .needs (t .index) (packetCount (t .message))
+  needing-is = O .needsEntryAt (t .index) (packetCount (t .message))
 
   ring-is : map entryOf (inRing (x .whole .entries) (entriesBy false (x .whole .pair .entries))) ≡ cond (isLast t) [] (heldNow p t) ++ waitingNow p t
   ring-is =

@@ -78,7 +78,7 @@ module _ (ms : List Message) (S : List Slot) (p : Plain) (x : Run) (L : Link ms 
   last-is = ends-is (x .whole .pair .setup) (x .whole .regions) fits t H (x .whole .pair .message) (p .held) (L .opened)
 
   needing-is : needsEntry t ≡ (isLast t && takesEntry (t .message .request))
-  needing-is = Z .needs (t .index) (packetCount (t .message)) ∙ ap (λ b. isLast t && b) (sym (Z .takesEntry))
+  needing-is = Z .needsEntryAt (t .index) (packetCount (t .message)) ∙ ap (λ b. isLast t && b) (sym (Z .takesEntry))
 
   -- where an entry is taken, there is one
   pub taken : needsEntry t ≡ true → (1 ≤ x .whole .pair .entries .count) × (entryOf entry ≡ firstOf (heldNow p t))

@@ -38,14 +38,14 @@ pub data Call : Type 0 where
 
 -- a packet that needs an entry, by its index and the count of its message: the first of a SEND, the last of a WRITE with
 -- immediate
-abbrev pub needs : Request → ℕ → ℕ → Bool
-needs Send i n = eqb i 0
-needs (SendImmediate v) i n = eqb i 0
-needs (Write t) i n = false
-needs (WriteImmediate t v) i n = eqb (suc i) n
-needs (Read a) i n = false
-needs (CmpSwap a) i n = false
-needs (FetchAdd t v) i n = false
+abbrev pub needsEntryAt : Request → ℕ → ℕ → Bool
+needsEntryAt Send i n = eqb i 0
+needsEntryAt (SendImmediate v) i n = eqb i 0
+needsEntryAt (Write t) i n = false
+needsEntryAt (WriteImmediate t v) i n = eqb (suc i) n
+needsEntryAt (Read a) i n = false
+needsEntryAt (CmpSwap a) i n = false
+needsEntryAt (FetchAdd t v) i n = false
 
 -- a message that takes an entry; its completion
 abbrev pub takesEntry : Request → Bool
@@ -104,7 +104,7 @@ firstOf [] = record { number = 0; offset = 0; length = 0 }
 firstOf (e ∷ es) = e
 
 abbrev pub needsEntry : Slot → Bool
-needsEntry t = needs (t .message .request) (t .index) (packetCount (t .message))
+needsEntry t = needsEntryAt (t .message .request) (t .index) (packetCount (t .message))
 
 abbrev pub isLast : Slot → Bool
 isLast t = eqb (suc (t .index)) (packetCount (t .message))

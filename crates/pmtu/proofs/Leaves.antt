@@ -5,7 +5,7 @@ use native.Mathlib.Omega.{arith}
 use native.Mathlib.Nat.{mod-add-div', mod-lt, mul-le-mul-left, mul-le-mul-right, mod-zero, div-zero}
 use borrow.Author.Tests.{eq-eqb, ne-eqb}
 use Rattle.pmtu.specs.Pieces.{pieces, placeAt, partAt}
-use Rattle.pmtu.specs.declared.Part.{Part}
+use Rattle.pmtu.specs.declared.Range.{Range}
 
 -- the count
 module _ (n p : ℕ) where
@@ -41,7 +41,7 @@ module _ (count i : ℕ) (e : count ≡ 1 → ⊥) (f : i ≡ 0 → ⊥) where
   place-middle z = rw (ne-eqb count 1 e, ne-eqb i 0 f, ne-eqb (i + 1) count z)
 
 -- the part
-same : (a b x y : ℕ) → a ≡ x → b ≡ y → _≡_ {A = Part} (record { start = a; end = b }) (record { start = x; end = y })
+same : (a b x y : ℕ) → a ≡ x → b ≡ y → _≡_ {A = Range} (record { start = a; end = b }) (record { start = x; end = y })
 same a b x y p q = λ k. record { start = p k; end = q k }
 
 module _ (n p i : ℕ) where

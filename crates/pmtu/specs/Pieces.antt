@@ -4,7 +4,7 @@ use mathlib.Core.Bool.{Bool, cond, _||_}
 use mathlib.Core.List.{List, [], _++_}
 use lib.Dec.{leb, eqb}
 use lib.ListN.{take, drop}
-use Rattle.pmtu.specs.declared.Part.{Part}
+use Rattle.pmtu.specs.declared.Range.{Range}
 
 -- the PMTUs
 unfoldable pub pmtuFits : ℕ → Bool
@@ -32,7 +32,7 @@ unfoldable pub pieceAt : List ℕ → ℕ → ℕ → List ℕ
 pieceAt d pmtu i = take pmtu (drop (i * pmtu) d)
 
 -- the same by numbers: from where to where it goes in n bytes
-unfoldable pub partAt : ℕ → ℕ → ℕ → Part
+unfoldable pub partAt : ℕ → ℕ → ℕ → Range
 partAt n pmtu i = record { start = min (i * pmtu) n; end = min (i * pmtu + pmtu) n }
 
 -- k pieces from i on, put together

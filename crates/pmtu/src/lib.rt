@@ -5,7 +5,7 @@ ghost use mathlib.Core.Bool.{not};
 ghost use Rattle.pmtu.specs.Pieces.{pmtuFits, pieces, placeAt, partAt, starts, ends};
 
 // A part of the bytes, from start up to, and without, end.
-pub struct Part {
+pub struct Range {
     pub start: usize,
     pub end: usize,
 }
@@ -66,21 +66,21 @@ pub fn place(count: usize, i: usize) -> u8
 }
 
 // Where piece i of n bytes stands; past the last one, an empty part at the end, and without a PMTU at the start.
-pub fn part(n: usize, pmtu: usize, i: usize) -> Part
+pub fn part(n: usize, pmtu: usize, i: usize) -> Range
     ensures { λ r. ⌜ r ≡ partAt n pmtu i ⌝ }
 {
     if pmtu == 0 {
-        return Part { start: 0, end: 0 };
+        return Range { start: 0, end: 0 };
     }
     if n / pmtu < i {
-        return Part { start: n, end: n };
+        return Range { start: n, end: n };
     }
     let start = i * pmtu;
     if n - start < pmtu {
-        return Part { start, end: n };
+        return Range { start, end: n };
     }
     let end = start + pmtu;
-    Part { start, end }
+    Range { start, end }
 }
 
 // Whether a packet at this place begins its message.

@@ -12,7 +12,7 @@ use Rattle.header.specs.declared.Answer.{Answer}
 use Rattle.header.specs.declared.Answer.the-variants.{Done}
 use Rattle.packet.specs.Packet.{packetWritten, packetOut}
 use Rattle.pmtu.specs.Pieces.{partAt, pieceAt}
-use Rattle.pmtu.specs.declared.Part.{Part}
+use Rattle.pmtu.specs.declared.Range.{Range}
 use Rattle.pmtu.proofs.Cuts.{parts-within, part-of}
 use Rattle.pair.specs.Answer.{statusNumber, executed}
 use Rattle.pair.specs.Sound.{pairUnsound}
@@ -77,7 +77,7 @@ module _ (q : Pair) (m out : List ℕ) (t : Status) (is : t ≡ nextStatus q (le
             }
 
     -- the part of memory that a response carries lies in it
-    pub inside : (i : ℕ) (x : Part) → x ≡ partAt (q .read .length) (q .setup .pmtu) i
+    pub inside : (i : ℕ) (x : Range) → x ≡ partAt (q .read .length) (q .setup .pmtu) i
         → (x .start ≤ x .end) × (q .read .offset + x .end ≤ length m) × (length m ≤ 1048576)
     inside i x e =
         let W = willing in
@@ -85,7 +85,7 @@ module _ (q : Pair) (m out : List ℕ) (t : Status) (is : t ≡ nextStatus q (le
         let L = live q (W .sound) (W .some) .within in
         (P .0, omega (arith, W .memory, L, P .1), omega (arith, W .memory, W .sound .setup .1))
 
-    module _ (pkey : q .setup .pkey < 2 ^ 16) (i : ℕ) (at : i ≡ indexOf (q .read) (q .setup .pmtu)) (x : Part)
+    module _ (pkey : q .setup .pkey < 2 ^ 16) (i : ℕ) (at : i ≡ indexOf (q .read) (q .setup .pmtu)) (x : Range)
         (part : x ≡ partAt (q .read .length) (q .setup .pmtu) i) where
       bytes : List ℕ
       bytes = take (q .read .offset + x .end - (q .read .offset + x .start)) (drop (q .read .offset + x .start) m)

@@ -29,7 +29,7 @@ use Rattle.pair.specs.declared.Status.the-variants as status
 use Rattle.pair.proofs.Known.{sound}
 use Rattle.request_spec.specs.Packet.{packetOf}
 use Rattle.request_spec.specs.Verdict.{memoryOffset, carrying, outOfSequence, notEnabled, padEarly, overLimit, noneWaiting, entryOutside, rightOf, lacks, bytesToCome, keyLacking, keyFails, lengthsOff, current, requestCode, expectedCode}
-use Rattle.request_spec.specs.Claims.{Place, Carries, IsAtomic, Served, KeyGood, IsCurrent, AnswersWith, JudgedBy}
+use Rattle.request_spec.specs.Claims.{Place, Carries, IsAtomic, Served, KeyGood, IsCurrent, Tells, JudgedBy}
 use Rattle.request_spec.proofs.Conditions.{limit-tested, key-tested, of-not}
 use Rattle.request_spec.proofs.Order.{current-one, order}
 use Rattle.request_spec.proofs.Taken.{any-place}
@@ -186,14 +186,14 @@ is-on true h = refl
 is-on false h = sym h
 
 pub again-tested : (q : Pair) (regions : List (List ℕ)) (k : Packet) (t : OpenMessage)
-    → AnswersWith (duplicateReadFails k (q .setup) t (q .expected) (regionOf (t .key) regions)) (Again q regions k t)
+    → Tells (duplicateReadFails k (q .setup) t (q .expected) (regionOf (t .key) regions)) (Again q regions k t)
 unfolding duplicateReadFails notEnabled
 again-tested q regions k t = (forth, back)
   where
     region : List ℕ
     region = regionOf (t .key) regions
 
-    K : AnswersWith (keyFails (q .setup .memory) 12 t (regionOf (t .key) regions)) (KeyGood 12 (q .setup .memory) t (regionOf (t .key) regions))
+    K : Tells (keyFails (q .setup .memory) 12 t (regionOf (t .key) regions)) (KeyGood 12 (q .setup .memory) t (regionOf (t .key) regions))
     K = key-tested 12 (q .setup .memory) t (regionOf (t .key) regions) (inr (inl refl))
 
     forth : duplicateReadFails k (q .setup) t (q .expected) (regionOf (t .key) regions) ≡ false → Again q regions k t

@@ -12,7 +12,7 @@ use Rattle.sequence.specs.Sequence.{distance, psnClass}
 use Rattle.sequence.specs.declared.Psn.{Psn}
 use Rattle.sequence.specs.declared.Class.{Class}
 use Rattle.sequence.specs.declared.Class.the-variants as class
-use Rattle.opcode.specs.Opcode.{serviceOf, lowOf, kindOf, targetOffset, lowClass, reservedClass, ucHas, classOf}
+use Rattle.opcode.specs.Opcode.{serviceOf, lowOf, kindOf, placeOf, lowClass, reservedClass, ucHas, classOf}
 use Rattle.header.specs.Read.{bthOf, headerOf, readBy}
 use Rattle.header.specs.Check.{headerReason, admitted}
 use Rattle.header.specs.declared.HeaderRead.the-variants as read
@@ -37,16 +37,16 @@ use Rattle.responder_spec.proofs.Executes.{whole-in, placing-does, exec
 use Rattle.responder_spec.proofs.Views.{viewed, viewed-sound, current-closed, same-code}
 
 -- a READ begins a message
-read-low : (low : ℕ) → kindOf low ≡ 12 → starts (targetOffset low) ≡ true
-unfolding kindOf targetOffset starts
+read-low : (low : ℕ) → kindOf low ≡ 12 → starts (placeOf low) ≡ true
+unfolding kindOf placeOf starts
 read-low low h = go (ltb low 6) (ltb low 12) (eqb low 12) refl (ltb low 17) (eqb low 17) (eqb low 18) (eqb low 19) (eqb low 20) h
   where
     go : (a b c : Bool) → eqb low 12 ≡ c → (d e f g k : Bool)
         → _≡_ {A = ℕ} (cond a 0 (cond b 6 (cond c 12 (cond d 13 (cond e 17 (cond f 18 (cond g 19 (cond k 20 21)))))))) 12
-        → starts (targetOffset low) ≡ true
+        → starts (placeOf low) ≡ true
     go true b c x d e f g k h = absurd (omega arith)
     go false true c x d e f g k h = absurd (omega arith)
-    go false false true x d e f g k h = ap (λ n. starts (targetOffset n)) (eqb-true low 12 x)
+    go false false true x d e f g k h = ap (λ n. starts (placeOf n)) (eqb-true low 12 x)
     go false false false x true e f g k h = absurd (omega arith)
     go false false false x false true f g k h = absurd (omega arith)
     go false false false x false false true g k h = absurd (omega arith)

@@ -39,7 +39,7 @@ use Rattle.responder_spec.specs.Decide.{noCompletion, noPsn, replyOnly, 
 use Rattle.responder_spec.specs.Apply.{memoryBy, actsAtomic, savedBy, savedRingBy, ringTaken, entriesBy, msnBy, readBy, executedPair, with, after, pairBy}
 use Rattle.responder_spec.specs.Reply.{answerBytes, valueBy, over, outBy}
 use Rattle.responder_spec.specs.Inbound.{outcomeBy, decision, inbound, inboundMemory, inboundSaved, inboundOut}
-use Rattle.responder_spec.specs.Effects.{Left, leaving, Silent, Still, Unchanged, Fixed, MarkAlone, ErrorAlone, Begun, Repeated, Abandons, Executes, Places, Accepts, OnWord, Swaps, Table, InboundTable}
+use Rattle.responder_spec.specs.Effects.{Left, leaving, Silent, Unexecuted, Unchanged, Fixed, MarkAlone, ErrorAlone, Begun, Repeated, Abandons, Executes, Places, Accepts, OnWord, Swaps, Table, InboundTable}
 use Rattle.responder_spec.proofs.Codes.Bare.{reads, swaps, adds}
 use Rattle.responder_spec.proofs.Codes.{Bare, class-is}
 use Rattle.responder_spec.proofs.Rows.Quiet.{dropped, short, range, unfinished}
@@ -91,16 +91,16 @@ module _ (q : Pair) (regions saved : List (List ℕ)) (m p out : List ℕ) where
   Effect status.KeyInUse l = ⊥
   Effect status.BadNumber l = ⊥
 
-  still-by : (a : Status) (outgoing : ℕ) (psn : Psn) (syndrome value : ℕ) → Still saved m (L (replyOnly a outgoing psn syndrome value))
+  unexecuted-by : (a : Status) (outgoing : ℕ) (psn : Psn) (syndrome value : ℕ) → Unexecuted saved m (L (replyOnly a outgoing psn syndrome value))
   unfolding leftBy memoryBy savedBy actsAtomic outcomeBy
-  still-by a outgoing psn syndrome value = record { memory = refl; saved = refl; completion = silent }
+  unexecuted-by a outgoing psn syndrome value = record { memory = refl; saved = refl; completion = silent }
 
   quiet-by : (a : Status) → Quiet a → Effect a (L (noReply a))
   unfolding leftBy memoryBy savedBy actsAtomic outcomeBy pairBy after statusNumber noReply outBy answerBytes over valueBy
-  quiet-by status.Dropped dropped = record { pair = refl; replyOnly = still-by status.Dropped 0 noPsn 0 0; outgoing = refl; out = refl }
-  quiet-by status.OutputShort short = record { pair = refl; replyOnly = still-by status.OutputShort 0 noPsn 0 0; outgoing = refl; out = refl }
-  quiet-by status.OutOfRange range = record { pair = refl; replyOnly = still-by status.OutOfRange 0 noPsn 0 0; outgoing = refl; out = refl }
-  quiet-by status.ReadUnfinished unfinished = record { pair = refl; replyOnly = still-by status.ReadUnfinished 0 noPsn 0 0; outgoing = refl; out = refl }
+  quiet-by status.Dropped dropped = record { pair = refl; unexecuted = unexecuted-by status.Dropped 0 noPsn 0 0; outgoing = refl; out = refl }
+  quiet-by status.OutputShort short = record { pair = refl; unexecuted = unexecuted-by status.OutputShort 0 noPsn 0 0; outgoing = refl; out = refl }
+  quiet-by status.OutOfRange range = record { pair = refl; unexecuted = unexecuted-by status.OutOfRange 0 noPsn 0 0; outgoing = refl; out = refl }
+  quiet-by status.ReadUnfinished unfinished = record { pair = refl; unexecuted = unexecuted-by status.ReadUnfinished 0 noPsn 0 0; outgoing = refl; out = refl }
 
   fixed-with : (state : ℕ) (nakmark : Bool) (a : ReadAnswer) → Fixed q (with q state nakmark a)
   fixed-with state nakmark a = record { setup = refl; expected = refl; msn = refl; message = refl; entries = refl; saved = refl }
@@ -329,7 +329,7 @@ module _ (q : Pair) (regions saved : List (List ℕ)) (m p out : List ℕ) where
         message = refl;
         entries = refl;
         ring = refl;
-        replyOnly = record { memory = refl; saved = refl; completion = silent };
+        unexecuted = record { memory = refl; saved = refl; completion = silent };
         outgoing = refl;
         out = refl;
       }
@@ -338,33 +338,33 @@ module _ (q : Pair) (regions saved : List (List ℕ)) (m p out : List ℕ) where
   unfolding leftBy outcomeBy acknowledging pairBy after statusNumber memoryBy savedBy actsAtomic noReply storePayload runAtomic outBy over answerBytes readBy packetOf headerOf
   effect c d (quiet a k) = quiet-by a k
   effect c d ahead =
-      record { nakmark = refl; fixed = fixed-by d (omega arith) (λ e. absurd (omega arith)); state = refl; read = refl; replyOnly = still-by status.SequenceNak 16 (q .expected) 96 0; outgoing = refl }
+      record { nakmark = refl; fixed = fixed-by d (omega arith) (λ e. absurd (omega arith)); state = refl; read = refl; unexecuted = unexecuted-by status.SequenceNak 16 (q .expected) 96 0; outgoing = refl }
   effect c d invalid =
-      record { state = refl; fixed = fixed-by d (omega arith) (λ e. absurd (omega arith)); nakmark = refl; read = refl; replyOnly = still-by status.InvalidRequestNak 16 (bthOf p .psn) 97 0; outgoing = refl }
+      record { state = refl; fixed = fixed-by d (omega arith) (λ e. absurd (omega arith)); nakmark = refl; read = refl; unexecuted = unexecuted-by status.InvalidRequestNak 16 (bthOf p .psn) 97 0; outgoing = refl }
   effect c d access =
-      record { state = refl; fixed = fixed-by d (omega arith) (λ e. absurd (omega arith)); nakmark = refl; read = refl; replyOnly = still-by status.AccessNak 16 (bthOf p .psn) 98 0; outgoing = refl }
+      record { state = refl; fixed = fixed-by d (omega arith) (λ e. absurd (omega arith)); nakmark = refl; read = refl; unexecuted = unexecuted-by status.AccessNak 16 (bthOf p .psn) 98 0; outgoing = refl }
   effect c d unready =
-      record { nakmark = refl; fixed = fixed-by d (omega arith) (λ e. absurd (omega arith)); state = refl; read = refl; replyOnly = still-by status.NotReadyNak 16 (bthOf p .psn) (32 + q .setup .timer) 0; outgoing = refl }
+      record { nakmark = refl; fixed = fixed-by d (omega arith) (λ e. absurd (omega arith)); state = refl; read = refl; unexecuted = unexecuted-by status.NotReadyNak 16 (bthOf p .psn) (32 + q .setup .timer) 0; outgoing = refl }
   effect c d again =
-      record { fixed = fixed-by d (omega arith) (λ e. absurd (omega arith)); state = refl; nakmark = refl; replyOnly = still-by status.DuplicateAnswered 16 (psnBefore (q .expected)) 31 0; answer = inl (inl refl, refl) }
+      record { fixed = fixed-by d (omega arith) (λ e. absurd (omega arith)); state = refl; nakmark = refl; unexecuted = unexecuted-by status.DuplicateAnswered 16 (psnBefore (q .expected)) 31 0; answer = inl (inl refl, refl) }
   effect c d (reread at n a s) =
       record {
         fixed = fixed-by d (omega arith) (λ e. absurd (omega arith));
         state = refl;
         nakmark = refl;
-        replyOnly = record { memory = refl; saved = refl; completion = silent };
+        unexecuted = record { memory = refl; saved = refl; completion = silent };
         answer = inr (refl, refl, begun-by d (q .read) (q .msn) s refl refl a);
       }
   effect c d (reswap v e) =
-      record { fixed = fixed-by d (omega arith) (λ e. absurd (omega arith)); state = refl; nakmark = refl; replyOnly = still-by status.DuplicateAnswered 24 (bthOf p .psn) 31 v; answer = inl (inr refl, refl) }
+      record { fixed = fixed-by d (omega arith) (λ e. absurd (omega arith)); state = refl; nakmark = refl; unexecuted = unexecuted-by status.DuplicateAnswered 24 (bthOf p .psn) 31 v; answer = inl (inr refl, refl) }
   effect c d (place t entry region w) = place-by c t entry region w
   effect c d (begin at n a s) = begin-by at n a s
   effect c d (swap t region w) = swap-by t region w
 
   -- and on the unreliable connection
-  abandoned : Still saved m (L (noReply status.Abandoned))
+  abandoned : Unexecuted saved m (L (noReply status.Abandoned))
   unfolding noReply
-  abandoned = still-by status.Abandoned 0 noPsn 0 0
+  abandoned = unexecuted-by status.Abandoned 0 noPsn 0 0
 
   uc-effect : eqb (q .setup .service) 1 ≡ true → (d : Decision) → UcRow Quiet q (numbersOf p) d → Effect (d .status) (L d)
   unfolding leftBy outcomeBy pairBy after statusNumber noReply outBy over answerBytes packetOf headerOf
@@ -381,7 +381,7 @@ module _ (q : Pair) (regions saved : List (List ℕ)) (m p out : List ℕ) where
         entries = refl;
         read = refl;
         ring = refl;
-        replyOnly = abandoned;
+        unexecuted = abandoned;
         outgoing = refl;
         out = refl;
       }

@@ -41,7 +41,7 @@ module _ (q : Pair) (rows : List (List ℕ)) (bytes p output : List ℕ) (l : Le
         nakmark = λ e. ap (λ x. x .nakmark) (U .pair) ∙ e;
         read = ap (λ x. x .read) (U .pair);
         ring = ap (λ x. x .saved) (U .pair);
-        saved = U .replyOnly .saved;
+        saved = U .unexecuted .saved;
         outgoing = U .outgoing;
         out = U .out;
       }
@@ -54,7 +54,7 @@ module _ (q : Pair) (rows : List (List ℕ)) (bytes p output : List ℕ) (l : Le
         nakmark = λ e. A .nakmark ∙ e;
         read = A .read;
         ring = A .ring;
-        saved = A .replyOnly .saved;
+        saved = A .unexecuted .saved;
         outgoing = A .outgoing;
         out = A .out;
       }

@@ -329,7 +329,7 @@ abbrev pub numbersOf : List ℕ → Packet
 numbersOf p = packetOf (headerOf p) (length p)
 
 starting : (k : ℕ) → Bare k → starts (lowClass k .place) ≡ true
-unfolding lowClass Opcode.targetOffset starts
+unfolding lowClass Opcode.placeOf starts
 starting k reads = refl
 starting k swaps = refl
 starting k adds = refl

@@ -202,7 +202,7 @@ module _ (q : Pair) (regions entries saved : List (List ℕ)) (m p : List ℕ) (
 
   -- an atomic is a message of one packet, of 8 bytes
   atomic-form : IsAtomic (packetIn p .kind) → (packetIn p .place ≡ 4) × (packetIn p .operands .length ≡ 8)
-  unfolding packetOf headerOf lowClass Opcode.targetOffset followsOf extensionOf operandsOf
+  unfolding packetOf headerOf lowClass Opcode.placeOf followsOf extensionOf operandsOf
   atomic-form (inl e) =
       let c = class-is (bthOf p .opcode) 19 swaps e in
       (ap (λ x. x .place) c, ap (λ x. operandsOf (extensionOf (x .follows) p) .length) c)

@@ -62,7 +62,7 @@ pub record Silent (c : Completion) : Type 0 where
   pub value : c .value ≡ 0
 
 -- Memory and the saved atomics are as before, and nothing completes.
-pub record Still (rows : List (List ℕ)) (bytes : List ℕ) (l : Left) : Type 0 where
+pub record Unexecuted (rows : List (List ℕ)) (bytes : List ℕ) (l : Left) : Type 0 where
   pub memory : l .memory ≡ bytes
   pub saved : l .saved ≡ rows
   pub completion : Silent (l .completion)
@@ -70,7 +70,7 @@ pub record Still (rows : List (List ℕ)) (bytes : List ℕ) (l : Left) : Type 0
 -- Nothing at all is changed.
 pub record Unchanged (q : Pair) (rows : List (List ℕ)) (bytes output : List ℕ) (l : Left) : Type 0 where
   pub pair : l .pair ≡ q
-  pub replyOnly : Still rows bytes l
+  pub unexecuted : Unexecuted rows bytes l
   pub outgoing : l .outgoing ≡ 0
   pub out : l .out ≡ output
 
@@ -89,7 +89,7 @@ pub record MarkAlone (q : Pair) (rows : List (List ℕ)) (bytes : List ℕ) (l :
   pub fixed : Fixed q (l .pair)
   pub state : l .pair .state ≡ q .state
   pub read : l .pair .read ≡ q .read
-  pub replyOnly : Still rows bytes l
+  pub unexecuted : Unexecuted rows bytes l
   pub outgoing : l .outgoing ≡ 16
 
 -- The state is Error, and that is all; 16 bytes are sent.
@@ -98,7 +98,7 @@ pub record ErrorAlone (q : Pair) (rows : List (List ℕ)) (bytes : List ℕ) (l 
   pub fixed : Fixed q (l .pair)
   pub nakmark : l .pair .nakmark ≡ q .nakmark
   pub read : l .pair .read ≡ q .read
-  pub replyOnly : Still rows bytes l
+  pub unexecuted : Unexecuted rows bytes l
   pub outgoing : l .outgoing ≡ 16
 
 -- A READ begins to be answered: all its responses remain, and there is one at least. The RETH says how many bytes, and
@@ -124,7 +124,7 @@ pub record Repeated (q : Pair) (regions rows : List (List ℕ)) (bytes p output 
   pub fixed : Fixed q (l .pair)
   pub state : l .pair .state ≡ q .state
   pub nakmark : l .pair .nakmark ≡ q .nakmark
-  pub replyOnly : Still rows bytes l
+  pub unexecuted : Unexecuted rows bytes l
   pub answer : AnsweredOr q regions p output l
 
 -- 6: a message was open and is closed, and that is all. The ring of entries is as before: an entry that was held is its
@@ -140,7 +140,7 @@ pub record Abandons (q : Pair) (rows : List (List ℕ)) (bytes output : List ℕ
   pub entries : l .pair .entries ≡ q .entries
   pub read : l .pair .read ≡ q .read
   pub ring : l .pair .saved ≡ q .saved
-  pub replyOnly : Still rows bytes l
+  pub unexecuted : Unexecuted rows bytes l
   pub outgoing : l .outgoing ≡ 0
   pub out : l .out ≡ output
 
@@ -175,7 +175,7 @@ pub record Accepts (q : Pair) (regions rows : List (List ℕ)) (bytes p output :
   pub message : l .pair .message ≡ q .message
   pub entries : l .pair .entries ≡ q .entries
   pub ring : l .pair .saved ≡ q .saved
-  pub replyOnly : Still rows bytes l
+  pub unexecuted : Unexecuted rows bytes l
   pub outgoing : l .outgoing ≡ 0
   pub out : l .out ≡ output
 

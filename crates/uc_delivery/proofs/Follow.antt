@@ -36,7 +36,7 @@ use Rattle.responder_spec.proofs.Sizes.{inbound-lengths}
 use Rattle.responder_spec.proofs.Kept.{inbound-steady}
 use Rattle.responder_spec.specs.Calls.{reports}
 use Rattle.delivery.specs.Stream.{Message, Slot, packetCount, packetAt}
-use Rattle.delivery.specs.Plain.{takesEntry, needs, needsEntry, isLast, none, completionFor, regionOffset}
+use Rattle.delivery.specs.Plain.{takesEntry, needsEntryAt, needsEntry, isLast, none, completionFor, regionOffset}
 use Rattle.delivery.specs.Demand.{Run, taken, Permitted, AtLeast}
 use Rattle.delivery.proofs.Chain.{Stands}
 use Rattle.delivery.proofs.Cutting.{placeFor, cutPacket, psn-small}
@@ -95,7 +95,7 @@ abbrev pub heldAt : Bool → Request → Entry → List Entry
 heldAt begins r e = cond begins [] (holding r e)
 
 -- a packet that needs an entry is of a message that takes one, and finds none held; and what is held was taken
-needs-takes : (r : Request) (i n : ℕ) → needs r i n ≡ true → takesEntry r ≡ true
+needs-takes : (r : Request) (i n : ℕ) → needsEntryAt r i n ≡ true → takesEntry r ≡ true
 needs-takes Send i n h = refl
 needs-takes (SendImmediate v) i n h = refl
 needs-takes (Write t) i n h = absurd (true≢false (sym h))
@@ -108,7 +108,7 @@ none-write : (b : Bool) → _≡_ {A = List Entry} (cond b [] []) []
 none-write true = refl
 none-write false = refl
 
-needs-none : (r : Request) (i n : ℕ) (e : Entry) → needs r i n ≡ true → heldAt (eqb i 0) r e ≡ []
+needs-none : (r : Request) (i n : ℕ) (e : Entry) → needsEntryAt r i n ≡ true → heldAt (eqb i 0) r e ≡ []
 needs-none Send i n e h = ap (λ b. cond b [] (e ∷ [])) h
 needs-none (SendImmediate v) i n e h = ap (λ b. cond b [] (e ∷ [])) h
 needs-none (Write t) i n e h = none-write (eqb i 0)

@@ -1,7 +1,7 @@
 // The library for other languages: numbers pass as themselves, a slice as a pointer and a length, a table as a pointer. Every
 // function answers a number of the rules, and tells the rest through what it is lent.
 mod headers;
-mod host_calls;
+mod host;
 mod messages;
 mod number;
 mod packets;

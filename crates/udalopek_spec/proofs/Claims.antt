@@ -51,10 +51,10 @@ inbound-keeps w regions entries saved m p out h =
     let b = refused w regions p in
     let t = inbound-table (pairOf w) regions entries saved m p out in (
       behind b _ w _ (λ e g. ap pairWords (t .quiet g .pair) ∙ sym (let-in w (let-through w regions p e))) h,
-      behind b _ saved _ (λ e g. t .quiet g .still .saved) h,
-      behind b _ m _ (λ e g. t .quiet g .still .memory) h,
+      behind b _ saved _ (λ e g. t .quiet g .unexecuted .saved) h,
+      behind b _ m _ (λ e g. t .quiet g .unexecuted .memory) h,
       behind b _ out _ (λ e g. t .quiet g .out) h,
-      behind b _ (replicate 6 0) _ (λ e g. ap (λ n. reportWords n (inbound (pairOf w) regions entries saved m p out .completion)) (t .quiet g .outgoing) ∙ silent _ (t .quiet g .still .completion)) h,
+      behind b _ (replicate 6 0) _ (λ e g. ap (λ n. reportWords n (inbound (pairOf w) regions entries saved m p out .completion)) (t .quiet g .outgoing) ∙ silent _ (t .quiet g .unexecuted .completion)) h,
     )
 
 -- the words of a pair are let in, and its table

@@ -22,17 +22,17 @@ returns c = sym (other-length _ _ (λ e. omega arith))
 loop-holds : tie.Need-loop-holds Inv-loop μ-loop
 loop-holds c = (omega arith, (refl, omega arith))
 
-mul-still : tie.Need-mul-still Inv-loop μ-loop
-mul-still c = search needs
+mul-same-so-far : tie.Need-mul-same-so-far Inv-loop μ-loop
+mul-same-so-far c = search needs
 
-shared-slice-read-still : tie.Need-shared-slice-read-still Inv-loop μ-loop
-shared-slice-read-still c = omega arith
+shared-slice-read-same-so-far : tie.Need-shared-slice-read-same-so-far Inv-loop μ-loop
+shared-slice-read-same-so-far c = omega arith
 
-mul-still-2 : tie.Need-mul-still-2 Inv-loop μ-loop
-mul-still-2 c = search needs
+mul-same-so-far-2 : tie.Need-mul-same-so-far-2 Inv-loop μ-loop
+mul-same-so-far-2 c = search needs
 
-shared-slice-read-still-2 : tie.Need-shared-slice-read-still-2 Inv-loop μ-loop
-shared-slice-read-still-2 c = search needs
+shared-slice-read-same-so-far-2 : tie.Need-shared-slice-read-same-so-far-2 Inv-loop μ-loop
+shared-slice-read-same-so-far-2 c = search needs
 
 same-so-far-requires : tie.Need-same-so-far-requires Inv-loop μ-loop
 same-so-far-requires c κs = search needs
@@ -57,10 +57,10 @@ same-spec =
     μ-loop
     returns
     loop-holds
-    mul-still
-    shared-slice-read-still
-    mul-still-2
-    shared-slice-read-still-2
+    mul-same-so-far
+    shared-slice-read-same-so-far
+    mul-same-so-far-2
+    shared-slice-read-same-so-far-2
     same-so-far-requires
     add-i
     loop-less

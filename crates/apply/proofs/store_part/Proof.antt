@@ -11,14 +11,14 @@ least-requires c κs = search needs
 least-requires-2 : tie.Need-least-requires-2
 least-requires-2 c κs = search needs
 
-sub-place : tie.Need-sub-place
-sub-place c = search needs
+sub-store : tie.Need-sub-store
+sub-store c = search needs
 
-part-place-start : tie.Need-part-place-start
-part-place-start c = search needs
+part-store-start : tie.Need-part-store-start
+part-store-start c = search needs
 
-part-place-end : tie.Need-part-place-end
-part-place-end c = search needs
+part-store-end : tie.Need-part-store-end
+part-store-end c = search needs
 
 store-requires : tie.Need-store-requires
 store-requires c κs = search needs
@@ -37,9 +37,9 @@ store-part-spec =
     (tie.spec
     least-requires
     least-requires-2
-    sub-place
-    part-place-start
-    part-place-end
+    sub-store
+    part-store-start
+    part-store-end
     store-requires
     same-length
     returns)

@@ -7,10 +7,10 @@ use Rattle.decide.specs.Guard.{Executable}
 use Rattle.decide.specs.Either.{metBy, finished}
 use Rattle.decide.proofs.Places.{executable}
 use Rattle.decide.proofs.Either.{early-5, early-6, refuses, executes, passed, current-met}
-use Rattle.decide.proofs.checkedDecision.Statement.{statement}
-use Rattle.decide.proofs.checkedDecision.Tie as tie
-use Rattle.decide.proofs.checkedDecision.Reads as reads
-use Rattle.decide.proofs.checkedDecision.Lts as lts
+use Rattle.decide.proofs.settled.Statement.{statement}
+use Rattle.decide.proofs.settled.Tie as tie
+use Rattle.decide.proofs.settled.Reads as reads
+use Rattle.decide.proofs.settled.Lts as lts
 use Rattle.decide.proofs.execute.finished.Reads as finished-reads
 use Rattle.decide.proofs.refused.Reads as refused-reads
 use Rattle.decide.proofs.unreliable.early.Reads as early-reads
@@ -37,7 +37,7 @@ no-reply-requires-2 c κs = search needs
 
 -- src/lib.rt:94:9
 returns-2 : tie.Need-returns-2
-returns-2 c = c .quietly2 .ensures ∙ early-6 (c .before .before .before .before .before .before .args .p) (c .before .before .before .before .before .before .args .pair .setup) (c .before .before .before .before .before .before .args .pair .expected) (c .before .before .before .before .before .before .args .pair .message) (c .before .before .before .before .before .before .args .pair .entries .count) (c .before .before .before .before .before .before .args .entry) (c .before .before .before .before .before .before .args .region) (c .before .before .before .before .before .before .args .uc) (sym (c .before .before .before .early .ensures) ∙ c .before .if2 .taken)
+returns-2 c = c .no-reply2 .ensures ∙ early-6 (c .before .before .before .before .before .before .args .p) (c .before .before .before .before .before .before .args .pair .setup) (c .before .before .before .before .before .before .args .pair .expected) (c .before .before .before .before .before .before .args .pair .message) (c .before .before .before .before .before .before .args .pair .entries .count) (c .before .before .before .before .before .before .args .entry) (c .before .before .before .before .before .before .args .region) (c .before .before .before .before .before .before .args .uc) (sym (c .before .before .before .early .ensures) ∙ c .before .if2 .taken)
 
 -- src/lib.rt:96:9
 met-requires : tie.Need-met-requires

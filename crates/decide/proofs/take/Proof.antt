@@ -3,7 +3,7 @@ use Rattle.decide.proofs.take.Statement.{statement}
 use Rattle.decide.proofs.take.Tie as tie
 use Rattle.decide.proofs.take.Reads as reads
 use Rattle.decide.proofs.take.Lts as lts
-use Rattle.decide.proofs.checkedDecision.Reads as settled-reads
+use Rattle.decide.proofs.settled.Reads as settled-reads
 use Rattle.idle.proofs.region_for.Reads as region-for-reads
 use Rattle.request_checks.proofs.current.Reads as current-reads
 use Rattle.table.proofs.slot.Reads as slot-reads
@@ -34,7 +34,7 @@ settled-requires c κs = search needs
 
 -- src/lib.rt:106:1
 returns : tie.Need-returns
-returns c = simp (← c .before .before .before .before .before .slot .ensures .0, ← c .before .before .current .ensures, ← c .before .region-for .ensures, ← c .checkedDecision .ensures)
+returns c = simp (← c .before .before .before .before .before .slot .ensures .0, ← c .before .before .current .ensures, ← c .before .region-for .ensures, ← c .settled .ensures)
 
 pub take-spec : {M : Type 1} → statement M
 take-spec =

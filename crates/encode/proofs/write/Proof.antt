@@ -18,8 +18,8 @@ returns-2 c = by-length (c .before .before .before .before .before .before .befo
 bth-bytes-requires : tie.Need-bth-bytes-requires
 bth-bytes-requires c κs = search needs
 
-slice-aggregate-place : tie.Need-slice-aggregate-place
-slice-aggregate-place c = search needs
+slice-aggregate-store : tie.Need-slice-aggregate-store
+slice-aggregate-store c = search needs
 
 store-requires : tie.Need-store-requires
 store-requires c κs = search needs
@@ -42,7 +42,7 @@ write-spec =
     class-requires
     returns-2
     bth-bytes-requires
-    slice-aggregate-place
+    slice-aggregate-store
     store-requires
     write-extension-requires
     same-length

@@ -12,8 +12,8 @@ use Rattle.encode.proofs.write_extension.Tie as tie
 enum-told : tie.Need-enum-told
 enum-told c = search needs
 
-slice-aggregate-place : tie.Need-slice-aggregate-place
-slice-aggregate-place c = search needs
+slice-aggregate-store : tie.Need-slice-aggregate-store
+slice-aggregate-store c = search needs
 
 store-requires : tie.Need-store-requires
 store-requires c κs = search needs
@@ -24,8 +24,8 @@ enum-known-e c = search needs
 reth-bytes-requires : tie.Need-reth-bytes-requires
 reth-bytes-requires c κs = search needs
 
-slice-aggregate-place-2 : tie.Need-slice-aggregate-place-2
-slice-aggregate-place-2 c = search needs
+slice-aggregate-store-2 : tie.Need-slice-aggregate-store-2
+slice-aggregate-store-2 c = search needs
 
 store-requires-2 : tie.Need-store-requires-2
 store-requires-2 c κs = search needs
@@ -36,8 +36,8 @@ enum-known-e-2 c = search needs
 reth-bytes-requires-2 : tie.Need-reth-bytes-requires-2
 reth-bytes-requires-2 c κs = search needs
 
-slice-aggregate-place-3 : tie.Need-slice-aggregate-place-3
-slice-aggregate-place-3 c = search needs
+slice-aggregate-store-3 : tie.Need-slice-aggregate-store-3
+slice-aggregate-store-3 c = search needs
 
 store-requires-3 : tie.Need-store-requires-3
 store-requires-3 c κs = search needs
@@ -45,8 +45,8 @@ store-requires-3 c κs = search needs
 immediate-bytes-requires : tie.Need-immediate-bytes-requires
 immediate-bytes-requires c κs = search needs
 
-slice-aggregate-place-4 : tie.Need-slice-aggregate-place-4
-slice-aggregate-place-4 c = search needs
+slice-aggregate-store-4 : tie.Need-slice-aggregate-store-4
+slice-aggregate-store-4 c = search needs
 
 store-requires-4 : tie.Need-store-requires-4
 store-requires-4 c κs = search needs
@@ -57,8 +57,8 @@ enum-known-e-3 c = search needs
 immediate-bytes-requires-2 : tie.Need-immediate-bytes-requires-2
 immediate-bytes-requires-2 c κs = search needs
 
-slice-aggregate-place-5 : tie.Need-slice-aggregate-place-5
-slice-aggregate-place-5 c = search needs
+slice-aggregate-store-5 : tie.Need-slice-aggregate-store-5
+slice-aggregate-store-5 c = search needs
 
 store-requires-5 : tie.Need-store-requires-5
 store-requires-5 c κs = search needs
@@ -69,8 +69,8 @@ enum-known-e-4 c = search needs
 atomic-bytes-requires : tie.Need-atomic-bytes-requires
 atomic-bytes-requires c κs = search needs
 
-slice-aggregate-place-6 : tie.Need-slice-aggregate-place-6
-slice-aggregate-place-6 c = search needs
+slice-aggregate-store-6 : tie.Need-slice-aggregate-store-6
+slice-aggregate-store-6 c = search needs
 
 store-requires-6 : tie.Need-store-requires-6
 store-requires-6 c κs = search needs
@@ -81,8 +81,8 @@ enum-known-e-5 c = search needs
 aeth-bytes-requires : tie.Need-aeth-bytes-requires
 aeth-bytes-requires c κs = search needs
 
-slice-aggregate-place-7 : tie.Need-slice-aggregate-place-7
-slice-aggregate-place-7 c = search needs
+slice-aggregate-store-7 : tie.Need-slice-aggregate-store-7
+slice-aggregate-store-7 c = search needs
 
 store-requires-7 : tie.Need-store-requires-7
 store-requires-7 c κs = search needs
@@ -93,8 +93,8 @@ enum-known-e-6 c = search needs
 aeth-bytes-requires-2 : tie.Need-aeth-bytes-requires-2
 aeth-bytes-requires-2 c κs = search needs
 
-slice-aggregate-place-8 : tie.Need-slice-aggregate-place-8
-slice-aggregate-place-8 c = search needs
+slice-aggregate-store-8 : tie.Need-slice-aggregate-store-8
+slice-aggregate-store-8 c = search needs
 
 store-requires-8 : tie.Need-store-requires-8
 store-requires-8 c κs = search needs
@@ -102,8 +102,8 @@ store-requires-8 c κs = search needs
 value-bytes-requires : tie.Need-value-bytes-requires
 value-bytes-requires c κs = search needs
 
-slice-aggregate-place-9 : tie.Need-slice-aggregate-place-9
-slice-aggregate-place-9 c = search needs
+slice-aggregate-store-9 : tie.Need-slice-aggregate-store-9
+slice-aggregate-store-9 c = search needs
 
 store-requires-9 : tie.Need-store-requires-9
 store-requires-9 c κs = search needs
@@ -120,7 +120,7 @@ same-length-2 c = search needs
 
 returns-2 : tie.Need-returns-2
 unfolding extensionBytes
-returns-2 c = simp (c .before .before .before .before .before .before .before .e .given .1, ← c .before .before .before .before .before .reth-bytes .ensures, ← c .before .before .place2 .ensures)
+returns-2 c = simp (c .before .before .before .before .before .before .before .e .given .1, ← c .before .before .before .before .before .reth-bytes .ensures, ← c .before .before .store2 .ensures)
 
 same-length-3 : tie.Need-same-length-3
 same-length-3 c = search needs
@@ -132,28 +132,28 @@ returns-3 c =
     let eb = c .before .before .before .before .before .before .before .before .before .before .before .reth-bytes2 .ensures in
     let ec = c .before .before .before .before .before .immediate-bytes .ensures in
     in-two (A .out .now) _ _ _ _ (A .e) 28 (ap extensionBytes (c .before .before .before .before .before .before .before .before .before .before .before .before .before .e2 .given .1) ∙ (λ i. sym eb i ++ sym ec i)) (ap (λ z. 12 + length z) eb)
-    (c .before .before .before .before .before .before .before .before .before .before .before .before .before .before .before .before .pre) (c .before .before .before .before .before .before .before .before .place3 .ensures) (c .before .before .place4 .ensures)
+    (c .before .before .before .before .before .before .before .before .before .before .before .before .before .before .before .before .pre) (c .before .before .before .before .before .before .before .before .store3 .ensures) (c .before .before .store4 .ensures)
 
 same-length-4 : tie.Need-same-length-4
 same-length-4 c = search needs
 
 returns-4 : tie.Need-returns-4
 unfolding extensionBytes
-returns-4 c = simp (c .before .before .before .before .before .before .before .e3 .given .1, ← c .before .before .before .before .before .immediate-bytes2 .ensures, ← c .before .before .place5 .ensures)
+returns-4 c = simp (c .before .before .before .before .before .before .before .e3 .given .1, ← c .before .before .before .before .before .immediate-bytes2 .ensures, ← c .before .before .store5 .ensures)
 
 same-length-5 : tie.Need-same-length-5
 same-length-5 c = search needs
 
 returns-5 : tie.Need-returns-5
 unfolding extensionBytes
-returns-5 c = simp (c .before .before .before .before .before .before .before .e4 .given .1, ← c .before .before .before .before .before .atomic-bytes .ensures, ← c .before .before .place6 .ensures)
+returns-5 c = simp (c .before .before .before .before .before .before .before .e4 .given .1, ← c .before .before .before .before .before .atomic-bytes .ensures, ← c .before .before .store6 .ensures)
 
 same-length-6 : tie.Need-same-length-6
 same-length-6 c = search needs
 
 returns-6 : tie.Need-returns-6
 unfolding extensionBytes
-returns-6 c = simp (c .before .before .before .before .before .before .before .e5 .given .1, ← c .before .before .before .before .before .aeth-bytes .ensures, ← c .before .before .place7 .ensures)
+returns-6 c = simp (c .before .before .before .before .before .before .before .e5 .given .1, ← c .before .before .before .before .before .aeth-bytes .ensures, ← c .before .before .store7 .ensures)
 
 same-length-7 : tie.Need-same-length-7
 same-length-7 c = search needs
@@ -165,44 +165,44 @@ returns-7 c =
     let eb = c .before .before .before .before .before .before .before .before .before .before .before .aeth-bytes2 .ensures in
     let ec = c .before .before .before .before .before .value-bytes .ensures in
     in-two (A .out .now) _ _ _ _ (A .e) 16 (ap extensionBytes (c .before .before .before .before .before .before .before .before .before .before .before .before .before .e6 .given .1) ∙ (λ i. sym eb i ++ sym ec i)) (ap (λ z. 12 + length z) eb)
-    (c .before .before .before .before .before .before .before .before .before .before .before .before .before .before .before .before .pre) (c .before .before .before .before .before .before .before .before .place8 .ensures) (c .before .before .place9 .ensures)
+    (c .before .before .before .before .before .before .before .before .before .before .before .before .before .before .before .before .pre) (c .before .before .before .before .before .before .before .before .store8 .ensures) (c .before .before .store9 .ensures)
 
 pub write-extension-spec : {M : Type 1} → statement M
 write-extension-spec =
     tie.close
     (tie.spec
     enum-told
-    slice-aggregate-place
+    slice-aggregate-store
     store-requires
     enum-known-e
     reth-bytes-requires
-    slice-aggregate-place-2
+    slice-aggregate-store-2
     store-requires-2
     enum-known-e-2
     reth-bytes-requires-2
-    slice-aggregate-place-3
+    slice-aggregate-store-3
     store-requires-3
     immediate-bytes-requires
-    slice-aggregate-place-4
+    slice-aggregate-store-4
     store-requires-4
     enum-known-e-3
     immediate-bytes-requires-2
-    slice-aggregate-place-5
+    slice-aggregate-store-5
     store-requires-5
     enum-known-e-4
     atomic-bytes-requires
-    slice-aggregate-place-6
+    slice-aggregate-store-6
     store-requires-6
     enum-known-e-5
     aeth-bytes-requires
-    slice-aggregate-place-7
+    slice-aggregate-store-7
     store-requires-7
     enum-known-e-6
     aeth-bytes-requires-2
-    slice-aggregate-place-8
+    slice-aggregate-store-8
     store-requires-8
     value-bytes-requires
-    slice-aggregate-place-9
+    slice-aggregate-store-9
     store-requires-9
     same-length
     returns

@@ -6,8 +6,8 @@ use Rattle.memory.proofs.write_word.Tie as tie
 low-bytes-requires : tie.Need-low-bytes-requires
 low-bytes-requires c κs = search needs
 
-slice-aggregate-place : tie.Need-slice-aggregate-place
-slice-aggregate-place c = search needs
+slice-aggregate-store : tie.Need-slice-aggregate-store
+slice-aggregate-store c = search needs
 
 store-requires : tie.Need-store-requires
 store-requires c κs = search needs
@@ -22,4 +22,4 @@ returns c = simp (← c .before .before .before .before .before .low-bytes .ensu
 pub write-word-spec : {M : Type 1} → statement M
 write-word-spec =
     tie.close
-    (tie.spec low-bytes-requires slice-aggregate-place store-requires same-length returns)
+    (tie.spec low-bytes-requires slice-aggregate-store store-requires same-length returns)

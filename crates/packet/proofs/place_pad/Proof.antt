@@ -5,14 +5,14 @@ use borrow.Author.Needs.{needs}
 use Rattle.packet.proofs.place_pad.Statement.{statement}
 use Rattle.packet.proofs.place_pad.Tie as tie
 
-sub-place : tie.Need-sub-place
-sub-place c = search needs
+sub-store : tie.Need-sub-store
+sub-store c = search needs
 
-part-place-start : tie.Need-part-place-start
-part-place-start c = search needs
+part-store-start : tie.Need-part-store-start
+part-store-start c = search needs
 
-part-place-end : tie.Need-part-place-end
-part-place-end c = search needs
+part-store-end : tie.Need-part-store-end
+part-store-end c = search needs
 
 store-requires : tie.Need-store-requires
 store-requires c κs = search needs
@@ -26,4 +26,4 @@ returns c = c .before .before .store .ensures ∙ ap (store _ _) (zeros (c .befo
 pub place-pad-spec : {M : Type 1} → statement M
 place-pad-spec =
     tie.close
-    (tie.spec sub-place part-place-start part-place-end store-requires same-length returns)
+    (tie.spec sub-store part-store-start part-store-end store-requires same-length returns)

@@ -14,8 +14,8 @@ reply-bth-requires c κs = search needs
 bth-bytes-requires : tie.Need-bth-bytes-requires
 bth-bytes-requires c κs = search needs
 
-slice-aggregate-place : tie.Need-slice-aggregate-place
-slice-aggregate-place c = search needs
+slice-aggregate-store : tie.Need-slice-aggregate-store
+slice-aggregate-store c = search needs
 
 store-requires : tie.Need-store-requires
 store-requires c κs = search needs
@@ -23,8 +23,8 @@ store-requires c κs = search needs
 aeth-bytes-requires : tie.Need-aeth-bytes-requires
 aeth-bytes-requires c κs = search needs
 
-slice-aggregate-place-2 : tie.Need-slice-aggregate-place-2
-slice-aggregate-place-2 c = search needs
+slice-aggregate-store-2 : tie.Need-slice-aggregate-store-2
+slice-aggregate-store-2 c = search needs
 
 store-requires-2 : tie.Need-store-requires-2
 store-requires-2 c κs = search needs
@@ -38,7 +38,7 @@ returns c =
     let A = c .before .before .before .before .before .before .before .before .before .before .before .before .before .before .args in
     let eb = c .before .before .before .before .before .before .before .before .before .before .before .bth-bytes .ensures ∙ ap bthBytes (c .before .before .before .before .before .before .before .before .before .before .before .before .reply-bth .ensures) in
     let ea = c .before .before .before .before .before .aeth-bytes .ensures in
-    in-two (A .out .now) _ _ _ _ (ap length eb) (ap length ea) (c .before .before .before .before .before .before .before .before .store .ensures) (c .before .before .place2 .ensures) _ (λ i. sym eb i ++ sym ea i) (c .before .before .before .before .before .before .before .before .before .before .before .before .before .before .pre)
+    in-two (A .out .now) _ _ _ _ (ap length eb) (ap length ea) (c .before .before .before .before .before .before .before .before .store .ensures) (c .before .before .store2 .ensures) _ (λ i. sym eb i ++ sym ea i) (c .before .before .before .before .before .before .before .before .before .before .before .before .before .before .pre)
 
 pub write-ack-spec : {M : Type 1} → statement M
 write-ack-spec =
@@ -46,10 +46,10 @@ write-ack-spec =
     (tie.spec
     reply-bth-requires
     bth-bytes-requires
-    slice-aggregate-place
+    slice-aggregate-store
     store-requires
     aeth-bytes-requires
-    slice-aggregate-place-2
+    slice-aggregate-store-2
     store-requires-2
     same-length
     returns)

@@ -14,8 +14,8 @@ reply-bth-requires c κs = search needs
 bth-bytes-requires : tie.Need-bth-bytes-requires
 bth-bytes-requires c κs = search needs
 
-slice-aggregate-place : tie.Need-slice-aggregate-place
-slice-aggregate-place c = search needs
+slice-aggregate-store : tie.Need-slice-aggregate-store
+slice-aggregate-store c = search needs
 
 store-requires : tie.Need-store-requires
 store-requires c κs = search needs
@@ -23,8 +23,8 @@ store-requires c κs = search needs
 aeth-bytes-requires : tie.Need-aeth-bytes-requires
 aeth-bytes-requires c κs = search needs
 
-slice-aggregate-place-2 : tie.Need-slice-aggregate-place-2
-slice-aggregate-place-2 c = search needs
+slice-aggregate-store-2 : tie.Need-slice-aggregate-store-2
+slice-aggregate-store-2 c = search needs
 
 store-requires-2 : tie.Need-store-requires-2
 store-requires-2 c κs = search needs
@@ -32,8 +32,8 @@ store-requires-2 c κs = search needs
 value-bytes-requires : tie.Need-value-bytes-requires
 value-bytes-requires c κs = search needs
 
-slice-aggregate-place-3 : tie.Need-slice-aggregate-place-3
-slice-aggregate-place-3 c = search needs
+slice-aggregate-store-3 : tie.Need-slice-aggregate-store-3
+slice-aggregate-store-3 c = search needs
 
 store-requires-3 : tie.Need-store-requires-3
 store-requires-3 c κs = search needs
@@ -48,7 +48,7 @@ returns c =
     let eb = c .before .before .before .before .before .before .before .before .before .before .before .before .before .before .before .before .before .bth-bytes .ensures ∙ ap bthBytes (c .before .before .before .before .before .before .before .before .before .before .before .before .before .before .before .before .before .before .reply-bth .ensures) in
     let ea = c .before .before .before .before .before .before .before .before .before .before .before .aeth-bytes .ensures in
     let ev = c .before .before .before .before .before .value-bytes .ensures in
-    in-three (A .out .now) _ _ _ _ (ap length eb) (ap length ea) (c .before .before .before .before .before .before .before .before .before .before .before .before .before .before .store .ensures) (c .before .before .before .before .before .before .before .before .place2 .ensures) _ _ _ (ap length ev) (c .before .before .place3 .ensures) (λ i. sym eb i ++ (sym ea i ++ sym ev i)) (c .before .before .before .before .before .before .before .before .before .before .before .before .before .before .before .before .before .before .before .before .pre)
+    in-three (A .out .now) _ _ _ _ (ap length eb) (ap length ea) (c .before .before .before .before .before .before .before .before .before .before .before .before .before .before .store .ensures) (c .before .before .before .before .before .before .before .before .store2 .ensures) _ _ _ (ap length ev) (c .before .before .store3 .ensures) (λ i. sym eb i ++ (sym ea i ++ sym ev i)) (c .before .before .before .before .before .before .before .before .before .before .before .before .before .before .before .before .before .before .before .before .pre)
 
 pub write-value-spec : {M : Type 1} → statement M
 write-value-spec =
@@ -56,13 +56,13 @@ write-value-spec =
     (tie.spec
     reply-bth-requires
     bth-bytes-requires
-    slice-aggregate-place
+    slice-aggregate-store
     store-requires
     aeth-bytes-requires
-    slice-aggregate-place-2
+    slice-aggregate-store-2
     store-requires-2
     value-bytes-requires
-    slice-aggregate-place-3
+    slice-aggregate-store-3
     store-requires-3
     same-length
     returns)

@@ -8,7 +8,7 @@ use Rattle.decide.proofs.execute.finished.Reads as reads
 use Rattle.decide.proofs.execute.finished.Lts as lts
 use Rattle.decide.proofs.execute.accept_read.Reads as accept-read-reads
 use Rattle.decide.proofs.execute.asks.Reads as asks-reads
-use Rattle.decide.proofs.execute.psns.Reads as numbers-reads
+use Rattle.decide.proofs.execute.numbers.Reads as numbers-reads
 use Rattle.decide.proofs.execute.store_payload.Reads as store-payload-reads
 use Rattle.decide.proofs.execute.run_atomic.Reads as run-atomic-reads
 use Rattle.idle.proofs.no_reply.Reads as no-reply-reads
@@ -29,7 +29,7 @@ store-payload-requires c κs =
     (c .before .before .before .before .pre .end, (c .before .before .before .before .pre .total k, c .before .before .before .before .pre .place k))
 
 returns : tie.Need-returns
-returns c = c .store-payload .ensures ∙ placed-by _ _ _ _ _ _ _ _ _ _ (c .before .before .asks .ensures) (c .before .psns .ensures) (sym (c .before .before .before .before .carrying .ensures) ∙ c .before .before .before .if1 .taken)
+returns c = c .store-payload .ensures ∙ placed-by _ _ _ _ _ _ _ _ _ _ (c .before .before .asks .ensures) (c .before .numbers .ensures) (sym (c .before .before .before .before .carrying .ensures) ∙ c .before .before .before .if1 .taken)
 
 no-reply-requires : tie.Need-no-reply-requires
 no-reply-requires c κs = search needs

@@ -1,9 +1,9 @@
 use Rattle.decide.specs.Either.{numbersBy}
 use borrow.Author.Needs.{needs}
-use Rattle.decide.proofs.execute.psns.Statement.{statement}
-use Rattle.decide.proofs.execute.psns.Tie as tie
-use Rattle.decide.proofs.execute.psns.Reads as reads
-use Rattle.decide.proofs.execute.psns.Lts as lts
+use Rattle.decide.proofs.execute.numbers.Statement.{statement}
+use Rattle.decide.proofs.execute.numbers.Tie as tie
+use Rattle.decide.proofs.execute.numbers.Reads as reads
+use Rattle.decide.proofs.execute.numbers.Lts as lts
 use Rattle.decide.proofs.execute.wide_number.Reads as wide-number-reads
 use Rattle.sequence.proofs.Psn.distance.Reads as distance-reads
 

@@ -32,9 +32,9 @@ returns-2 c =
     let A = c .before .before .before .before .args in
     nowhere (A .kind) (A .m) (A .t3) (A .region) (c .before .before .if1 .left) (c .before .less .result) (c .before .less .ensures) (c .if2 .taken)
 
-add-spot : tie.Need-add-spot
+add-memory-offset : tie.Need-add-memory-offset
 unfolding bytesToCome
-add-spot c =
+add-memory-offset c =
     let A = c .before .before .before .before .before .args in
     let some : 0 < bytesToCome (A .m .length) (A .m .stored) = omega (arith, c .before .before .less .ensures, c .before .if2 .left) in
     omega (arith, c .before .before .before .before .before .pre .address (c .before .before .before .if1 .left) some, c .before .before .before .before .wide .ensures)
@@ -59,6 +59,6 @@ target-offset-spec =
     returns
     less-requires
     returns-2
-    add-spot
+    add-memory-offset
     memory-offset-requires
     returns-3)

@@ -23,7 +23,7 @@ no-reply-requires-2 c κs = search needs
 -- src/unreliable.rt:65:9
 returns-2 : tie.Need-returns-2
 unfolding abandoning
-returns-2 c = simp (ne-eqb _ _ (c .before .before .if1 .left), eq-eqb _ _ (c .before .if2 .taken), ← c .quietly2 .ensures)
+returns-2 c = simp (ne-eqb _ _ (c .before .before .if1 .left), eq-eqb _ _ (c .before .if2 .taken), ← c .no-reply2 .ensures)
 
 -- src/unreliable.rt:68:5
 no-reply-requires-3 : tie.Need-no-reply-requires-3
@@ -32,7 +32,7 @@ no-reply-requires-3 c κs = search needs
 -- src/unreliable.rt:56:1
 returns-3 : tie.Need-returns-3
 unfolding abandoning
-returns-3 c = simp (ne-eqb _ _ (c .before .before .if1 .left), ne-eqb _ _ (c .before .if2 .left), ← c .quietly3 .ensures)
+returns-3 c = simp (ne-eqb _ _ (c .before .before .if1 .left), ne-eqb _ _ (c .before .if2 .left), ← c .no-reply3 .ensures)
 
 pub abandoning-spec : {M : Type 1} → statement M
 abandoning-spec =

@@ -2,8 +2,8 @@ use Rattle.responder_spec.specs.Decide.{noReply}
 use borrow.Author.Needs.{needs}
 use Rattle.idle.proofs.again.duplicate_atomic.Statement.{statement}
 use Rattle.idle.proofs.again.duplicate_atomic.Tie as tie
-use Rattle.idle.proofs.replyOnly.no_reply.Reads as no-reply-reads
-use Rattle.idle.proofs.replyOnly.reply_only.Reads as reply-only-reads
+use Rattle.idle.proofs.still.no_reply.Reads as no-reply-reads
+use Rattle.idle.proofs.still.reply_only.Reads as reply-only-reads
 
 enum-known-saved : tie.Need-enum-known-saved
 enum-known-saved c = search needs

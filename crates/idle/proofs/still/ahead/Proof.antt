@@ -1,9 +1,9 @@
 use Rattle.responder_spec.specs.Decide.{aheadDecision}
 use borrow.Author.Needs.{needs}
-use Rattle.idle.proofs.replyOnly.ahead.Statement.{statement}
-use Rattle.idle.proofs.replyOnly.ahead.Tie as tie
-use Rattle.idle.proofs.replyOnly.acknowledging.Reads as acknowledging-reads
-use Rattle.idle.proofs.replyOnly.no_reply.Reads as no-reply-reads
+use Rattle.idle.proofs.still.ahead.Statement.{statement}
+use Rattle.idle.proofs.still.ahead.Tie as tie
+use Rattle.idle.proofs.still.acknowledging.Reads as acknowledging-reads
+use Rattle.idle.proofs.still.no_reply.Reads as no-reply-reads
 
 no-reply-requires : tie.Need-no-reply-requires
 no-reply-requires c κs = search needs

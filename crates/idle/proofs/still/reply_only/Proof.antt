@@ -1,7 +1,7 @@
 use borrow.Author.Needs.{needs}
-use Rattle.idle.proofs.replyOnly.reply_only.Statement.{statement}
-use Rattle.idle.proofs.replyOnly.reply_only.Tie as tie
-use Rattle.idle.proofs.replyOnly.no_completion.Reads as no-completion-reads
+use Rattle.idle.proofs.still.reply_only.Statement.{statement}
+use Rattle.idle.proofs.still.reply_only.Tie as tie
+use Rattle.idle.proofs.still.no_completion.Reads as no-completion-reads
 use Rattle.pair.proofs.no_message.Reads as no-message-reads
 
 no-message-requires : tie.Need-no-message-requires

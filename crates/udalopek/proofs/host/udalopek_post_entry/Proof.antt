@@ -6,8 +6,8 @@ use Rattle.pair.specs.Host.{posted, postEntries}
 use Rattle.udalopek_spec.proofs.Steps.{second, first, strange-by, left-words}
 use Rattle.udalopek_spec.specs.Host.{postNumber, postWords, postTable}
 use borrow.Author.Needs.{needs}
-use Rattle.udalopek.proofs.host_calls.udalopek_post_entry.Statement.{statement}
-use Rattle.udalopek.proofs.host_calls.udalopek_post_entry.Tie as tie
+use Rattle.udalopek.proofs.host.udalopek_post_entry.Statement.{statement}
+use Rattle.udalopek.proofs.host.udalopek_post_entry.Tie as tie
 
 pair-of-requires : tie.Need-pair-of-requires
 pair-of-requires c κs = search needs
@@ -38,8 +38,8 @@ post-entry-requires c κs = search needs
 pair-words-requires-2 : tie.Need-pair-words-requires-2
 pair-words-requires-2 c κs = search needs
 
-slice-aggregate-put : tie.Need-slice-aggregate-put
-slice-aggregate-put c = search needs
+slice-aggregate-overwrite-words : tie.Need-slice-aggregate-overwrite-words
+slice-aggregate-overwrite-words c = search needs
 
 overwrite-words-requires : tie.Need-overwrite-words-requires
 overwrite-words-requires c κs = search needs
@@ -73,7 +73,7 @@ udalopek-post-entry-spec =
     returns
     post-entry-requires
     pair-words-requires-2
-    slice-aggregate-put
+    slice-aggregate-overwrite-words
     overwrite-words-requires
     number-requires
     same-length-2

@@ -7,8 +7,8 @@ use Rattle.udalopek_spec.proofs.Steps.{second, first}
 use Rattle.pair.specs.Host.{madeReady}
 use Rattle.udalopek_spec.specs.Host.{readyNumber, readyWords}
 use borrow.Author.Needs.{needs}
-use Rattle.udalopek.proofs.host_calls.udalopek_make_ready.Statement.{statement}
-use Rattle.udalopek.proofs.host_calls.udalopek_make_ready.Tie as tie
+use Rattle.udalopek.proofs.host.udalopek_make_ready.Statement.{statement}
+use Rattle.udalopek.proofs.host.udalopek_make_ready.Tie as tie
 
 malformed-requires : tie.Need-malformed-requires
 malformed-requires c κs = search needs

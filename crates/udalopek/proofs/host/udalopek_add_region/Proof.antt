@@ -1,7 +1,7 @@
 use Rattle.udalopek_spec.specs.Host.{addNumber, addTable, oddRegions}
 use borrow.Author.Needs.{needs}
-use Rattle.udalopek.proofs.host_calls.udalopek_add_region.Statement.{statement}
-use Rattle.udalopek.proofs.host_calls.udalopek_add_region.Tie as tie
+use Rattle.udalopek.proofs.host.udalopek_add_region.Statement.{statement}
+use Rattle.udalopek.proofs.host.udalopek_add_region.Tie as tie
 
 malformed-requires : tie.Need-malformed-requires
 malformed-requires c κs = search needs

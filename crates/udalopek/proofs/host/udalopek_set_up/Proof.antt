@@ -13,8 +13,8 @@ use lib.Dec.{eqb}
 use lib.Dec.{eqb}
 use lib.Dec.{eqb}
 use borrow.Author.Needs.{needs}
-use Rattle.udalopek.proofs.host_calls.udalopek_set_up.Statement.{statement}
-use Rattle.udalopek.proofs.host_calls.udalopek_set_up.Tie as tie
+use Rattle.udalopek.proofs.host.udalopek_set_up.Statement.{statement}
+use Rattle.udalopek.proofs.host.udalopek_set_up.Tie as tie
 
 returns : tie.Need-returns
 unfolding setUpNumber setUpWords setUpTable otherLength executed

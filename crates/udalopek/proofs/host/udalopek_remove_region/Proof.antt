@@ -7,8 +7,8 @@ use Rattle.abi_spec.specs.Rows.{malformedFrom}
 use Rattle.udalopek_spec.proofs.Steps.{second, first}
 use Rattle.udalopek_spec.specs.Host.{unmade, oddRegions, removeNumber, removeTable}
 use borrow.Author.Needs.{needs}
-use Rattle.udalopek.proofs.host_calls.udalopek_remove_region.Statement.{statement}
-use Rattle.udalopek.proofs.host_calls.udalopek_remove_region.Tie as tie
+use Rattle.udalopek.proofs.host.udalopek_remove_region.Statement.{statement}
+use Rattle.udalopek.proofs.host.udalopek_remove_region.Tie as tie
 
 malformed-requires : tie.Need-malformed-requires
 malformed-requires c κs = search needs

@@ -2,14 +2,14 @@ use mathlib.Core.Path.{sym, ap, _∙_}
 use Rattle.abi_spec.specs.Words.{overwriteWords}
 use Rattle.abi_spec.specs.Pair.{malformed}
 use borrow.Author.Needs.{needs}
-use Rattle.udalopek.proofs.host_calls.leave.Statement.{statement}
-use Rattle.udalopek.proofs.host_calls.leave.Tie as tie
+use Rattle.udalopek.proofs.host.leave.Statement.{statement}
+use Rattle.udalopek.proofs.host.leave.Tie as tie
 
 pair-words-requires : tie.Need-pair-words-requires
 pair-words-requires c κs = search needs
 
-slice-aggregate-put : tie.Need-slice-aggregate-put
-slice-aggregate-put c = search needs
+slice-aggregate-overwrite-words : tie.Need-slice-aggregate-overwrite-words
+slice-aggregate-overwrite-words c = search needs
 
 overwrite-words-requires : tie.Need-overwrite-words-requires
 overwrite-words-requires c κs = search needs
@@ -30,7 +30,7 @@ leave-spec =
     tie.close
     (tie.spec
     pair-words-requires
-    slice-aggregate-put
+    slice-aggregate-overwrite-words
     overwrite-words-requires
     number-requires
     same-length

@@ -8,8 +8,8 @@ use Rattle.pair.specs.Sound.{pairUnsound}
 use Rattle.pair.specs.Host.{resetTo, resetRegions}
 use Rattle.udalopek_spec.specs.Host.{unmade, resetNumber, resetWords, resetTable}
 use borrow.Author.Needs.{needs}
-use Rattle.udalopek.proofs.host_calls.udalopek_reset.Statement.{statement}
-use Rattle.udalopek.proofs.host_calls.udalopek_reset.Tie as tie
+use Rattle.udalopek.proofs.host.udalopek_reset.Statement.{statement}
+use Rattle.udalopek.proofs.host.udalopek_reset.Tie as tie
 
 malformed-requires : tie.Need-malformed-requires
 malformed-requires c κs = search needs
