@@ -19,22 +19,12 @@ ghost use Rattle.table.specs.View.{savedRows};
 ghost use Rattle.responder_spec.specs.Apply.{memoryBy, actsAtomic};
 ghost use Rattle.responder_spec.specs.Reply.{valueBy};
 
-// The smaller of two.
-fn least(a: usize, b: usize) -> usize
-    ensures { λ r. ⌜ r ≡ min a b ⌝ }
-{
-    if a < b {
-        return a;
-    }
-    b
-}
-
 // Places the packet's bytes from start to end, as far as it has them, in memory from at on.
 fn store_part(mem: &mut [u8], at: usize, packet: &[u8], start: usize, end: usize)
     ensures { λ _. ⌜ now (mem .exit) ≡ store (now (mem .entry)) at (take (end - start) (drop start (now (packet .entry)))) ⌝ }
 {
-    let stop = least(end, packet.len());
-    let from = least(start, stop);
+    let stop = number::min(end, packet.len());
+    let from = number::min(start, stop);
     memory::store(mem, at, &packet[from..stop]);
 }
 

@@ -11,22 +11,13 @@ ghost use Prim.Native.Nat.{_-_};
 ghost use Rattle.sequence.specs.Sequence.{psnAfter};
 ghost use Rattle.responder_spec.specs.Apply.{ringTaken, entriesBy, savedRingBy, msnBy, readBy, executedPair, closing, after, pairBy};
 
-fn one_less(n: usize) -> usize
-    ensures { λ r. ⌜ r ≡ n - 1 ⌝ }
-{
-    if n == 0 {
-        return 0;
-    }
-    n - 1
-}
-
 // The ring without its first entry, where a message completes.
 fn entries_by(completes: bool, ring: Ring) -> Ring
     ensures { λ r. ⌜ r ≡ entriesBy completes ring ⌝ }
 {
     if completes {
         let head = table::slot(ring.head, 1);
-        let count = one_less(ring.count);
+        let count = number::saturating_sub(ring.count, 1);
         return Ring { head, count };
     }
     ring

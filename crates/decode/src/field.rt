@@ -4,19 +4,12 @@ ghost use Prim.Native.Nat.{_+_, _<_};
 ghost use lib.ListN.{length, getD};
 ghost use Rattle.header.specs.Bytes.{be2, be3, be4, be8};
 
-fn wide(x: u8) -> u32
-    ensures { λ r. ⌜ r ≡ x ⌝ }
-    ensures { λ r. ⌜ r < 256 ⌝ }
-{
-    x as u32
-}
-
 fn byte(p: &[u8], at: usize) -> u32
     requires { ⌜ at < length (now p) ⌝ }
     ensures { λ r. ⌜ r ≡ getD (now (p .entry)) at 0 ⌝ }
     ensures { λ r. ⌜ r < 256 ⌝ }
 {
-    wide(p[at])
+    number::u8_to_u32(p[at])
 }
 
 fn pair(p: &[u8], at: usize) -> u32
@@ -49,16 +42,9 @@ pub(crate) fn be32(p: &[u8], at: usize) -> u32
     byte(p, at) * 16777216 + be24(p, at + 1)
 }
 
-fn wider(x: u32) -> u64
-    ensures { λ r. ⌜ r ≡ x ⌝ }
-    ensures { λ r. ⌜ r < 4294967296 ⌝ }
-{
-    x as u64
-}
-
 pub(crate) fn be64(p: &[u8], at: usize) -> u64
     requires { ⌜ at + 7 < length (now p) ⌝ }
     ensures { λ r. ⌜ r ≡ be8 (now (p .entry)) at ⌝ }
 {
-    wider(be32(p, at)) * 4294967296 + wider(be32(p, at + 4))
+    number::u32_to_u64(be32(p, at)) * 4294967296 + number::u32_to_u64(be32(p, at + 4))
 }

@@ -9,14 +9,14 @@ use lib.ListN.{length, drop}
 use borrow.Author.Tests.{eq-eqb, ne-eqb}
 use Rattle.pmtu.specs.Pieces.{pieces}
 use Rattle.pmtu.proofs.Counting.{counts, bounds}
-use Rattle.table.specs.Table.{noRegion}
+use Rattle.table.specs.Table.{noRegion, memoryOffset}
 use Rattle.table.specs.View.{inRing, regionOf}
 use Rattle.pair.specs.Answer.{statusNumber}
 use Rattle.pair.specs.declared.OpenMessage.{OpenMessage}
 use Rattle.cut_spec.specs.Message.{messageLength}
 use Rattle.cut_spec.specs.Claims.{kindNumber}
 use Rattle.cut_spec.proofs.Shapes.{cut-one}
-use Rattle.request_spec.specs.Verdict.{bytesToCome, memoryOffset, current}
+use Rattle.request_spec.specs.Verdict.{bytesToCome, current}
 use Rattle.responder_spec.specs.Kept.{Steady}
 use Rattle.responder_spec.specs.Decide.{noCompletion, regionFor, acceptRead, runAtomic}
 use Rattle.responder_spec.specs.Apply.{memoryBy, readBy, entriesBy}

@@ -9,7 +9,7 @@ use lib.Dec.{eqb, ltb}
 use lib.ListN.{length, getD}
 use borrow.Author.Tests.{lt-leb, eqb-false, ne-eqb, le-ltb}
 use Rattle.lemmas.proofs.Auto.{tests}
-use Rattle.table.specs.Table.{addresses, pastTop, outside, regionRow, noRegion, keyRow}
+use Rattle.table.specs.Table.{addresses, pastTop, outside, regionRow, noRegion, keyRow, memoryOffset}
 use Rattle.table.specs.View.{regionOf}
 use Rattle.table.specs.Claims.{RegionsSound, RegionFits}
 use Rattle.table.specs.declared.Region.{Region}
@@ -18,7 +18,7 @@ use Rattle.pair.specs.declared.OpenMessage.{OpenMessage}
 use Rattle.request_spec.specs.declared.Packet.{Packet}
 use Rattle.delivery.specs.Plain.{regionOffset}
 use Rattle.delivery.specs.Demand.{InRegion}
-use Rattle.request_spec.specs.Verdict.{memoryOffset, outOfSequence, notEnabled, padEarly, overLimit, noneWaiting, entryOutside, keyFails, keyLacking, bytesToCome, rightOf, lacks, lengthsOff, current, requestCode, expectedCode}
+use Rattle.request_spec.specs.Verdict.{outOfSequence, notEnabled, padEarly, overLimit, noneWaiting, entryOutside, keyFails, keyLacking, bytesToCome, rightOf, lacks, lengthsOff, current, requestCode, expectedCode}
 
 -- the checks before that of the entry, and those after
 pub record Before (s : Setup) (opened : OpenMessage) (p : Packet) : Type 0 where

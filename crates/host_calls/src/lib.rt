@@ -18,18 +18,6 @@ ghost use mathlib.Core.Path.{_≡_};
 ghost use Rattle.pair.specs.Pair.{freshPair, blankPair};
 ghost use Rattle.pair.specs.Host.{outcome, setUp, setUpRegions, resetTo, resetRegions, madeReady, addStatus, addRegions, removeStatus, removeRegions, posted, postEntries};
 
-pub(crate) fn wide(x: usize) -> u64
-    ensures { λ r. ⌜ r ≡ x ⌝ }
-{
-    x as u64
-}
-
-fn wide32(x: u32) -> u64
-    ensures { λ r. ⌜ r ≡ x ⌝ }
-{
-    x as u64
-}
-
 // A pair as set-up and reset leave it.
 fn fresh(setup: Setup) -> Pair
     ensures { λ r. ⌜ r ≡ freshPair setup ⌝ }
@@ -156,12 +144,12 @@ pub fn add_region(pair: Pair, regions: &mut [[u64; 7]; 16], region: Region) -> S
         region.address,
         region.length,
         region.offset,
-        wide(pair.setup.memory),
+        number::usize_to_u64(pair.setup.memory),
     );
     if off {
         return Status::OutOfRange;
     }
-    let used = table::find(regions, false, wide32(region.key));
+    let used = table::find(regions, false, number::u32_to_u64(region.key));
     let free = table::find(regions, true, 0);
     if used < 16 {
         return Status::KeyInUse;
@@ -179,7 +167,7 @@ pub fn remove_region(regions: &mut [[u64; 7]; 16], key: u32) -> Status
     ensures { λ r. ⌜ r ≡ removeStatus (now (regions .entry)) key ⌝ }
     ensures { λ r. ⌜ now (regions .exit) ≡ removeRegions (now (regions .entry)) key ⌝ }
 {
-    let at = table::find(regions, false, wide32(key));
+    let at = table::find(regions, false, number::u32_to_u64(key));
     if 16 <= at {
         return Status::NoSuchKey;
     }
@@ -200,7 +188,11 @@ pub fn post_entry(pair: Pair, entries: &mut [[u64; 3]; 16], entry: Entry) -> Hos
     if bad {
         return outcome(Status::OutOfRange, pair);
     }
-    let off = table::outside(entry.offset, entry.length, wide(pair.setup.memory));
+    let off = table::outside(
+        entry.offset,
+        entry.length,
+        number::usize_to_u64(pair.setup.memory),
+    );
     if off {
         return outcome(Status::OutOfRange, pair);
     }

@@ -1,5 +1,4 @@
 // Pairs with a number out of its range, which no call makes.
-use crate::wide;
 use pair::Pair;
 use pair::Setup;
 use sequence::Msn;
@@ -11,7 +10,11 @@ ghost use Rattle.pair.specs.Sound.{setupUnfit, setupUnsound, ringUnsound, sendU
 fn outside(offset: usize, length: usize, memory: usize) -> bool
     ensures { λ r. ⌜ r ≡ outside offset length memory ⌝ }
 {
-    table::outside(wide(offset), wide(length), wide(memory))
+    table::outside(
+        number::usize_to_u64(offset),
+        number::usize_to_u64(length),
+        number::usize_to_u64(memory),
+    )
 }
 
 // Whether a number of the set-up is bad.
@@ -91,7 +94,7 @@ pub fn message_unsound(kind: u8, stored: usize, address: u64, length: usize, ent
     if pair::LIMIT < length {
         return true;
     }
-    table::past_top(address, wide(stored))
+    table::past_top(address, number::usize_to_u64(stored))
 }
 
 // A read answer has no more responses to send than there are, lies in memory, and has numbers of 24 bits.

@@ -10,18 +10,11 @@ ghost use mathlib.Core.Path.{_≡_};
 ghost use Prim.Native.Nat.{_+_, _*_, _<_};
 ghost use lib.ListN.{getD};
 
-fn wide(x: u8) -> usize
-    ensures { λ r. ⌜ r ≡ x ⌝ }
-    ensures { λ r. ⌜ r < 256 ⌝ }
-{
-    x as usize
-}
-
 // The length of a record's packet, big-endian.
 fn length_of(two: &[u8; 2]) -> usize
     ensures { λ r. ⌜ r ≡ getD (now (two .entry)) 0 0 * 256 + getD (now (two .entry)) 1 0 ⌝ }
 {
-    wide(two[0]) * 256 + wide(two[1])
+    number::u8_to_usize(two[0]) * 256 + number::u8_to_usize(two[1])
 }
 
 // Reads the packet of a record and lists it. False where the input ends before its last byte.

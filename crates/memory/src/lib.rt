@@ -19,23 +19,16 @@ pub fn store(mem: &mut [u8], at: usize, payload: &[u8])
     bytes::copy(payload, &mut mem[at..end]);
 }
 
-fn wide(x: u8) -> u64
-    ensures { λ r. ⌜ r ≡ x ⌝ }
-    ensures { λ r. ⌜ r < 256 ⌝ }
-{
-    x as u64
-}
-
 // Four bytes as one number, low byte first: a word is read by halves, whose sums are short enough to bound.
 fn half(mem: &[u8], at: usize) -> u64
     requires { ⌜ at + 4 ≤ length (now mem) ⌝ }
     ensures { λ r. ⌜ r ≡ lowNumber (take 4 (drop at (now (mem .entry)))) ⌝ }
     ensures { λ r. ⌜ r < 4294967296 ⌝ }
 {
-    let a = wide(mem[at]);
-    let b = wide(mem[at + 1]);
-    let c = wide(mem[at + 2]);
-    let d = wide(mem[at + 3]);
+    let a = number::u8_to_u64(mem[at]);
+    let b = number::u8_to_u64(mem[at + 1]);
+    let c = number::u8_to_u64(mem[at + 2]);
+    let d = number::u8_to_u64(mem[at + 3]);
     a + b * 256 + c * 65536 + d * 16777216
 }
 

@@ -1,6 +1,7 @@
 // The numbers of the answers.
 use crate::Status;
 ghost use mathlib.Core.Path.{_≡_};
+ghost use lib.Dec.{eqb};
 ghost use Rattle.pair.specs.Answer.{statusNumber};
 
 impl Status {
@@ -29,5 +30,12 @@ impl Status {
             Status::KeyInUse => 38,
             Status::BadNumber => 39,
         }
+    }
+
+    // Whether it is that answer.
+    pub fn is(self, other: Status) -> bool
+        ensures { λ r. ⌜ r ≡ eqb (statusNumber self) (statusNumber other) ⌝ }
+    {
+        self.number() == other.number()
     }
 }

@@ -10,14 +10,8 @@ pub(crate) struct Record {
     pub(crate) length: usize,
 }
 
-fn wide(x: u8) -> usize
-    ensures { λ r. ⌜ r < 256 ⌝ }
-{
-    x as usize
-}
-
 fn length_of(two: &[u8; 2]) -> usize {
-    wide(two[0]) * 256 + wide(two[1])
+    number::u8_to_usize(two[0]) * 256 + number::u8_to_usize(two[1])
 }
 
 fn none() -> Record

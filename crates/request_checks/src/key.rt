@@ -1,6 +1,4 @@
 // The check of an R_Key: its region holds the bytes still to come, with the right.
-use crate::less;
-use crate::wide;
 use pair::OpenMessage;
 ghost use mathlib.Core.Path.{_≡_};
 ghost use Prim.Native.Nat.{_+_, _≤_};
@@ -37,7 +35,7 @@ fn lacks(region: [u64; 7], right: u64, memory: usize, address: u64, n: u64) -> b
     if right == 0 {
         return true;
     }
-    let off = table::outside(region[3], region[2], wide(memory));
+    let off = table::outside(region[3], region[2], number::usize_to_u64(memory));
     if off {
         return true;
     }
@@ -58,15 +56,21 @@ pub fn key_fails(memory: usize, kind: u8, m: OpenMessage, region: [u64; 7]) -> b
     if kind == opcode::SEND {
         return false;
     }
-    let needed = less(m.length, m.stored);
+    let needed = number::saturating_sub(m.length, m.stored);
     if needed == 0 {
         return false;
     }
-    let stored = wide(m.stored);
+    let stored = number::usize_to_u64(m.stored);
     let top = table::past_top(m.address, stored);
     if top {
         return true;
     }
     let right = right_of(kind, region);
-    lacks(region, right, memory, m.address + stored, wide(needed))
+    lacks(
+        region,
+        right,
+        memory,
+        m.address + stored,
+        number::usize_to_u64(needed),
+    )
 }

@@ -1,6 +1,5 @@
 // The check of lengths.
 use crate::carrying;
-use crate::wide;
 use pair::OpenMessage;
 use request_spec::Packet;
 ghost use mathlib.Core.Path.{_≡_};
@@ -67,7 +66,11 @@ fn total_off(kind: u8, place: u8, stored: usize, size: usize, length: usize, mos
     ensures { λ r. ⌜ r ≡ totalOff kind place stored size length most ⌝ }
 {
     if kind == opcode::SEND {
-        return over(wide(stored), wide(size), most);
+        return over(
+            number::usize_to_u64(stored),
+            number::usize_to_u64(size),
+            most,
+        );
     }
     let last = pmtu::ends(place);
     if last {

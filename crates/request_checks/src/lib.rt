@@ -9,27 +9,12 @@ pub use key::key_fails;
 pub use operands::packet_of;
 use pair::OpenMessage;
 use pair::Setup;
+use pair::Status;
 pub use place::uses_entry;
 use request_spec::Packet;
 ghost use mathlib.Core.Path.{_≡_};
-ghost use Prim.Native.Nat.{_-_};
-ghost use Rattle.request_spec.specs.Verdict.{carrying, notEnabled, overLimit, current, requestCode, expectedCode};
-
-pub(crate) fn wide(x: usize) -> u64
-    ensures { λ r. ⌜ r ≡ x ⌝ }
-{
-    x as u64
-}
-
-// How much a is above b, 0 where it is not.
-pub fn less(a: usize, b: usize) -> usize
-    ensures { λ r. ⌜ r ≡ a - b ⌝ }
-{
-    if a < b {
-        return 0;
-    }
-    a - b
-}
+ghost use Rattle.pair.specs.Answer.{statusNumber};
+ghost use Rattle.request_spec.specs.Verdict.{carrying, fragment, notEnabled, overLimit, current, requestCodeOf, expectedCodeOf};
 
 // Whether the kind is one of the two that carry bytes.
 pub fn carrying(kind: u8) -> bool
@@ -83,63 +68,77 @@ pub fn current(opened: OpenMessage, p: Packet) -> OpenMessage
     opened
 }
 
-// The checks but that of the sequence: 0, or the number of the answer.
-pub fn request_code(
+// Whether the packet is a Middle or Last of a kind that has none, as no header says.
+pub fn fragment(p: Packet) -> bool
+    ensures { λ r. ⌜ r ≡ fragment p ⌝ }
+{
+    let carries = carrying(p.kind);
+    if carries {
+        return false;
+    }
+    let begins = pmtu::starts(p.place);
+    !begins
+}
+
+// The checks but that of the sequence, for a packet of the message m: the answer of the first that fails, or that none
+// does.
+pub fn request_status(
     s: Setup,
-    opened: OpenMessage,
+    opened: u8,
+    m: OpenMessage,
     p: Packet,
     count: usize,
     entry: [u64; 3],
     region: [u64; 7],
-) -> u8
-    ensures { λ r. ⌜ r ≡ requestCode s opened p count entry region ⌝ }
+) -> Status
+    ensures { λ r. ⌜ statusNumber r ≡ requestCodeOf s opened m p count entry region ⌝ }
 {
     let off = not_enabled(s, p.kind);
     if off {
-        return 17;
+        return Status::InvalidRequestNak;
     }
-    let padded = place::pad_early(p.place, p.pad);
-    if padded {
-        return 17;
+    let early = place::pad_early(p.place, p.pad);
+    if early {
+        return Status::InvalidRequestNak;
     }
     let long = over_limit(p.operands.length);
     if long {
-        return 17;
+        return Status::InvalidRequestNak;
     }
-    let unready = place::none_waiting(p.kind, p.place, p.operands.immediate, opened.kind, count);
+    let unready = place::none_waiting(p.kind, p.place, p.operands.immediate, opened, count);
     if unready {
-        return 19;
+        return Status::NotReadyNak;
     }
     let stray = place::entry_outside(p.kind, p.operands.immediate, entry, s.memory);
     if stray {
-        return 34;
+        return Status::OutOfRange;
     }
-    let m = current(opened, p);
     let lacking = key_fails(s.memory, p.kind, m, region);
     if lacking {
-        return 18;
+        return Status::AccessNak;
     }
     let bad = lengths::lengths_off(p, s.pmtu, m, entry[2]);
     if bad {
-        return 17;
+        return Status::InvalidRequestNak;
     }
-    0
+    Status::Executed
 }
 
 // All of them, on a reliable connection.
-pub fn expected_code(
+pub fn expected_status(
     s: Setup,
-    opened: OpenMessage,
+    opened: u8,
+    m: OpenMessage,
     p: Packet,
     count: usize,
     entry: [u64; 3],
     region: [u64; 7],
-) -> u8
-    ensures { λ r. ⌜ r ≡ expectedCode s opened p count entry region ⌝ }
+) -> Status
+    ensures { λ r. ⌜ statusNumber r ≡ expectedCodeOf s opened m p count entry region ⌝ }
 {
-    let unexpected = place::out_of_sequence(opened.kind, p.kind, p.place);
+    let unexpected = place::out_of_sequence(opened, p.kind, p.place);
     if unexpected {
-        return 17;
+        return Status::InvalidRequestNak;
     }
-    request_code(s, opened, p, count, entry, region)
+    request_status(s, opened, m, p, count, entry, region)
 }

@@ -1,13 +1,13 @@
 // A packet as numbers.
-use crate::less;
 use header::AtomicEth;
 use header::Extension;
 use header::Header;
 use header::Reth;
+use opcode::OpcodeClass;
 use request_spec::Operands;
 use request_spec::Packet;
 ghost use mathlib.Core.Path.{_≡_};
-ghost use Rattle.request_spec.specs.Packet.{remote, alone, exchanging, operandsOf, packetOf};
+ghost use Rattle.request_spec.specs.Packet.{remote, alone, exchanging, operandsOf, packetBy};
 
 fn remote(a: Reth, immediate: bool, value: u32) -> Operands
     ensures { λ r. ⌜ r ≡ remote a immediate value ⌝ }
@@ -66,16 +66,15 @@ fn operands_of(e: Extension) -> Operands
     }
 }
 
-// The packet of n bytes that has this header, as numbers.
-pub fn packet_of(h: Header, n: usize) -> Packet
-    ensures { λ r. ⌜ r ≡ packetOf h n ⌝ }
+// The packet of n bytes that has this header, as numbers, by the class of its opcode.
+pub fn packet_of(h: Header, class: OpcodeClass, n: usize) -> Packet
+    ensures { λ r. ⌜ r ≡ packetBy class h n ⌝ }
 {
     let bth = h.bth;
-    let class = opcode::class(bth.opcode);
     let extension = h.extension;
     let operands = operands_of(extension);
     let psn = bth.psn;
-    let padded = less(n, class.length);
+    let padded = number::saturating_sub(n, class.length);
     Packet {
         kind: class.kind,
         place: class.place,

@@ -1,6 +1,4 @@
 // The checks of a packet's place in its message, its pad and its receive entry.
-use crate::less;
-use crate::wide;
 ghost use mathlib.Core.Path.{_≡_};
 ghost use Rattle.request_spec.specs.Verdict.{outOfSequence, padEarly, needsEntry, entriesWaiting, noneWaiting, usesEntry, entryOutside};
 
@@ -38,7 +36,7 @@ fn entries_waiting(opened: u8, count: usize) -> usize
     ensures { λ r. ⌜ r ≡ entriesWaiting opened count ⌝ }
 {
     if opened == opcode::SEND {
-        return less(count, 1);
+        return number::saturating_sub(count, 1);
     }
     count
 }
@@ -68,7 +66,7 @@ pub(crate) fn entry_outside(kind: u8, immediate: bool, entry: [u64; 3], memory: 
 {
     let uses = uses_entry(kind, immediate);
     if uses {
-        return table::outside(entry[1], entry[2], wide(memory));
+        return table::outside(entry[1], entry[2], number::usize_to_u64(memory));
     }
     false
 }

@@ -2,7 +2,7 @@
 use Prim.Native.Nat.{ℕ, _-_}
 use mathlib.Core.Bool.{Bool, true, false}
 use Rattle.opcode.specs.Opcode.{classOf}
-use Rattle.header.specs.Write.{headerLength}
+use Rattle.opcode.specs.declared.OpcodeClass.{OpcodeClass}
 use Rattle.header.specs.declared.Reth.{Reth}
 use Rattle.header.specs.declared.AtomicEth.{AtomicEth}
 use Rattle.header.specs.declared.Extension.{Extension}
@@ -35,16 +35,19 @@ operandsOf (Atomic a) = exchanging a
 operandsOf (Acknowledge a) = alone false 0
 operandsOf (AtomicAcknowledge a v) = alone false 0
 
--- the packet of n bytes that has this header
-unfoldable pub packetOf : Header → ℕ → Packet
-packetOf h n =
+-- the packet of n bytes that has this header, by the class of its opcode
+abbrev pub packetBy : OpcodeClass → Header → ℕ → Packet
+packetBy c h n =
     record {
-      kind = classOf (h .bth .opcode) .kind;
-      place = classOf (h .bth .opcode) .place;
+      kind = c .kind;
+      place = c .place;
       ackreq = h .bth .ackreq;
       pad = h .bth .pad;
       psn = h .bth .psn;
-      start = headerLength h;
-      padded = n - headerLength h;
+      start = c .length;
+      padded = n - c .length;
       operands = operandsOf (h .extension);
     }
+
+unfoldable pub packetOf : Header → ℕ → Packet
+packetOf h n = packetBy (classOf (h .bth .opcode)) h n

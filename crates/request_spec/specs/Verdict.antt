@@ -6,6 +6,7 @@ use lib.Dec.{eqb, ltb}
 use lib.ListN.{getD}
 use Rattle.pmtu.specs.Pieces.{starts, ends}
 use Rattle.table.specs.Table.{outside, pastTop}
+use Rattle.pair.specs.Number as Number
 use Rattle.pair.specs.Sound.{memoryLimit}
 use Rattle.pair.specs.declared.Setup.{Setup}
 use Rattle.pair.specs.declared.OpenMessage.{OpenMessage}
@@ -14,6 +15,10 @@ use Rattle.request_spec.specs.declared.Packet.{Packet}
 -- kinds: 0 SEND, 6 WRITE, 12 READ, 19 CmpSwap, 20 FetchAdd, 21 reserved; those below 12 carry bytes
 unfoldable pub carrying : ℕ → Bool
 carrying kind = ltb kind 12
+
+-- READs and atomics are messages of one packet: no opcode is a Middle or Last of theirs
+unfoldable pub fragment : Packet → Bool
+fragment p = not (carrying (p .kind)) && not (starts (p .place))
 
 -- Sequence: what begins a message comes while none is open, which is 255; a Middle or Last goes on with one of its kind
 unfoldable pub outOfSequence : ℕ → ℕ → ℕ → Bool
@@ -80,10 +85,6 @@ unfoldable pub keyFails : ℕ → ℕ → OpenMessage → List ℕ → Bool
 keyFails memory kind m region =
     keyLacking kind region memory (m .address + m .stored) (bytesToCome (m .length) (m .stored))
 
--- where in memory an address of the region lies; no bytes lie at 0
-unfoldable pub memoryOffset : List ℕ → ℕ → ℕ → ℕ
-memoryOffset region address needed = cond (eqb needed 0) 0 (getD region 3 0 + (address - getD region 1 0))
-
 -- Lengths. Before the end of a message the PMTU is filled; at its end there is no more than that, and in a Last something
 unfoldable pub sizeOff : ℕ → ℕ → ℕ → Bool
 sizeOff place pmtu size = cond (ends place) ((eqb place 2 && eqb size 0) || ltb pmtu size) (not (eqb size pmtu))
@@ -116,19 +117,27 @@ current opened p =
     (record { kind = p .kind; stored = 0; address = p .operands .address; key = p .operands .key; length = p .operands .length })
     opened
 
--- The checks but the first: 0, or the number of the answer. By the set-up, the message under way, the packet, the count of
--- entries, the entry's row and the region's
-unfoldable pub requestCode : Setup → OpenMessage → Packet → ℕ → List ℕ → List ℕ → ℕ
-requestCode s opened p count entry region =
-    cond (notEnabled s (p .kind)) 17
-    (cond (padEarly (p .place) (p .pad)) 17
-    (cond (overLimit (p .operands .length)) 17
-    (cond (noneWaiting (p .kind) (p .place) (p .operands .immediate) (opened .kind) count) 19
-    (cond (entryOutside (p .kind) (p .operands .immediate) entry (s .memory)) 34
-    (cond (keyFails (s .memory) (p .kind) (current opened p) region) 18
-    (cond (lengthsOff p (s .pmtu) (current opened p) (getD entry 2 0)) 17 0))))))
+-- The checks but the first: the number of the answer, 0 where none fails. By the set-up, the kind of the open message, the
+-- message m that the packet is of, the packet, the count of entries, the entry's row and the region's
+abbrev pub requestCodeOf : Setup → ℕ → OpenMessage → Packet → ℕ → List ℕ → List ℕ → ℕ
+requestCodeOf s opened m p count entry region =
+    cond (notEnabled s (p .kind)) Number.invalidRequestNak
+    (cond (padEarly (p .place) (p .pad)) Number.invalidRequestNak
+    (cond (overLimit (p .operands .length)) Number.invalidRequestNak
+    (cond (noneWaiting (p .kind) (p .place) (p .operands .immediate) opened count) Number.notReadyNak
+    (cond (entryOutside (p .kind) (p .operands .immediate) entry (s .memory)) Number.outOfRange
+    (cond (keyFails (s .memory) (p .kind) m region) Number.accessNak
+    (cond (lengthsOff p (s .pmtu) m (getD entry 2 0)) Number.invalidRequestNak Number.executed))))))
 
 -- All of them, on RC
+abbrev pub expectedCodeOf : Setup → ℕ → OpenMessage → Packet → ℕ → List ℕ → List ℕ → ℕ
+expectedCodeOf s opened m p count entry region =
+    cond (outOfSequence opened (p .kind) (p .place)) Number.invalidRequestNak (requestCodeOf s opened m p count entry region)
+
+-- The same, of the message that the packet is of while this one is open
+unfoldable pub requestCode : Setup → OpenMessage → Packet → ℕ → List ℕ → List ℕ → ℕ
+requestCode s opened p count entry region = requestCodeOf s (opened .kind) (current opened p) p count entry region
+
 unfoldable pub expectedCode : Setup → OpenMessage → Packet → ℕ → List ℕ → List ℕ → ℕ
 expectedCode s opened p count entry region =
-    cond (outOfSequence (opened .kind) (p .kind) (p .place)) 17 (requestCode s opened p count entry region)
+    cond (outOfSequence (opened .kind) (p .kind) (p .place)) Number.invalidRequestNak (requestCode s opened p count entry region)

@@ -54,7 +54,7 @@ fn index_of(a: ReadAnswer, pmtu: usize) -> usize
     ensures { λ r. ⌜ r ≡ indexOf a pmtu ⌝ }
 {
     let count = pmtu::count(a.length, pmtu);
-    request_checks::less(count, a.remaining)
+    number::saturating_sub(count, a.remaining)
 }
 
 fn response_opcode(place: u8) -> u8
@@ -132,7 +132,7 @@ fn one_fewer(pair: Pair) -> Pair
     ensures { λ r. ⌜ r ≡ with pair (pair .state) (pair .nakmark) (oneFewer (pair .read)) ⌝ }
 {
     let mut read = pair.read;
-    read.remaining = request_checks::less(pair.read.remaining, 1);
+    read.remaining = number::saturating_sub(pair.read.remaining, 1);
     let mut next = pair;
     next.read = read;
     next

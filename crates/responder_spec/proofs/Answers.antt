@@ -17,7 +17,7 @@ use Rattle.opcode.specs.Opcode.{serviceOf, lowOf, kindOf, lowClass, reservedCla
 use Rattle.header.specs.declared.Header.{Header}
 use Rattle.header.specs.declared.HeaderRead.the-variants as read
 use Rattle.pmtu.specs.Pieces.{pieces}
-use Rattle.table.specs.Table.{slotAt, noRegion}
+use Rattle.table.specs.Table.{slotAt, noRegion, memoryOffset}
 use Rattle.table.specs.View.{regionOf, newestSaved}
 use Rattle.pair.specs.Answer.{statusNumber, executed}
 use Rattle.pair.specs.Claims.{Sound}
@@ -28,7 +28,7 @@ use Rattle.pair.specs.Pair.{noMessage}
 use Rattle.pair.specs.declared.Status.the-variants as status
 use Rattle.pair.proofs.Known.{sound}
 use Rattle.request_spec.specs.Packet.{packetOf}
-use Rattle.request_spec.specs.Verdict.{memoryOffset, carrying, outOfSequence, notEnabled, padEarly, overLimit, noneWaiting, entryOutside, rightOf, lacks, bytesToCome, keyLacking, keyFails, lengthsOff, current, requestCode, expectedCode}
+use Rattle.request_spec.specs.Verdict.{carrying, outOfSequence, notEnabled, padEarly, overLimit, noneWaiting, entryOutside, rightOf, lacks, bytesToCome, keyLacking, keyFails, lengthsOff, current, requestCode, expectedCode}
 use Rattle.request_spec.specs.Claims.{Place, Carries, IsAtomic, Served, KeyGood, IsCurrent, Tells, JudgedBy}
 use Rattle.request_spec.proofs.Conditions.{limit-tested, key-tested, of-not}
 use Rattle.request_spec.proofs.Order.{current-one, order}

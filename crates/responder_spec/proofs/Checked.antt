@@ -10,12 +10,12 @@ use lib.ListN.{getD}
 use borrow.Author.Tests.{leb-false, eqb-true, eqb-false, ltb-true, ltb-false}
 use Rattle.lemmas.proofs.Tests.{or-left, or-right}
 use Rattle.pmtu.specs.Pieces.{starts}
-use Rattle.table.specs.Table.{addresses, pastTop, outside}
+use Rattle.table.specs.Table.{addresses, pastTop, outside, memoryOffset}
 use Rattle.pair.specs.declared.Setup.{Setup}
 use Rattle.pair.specs.declared.OpenMessage.{OpenMessage}
 use Rattle.request_spec.proofs.Conditions.{of-not}
 use Rattle.request_spec.specs.declared.Packet.{Packet}
-use Rattle.request_spec.specs.Verdict.{carrying, outOfSequence, notEnabled, padEarly, overLimit, noneWaiting, entryOutside, rightOf, lacks, keyLacking, keyFails, memoryOffset, lengthsOff, current, requestCode, expectedCode}
+use Rattle.request_spec.specs.Verdict.{carrying, outOfSequence, notEnabled, padEarly, overLimit, noneWaiting, entryOutside, rightOf, lacks, keyLacking, keyFails, lengthsOff, current, requestCode, expectedCode}
 
 -- each check, passed
 pub record Checked (s : Setup) (opened : OpenMessage) (p : Packet) (count : ℕ) (entry region : List ℕ) : Type 0 where

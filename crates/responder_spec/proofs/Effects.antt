@@ -19,7 +19,7 @@ use Rattle.memory.specs.Claims.{OnlyWord}
 use Rattle.memory.proofs.Words.{fetch-within, swap-within}
 use Rattle.packet.specs.Packet.{payloadOf}
 use Rattle.pmtu.specs.Pieces.{pieces, ends}
-use Rattle.table.specs.Table.{slotAt}
+use Rattle.table.specs.Table.{slotAt, memoryOffset}
 use Rattle.table.specs.View.{regionOf, savedRing, savedRows}
 use Rattle.pair.specs.Answer.{statusNumber, executed}
 use Rattle.pair.specs.Claims.{statusOf}
@@ -31,7 +31,7 @@ use Rattle.pair.specs.declared.OpenMessage.{OpenMessage}
 use Rattle.pair.specs.declared.ReadAnswer.{ReadAnswer}
 use Rattle.pair.proofs.Known.{number-back}
 use Rattle.request_spec.specs.Packet.{remote, operandsOf, packetOf}
-use Rattle.request_spec.specs.Verdict.{memoryOffset, payloadSize}
+use Rattle.request_spec.specs.Verdict.{payloadSize}
 use Rattle.request_spec.specs.declared.Operands.{Operands}
 use Rattle.request_spec.specs.declared.Packet.{Packet}
 use Rattle.responder_spec.specs.declared.Decision.{Decision}
@@ -160,7 +160,7 @@ module _ (q : Pair) (regions saved : List (List ℕ)) (m p out : List ℕ) where
         act = d .act;
         at = d .at;
         start = d .start;
-        end = d .end;
+        size = d .size;
         swap = d .swap;
         compare = d .compare;
         message = d .message;

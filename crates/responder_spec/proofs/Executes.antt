@@ -10,7 +10,7 @@ use lib.ListN.{getD}
 use borrow.Author.Tests.{eq-eqb, eqb-true, eqb-false, ltb-true, ltb-false}
 use Rattle.lemmas.proofs.Tests.{or-right}
 use Rattle.pmtu.specs.Pieces.{starts, ends}
-use Rattle.table.specs.Table.{outside}
+use Rattle.table.specs.Table.{outside, memoryOffset}
 use Rattle.pair.specs.Answer.{statusNumber}
 use Rattle.pair.specs.Calls.{Whole}
 use Rattle.pair.specs.Pair.{noMessage}
@@ -20,7 +20,7 @@ use Rattle.pair.proofs.Posting.{held-some}
 use Rattle.pair.specs.declared.OpenMessage.{OpenMessage}
 use Rattle.pair.specs.declared.Status.the-variants as status
 use Rattle.request_spec.specs.declared.Packet.{Packet}
-use Rattle.request_spec.specs.Verdict.{carrying, overLimit, needsEntry, entriesWaiting, noneWaiting, usesEntry, entryOutside, bytesToCome, keyFails, memoryOffset, sizeOff, totalOff, bareOff, payloadSize, lengthsOff, current}
+use Rattle.request_spec.specs.Verdict.{carrying, overLimit, needsEntry, entriesWaiting, noneWaiting, usesEntry, entryOutside, bytesToCome, keyFails, sizeOff, totalOff, bareOff, payloadSize, lengthsOff, current}
 use Rattle.responder_spec.specs.Decide.{noCompletion, completes, completionOf, messageAfter, storePayload, runAtomic, acceptRead, execute, regionFor, headEntry}
 use Rattle.responder_spec.specs.Apply.{actsAtomic}
 use Rattle.responder_spec.specs.Kept.{Steady}

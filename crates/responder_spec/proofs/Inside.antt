@@ -9,10 +9,10 @@ use lib.ListN.{getD}
 use borrow.Author.Tests.{eqb-false, eqb-true, ltb-true, ltb-false}
 use Rattle.lemmas.proofs.Tests.{or-right}
 use Rattle.pmtu.specs.Pieces.{ends}
-use Rattle.table.specs.Table.{outside}
+use Rattle.table.specs.Table.{outside, memoryOffset}
 use Rattle.pair.specs.declared.Setup.{Setup}
 use Rattle.pair.specs.declared.OpenMessage.{OpenMessage}
-use Rattle.request_spec.specs.Verdict.{carrying, usesEntry, entryOutside, bytesToCome, keyLacking, keyFails, memoryOffset, sizeOff, totalOff, bareOff, payloadSize, lengthsOff, current}
+use Rattle.request_spec.specs.Verdict.{carrying, usesEntry, entryOutside, bytesToCome, keyLacking, keyFails, sizeOff, totalOff, bareOff, payloadSize, lengthsOff, current}
 use Rattle.request_spec.specs.declared.Packet.{Packet}
 use Rattle.responder_spec.specs.Decide.{targetOffset}
 use Rattle.responder_spec.proofs.Codes.{Passed}

@@ -25,7 +25,7 @@ use Rattle.responder_spec.proofs.Rows.{passed}
 
 memory-kept : (d : Decision) (m p : List ℕ) → length (memoryBy d m p) ≡ length m
 unfolding memoryBy
-memory-kept d m p = go (eqb (d .act) 1) (eqb (d .act) 2) (eqb (d .act) 3) (take (d .end - d .start) (drop (d .start) p))
+memory-kept d m p = go (eqb (d .act) 1) (eqb (d .act) 2) (eqb (d .act) 3) (take (d .size) (drop (d .start) p))
   where
     go : (a b c : Bool) (x : List ℕ)
         → length (cond a (store m (d .at) x) (cond b (fetchAdded m (d .at) (d .swap)) (cond c (swapped m (d .at) (d .compare) (d .swap)) m))) ≡ length m

@@ -25,7 +25,8 @@ use Rattle.pair.specs.declared.OpenMessage.{OpenMessage}
 use Rattle.pair.specs.declared.Pair.{Pair}
 use Rattle.pair.specs.declared.Status.the-variants as status
 use Rattle.request_spec.specs.Packet.{operandsOf, packetOf}
-use Rattle.request_spec.specs.Verdict.{carrying, bytesToCome, memoryOffset, payloadSize, current}
+use Rattle.request_spec.specs.Verdict.{carrying, bytesToCome, payloadSize, current}
+use Rattle.table.specs.Table.{memoryOffset}
 use Rattle.request_spec.specs.Claims.{Place, InSequence, HasMore, Ends, IsAtomic, Gives, GivesRest, LengthsGood, IsCurrent, JudgedBy}
 use Rattle.request_spec.proofs.Conditions.{current-tested}
 use Rattle.request_spec.proofs.Order.{current-one, order}

@@ -193,19 +193,15 @@ only-placed old d at offset n lo hi w =
 
 -- the payload
 pub payload-size : (p : List ℕ) → length (payloadOf p) ≡ packetIn p .padded - packetIn p .pad
-unfolding payloadOf packetOf
+unfolding payloadOf packetOf headerLength
 payload-size p =
     let s = headerLength (headerOf p) in
     let n = length p - s - headerOf p .bth .pad in
     omega (arith, length-take n (drop s p), length-drop s p)
 
-pub payload-is : (p : List ℕ) → take (packetIn p .start + payloadSize (packetIn p) - packetIn p .start) (drop (packetIn p .start) p) ≡ payloadOf p
-unfolding payloadOf payloadSize packetOf
-payload-is p =
-    let s = headerLength (headerOf p) in
-    let n = length p - s - headerOf p .bth .pad in
-    let e : s + n - s ≡ n = omega arith in
-    ap (λ k. take k (drop s p)) e
+pub payload-is : (p : List ℕ) → take (payloadSize (packetIn p)) (drop (packetIn p .start) p) ≡ payloadOf p
+unfolding payloadOf payloadSize packetOf headerLength
+payload-is p = refl
 
 -- places, by the tests
 pub ends-true : (place : ℕ) → Ends place → ends place ≡ true

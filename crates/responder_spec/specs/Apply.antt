@@ -20,7 +20,7 @@ use Rattle.responder_spec.specs.declared.Decision.{Decision}
 -- The acts: 1 the packet's bytes are placed, 2 FetchAdd, 3 CmpSwap
 unfoldable pub memoryBy : Decision → List ℕ → List ℕ → List ℕ
 memoryBy d m p =
-    cond (eqb (d .act) 1) (store m (d .at) (take (d .end - d .start) (drop (d .start) p)))
+    cond (eqb (d .act) 1) (store m (d .at) (take (d .size) (drop (d .start) p)))
     (cond (eqb (d .act) 2) (fetchAdded m (d .at) (d .swap))
     (cond (eqb (d .act) 3) (swapped m (d .at) (d .compare) (d .swap)) m))
 

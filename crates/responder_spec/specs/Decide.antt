@@ -13,7 +13,7 @@ use Rattle.header.specs.declared.Header.{Header}
 use Rattle.header.specs.declared.HeaderRead.{HeaderRead}
 use Rattle.header.specs.declared.HeaderRead.the-variants as read
 use Rattle.pmtu.specs.Pieces.{pieces, starts, ends}
-use Rattle.table.specs.Table.{slotAt, noRegion}
+use Rattle.table.specs.Table.{slotAt, noRegion, memoryOffset}
 use Rattle.table.specs.View.{regionOf, newestSaved}
 use Rattle.table.specs.declared.Saved.{Saved}
 use Rattle.table.specs.declared.Saved.the-variants.{Value, Nothing}
@@ -26,7 +26,7 @@ use Rattle.pair.specs.declared.Pair.{Pair}
 use Rattle.pair.specs.declared.Status.{Status}
 use Rattle.pair.specs.declared.Status.the-variants as status
 use Rattle.request_spec.specs.Packet.{packetOf}
-use Rattle.request_spec.specs.Verdict.{carrying, notEnabled, overLimit, keyFails, bytesToCome, memoryOffset, payloadSize, current, requestCode, expectedCode}
+use Rattle.request_spec.specs.Verdict.{carrying, notEnabled, overLimit, keyFails, bytesToCome, payloadSize, current, requestCode, expectedCode}
 use Rattle.request_spec.specs.declared.Packet.{Packet}
 use Rattle.responder_spec.specs.declared.Completion.{Completion}
 use Rattle.responder_spec.specs.declared.Decision.{Decision}
@@ -45,7 +45,7 @@ replyOnly answer outgoing psn syndrome value =
       act = 0;
       at = 0;
       start = 0;
-      end = 0;
+      size = 0;
       swap = 0;
       compare = 0;
       message = noMessage;
@@ -118,7 +118,7 @@ storePayload p m entry region =
       act = 1;
       at = targetOffset (p .kind) m entry region;
       start = p .start;
-      end = p .start + payloadSize p;
+      size = payloadSize p;
       swap = 0;
       compare = 0;
       message = messageAfter (p .place) m (payloadSize p);
@@ -141,7 +141,7 @@ runAtomic p m opened region =
       act = cond (eqb (p .kind) 20) 2 3;
       at = memoryOffset region (m .address) (m .length);
       start = 0;
-      end = 0;
+      size = 0;
       swap = p .operands .swap;
       compare = p .operands .compare;
       message = opened;
@@ -164,7 +164,7 @@ beginRead answer opened at length psns ends responses psn =
       act = 0;
       at = at;
       start = 0;
-      end = 0;
+      size = 0;
       swap = 0;
       compare = 0;
       message = opened;
@@ -284,7 +284,7 @@ unanswered psns d =
       act = d .act;
       at = d .at;
       start = d .start;
-      end = d .end;
+      size = d .size;
       swap = d .swap;
       compare = d .compare;
       message = d .message;

@@ -14,16 +14,25 @@ pub struct Completion {
     pub value: u32,
 }
 
-// What a packet leads to, before anything is done: the answer; what is done to memory (0 nothing, 1 the packet's bytes
-// start to end are placed, 2 FetchAdd, 3 CmpSwap) and where; the message that is under way afterwards, how many PSNs are
-// taken, whether a message ends, the completion; the responses of a READ that begins to be answered and the bytes it
-// reads; and the packet sent (0 bytes, 16 or 24) with its PSN, syndrome and, of a repeated atomic, value.
+// What is done to memory: nothing, the packet's payload is stored, or an atomic is run.
+pub const NOTHING: u8 = 0;
+
+pub const STORE: u8 = 1;
+
+pub const FETCH_ADD: u8 = 2;
+
+pub const CMP_SWAP: u8 = 3;
+
+// What a packet leads to, before anything is done: the answer; what is done to memory and where, with the payload's start
+// and size in the packet or an atomic's operands; the message that is open afterwards, how many PSNs are taken, whether a
+// message ends, the completion; the responses of a READ that begins to be answered and the bytes it reads; and the reply:
+// its length (0 bytes, 16 or 24), PSN, syndrome and, of a duplicate atomic, value.
 pub struct Decision {
     pub status: Status,
     pub act: u8,
     pub at: usize,
     pub start: usize,
-    pub end: usize,
+    pub size: usize,
     pub swap: u64,
     pub compare: u64,
     pub message: OpenMessage,

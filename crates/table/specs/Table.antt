@@ -1,5 +1,5 @@
 -- The tables of a pair as rows of numbers.
-use Prim.Native.Nat.{ℕ, zero, suc, _+_, _%_, _^_}
+use Prim.Native.Nat.{ℕ, zero, suc, _+_, _-_, _%_, _^_}
 use mathlib.Core.Bool.{Bool, true, false, cond, _||_}
 use mathlib.Core.List.{List, [], _∷_}
 use lib.Dec.{eqb, ltb, leb}
@@ -30,6 +30,10 @@ regionRow r = r .key ∷ r .address ∷ r .length ∷ r .offset ∷ cond (r .wri
 -- a row of length 0 is empty; so is a row of zeros
 abbrev pub noRegion : List ℕ
 noRegion = replicate 7 0
+
+-- where in memory an address of a region lies; no bytes lie at 0
+unfoldable pub memoryOffset : List ℕ → ℕ → ℕ → ℕ
+memoryOffset region address needed = cond (eqb needed 0) 0 (getD region 3 0 + (address - getD region 1 0))
 
 -- an entry's row: number, offset, length
 unfoldable pub entryRow : Entry → List ℕ

@@ -2,9 +2,11 @@
 use sequence::Psn;
 ghost use mathlib.Core.Path.{_≡_};
 ghost use mathlib.Core.Bool.{cond};
-ghost use Prim.Native.Nat.{_≤_, _<_};
-ghost use Rattle.table.specs.View.{ringFrom, newest, newestSaved, savedRing, savedRows};
-ghost use Rattle.table.specs.Table.{sought, firstFrom, regionRow, entryRow, slotAt, outside, pastTop, regionOutside};
+ghost use mathlib.Core.List.{[]};
+ghost use Prim.Native.Nat.{_%_, _^_, _≤_, _<_};
+ghost use lib.ListN.{getD};
+ghost use Rattle.table.specs.View.{regionOf, ringFrom, newest, newestSaved, savedRing, savedRows};
+ghost use Rattle.table.specs.Table.{memoryOffset, sought, firstFrom, regionRow, entryRow, slotAt, outside, pastTop, regionOutside};
 
 // Memory that peers may name by a key. Its row has the fields in this order, a right as 1 or 0.
 // A row of length 0 is empty.
@@ -68,28 +70,13 @@ pub fn region_outside(address: u64, length: u64, offset: u64, memory: u64) -> bo
     past_top(address, length)
 }
 
-fn bit(b: bool) -> u64
-    ensures { λ r. ⌜ r ≡ cond b 1 0 ⌝ }
-{
-    if b {
-        return 1;
-    }
-    0
-}
-
-fn wide(x: u32) -> u64
-    ensures { λ r. ⌜ r ≡ x ⌝ }
-{
-    x as u64
-}
-
 pub fn region_row(r: Region) -> [u64; 7]
     ensures { λ x. ⌜ x ≡ regionRow r ⌝ }
 {
-    let w = bit(r.write);
-    let d = bit(r.read);
-    let a = bit(r.atomic);
-    let k = wide(r.key);
+    let w = number::bool_to_u64(r.write);
+    let d = number::bool_to_u64(r.read);
+    let a = number::bool_to_u64(r.atomic);
+    let k = number::u32_to_u64(r.key);
     [k, r.address, r.length, r.offset, w, d, a]
 }
 
@@ -129,7 +116,38 @@ pub fn find(regions: &[[u64; 7]; 16], free: bool, key: u64) -> usize
     i
 }
 
-// The row of place i in a ring.
+// The row of a key's region; an empty row where no region has the key.
+pub fn region_of(regions: &[[u64; 7]; 16], key: u32) -> [u64; 7]
+    ensures { λ r. ⌜ r ≡ regionOf key (now (regions .entry)) ⌝ }
+{
+    let i = find(regions, false, number::u32_to_u64(key));
+    if 16 <= i {
+        return [0; 7];
+    }
+    regions[i]
+}
+
+// Where in memory the bytes at an address of a region lie, for as many as are needed; by its remainder, so that nothing
+// is asked of the row. Bytes that a region holds lie below 2^64.
+pub fn memory_offset(region: [u64; 7], address: u64, needed: usize) -> usize
+    ensures { λ r. ⌜ r ≡ memoryOffset region address needed % 2 ^ 64 ⌝ }
+{
+    if needed == 0 {
+        return 0;
+    }
+    let skip = number::saturating_sub_u64(address, region[1]);
+    std::num::wrapping_add_u64(region[3], skip) as usize
+}
+
+// The first entry of a ring.
+pub fn entry_at(entries: &[[u64; 3]; 16], head: usize) -> [u64; 3]
+    ensures { λ r. ⌜ r ≡ getD (now (entries .entry)) (slotAt head 0) [] ⌝ }
+{
+    let at = slot(head, 0);
+    entries[at]
+}
+
+// The row of position i in a ring.
 pub fn slot(head: usize, i: usize) -> usize
     ensures { λ r. ⌜ r ≡ slotAt head i ⌝ }
     ensures { λ r. ⌜ r < 16 ⌝ }
@@ -157,7 +175,7 @@ pub fn save(saved: &mut [[u64; 2]; 16], ring: Ring, psn: Psn, value: u64)
     ensures { λ _. ⌜ now (saved .exit) ≡ savedRows (now (saved .entry)) ring (psn .0) value ⌝ }
 {
     let at = slot(ring.head, ring.count);
-    let row = [wide(psn.0), value];
+    let row = [number::u32_to_u64(psn.0), value];
     saved[at] = row;
 }
 
@@ -168,7 +186,7 @@ pub fn newest(saved: &[[u64; 2]; 16], ring: Ring, psn: Psn) -> Saved
     if 16 < ring.count {
         return Saved::Nothing;
     }
-    newest_of(saved, ring.head, ring.count, wide(psn.0))
+    newest_of(saved, ring.head, ring.count, number::u32_to_u64(psn.0))
 }
 
 // Of the first n rows of a ring, looking at the last first.

@@ -1,5 +1,4 @@
 // The calls of a host, on words that are lent.
-use crate::number::wide;
 use pair::Pair;
 use pair::Setup;
 use pair::Status;
@@ -137,7 +136,7 @@ pub extern "C" fn udalopek_add_region(
         return 34;
     }
     let q = abi::pair_of(pair);
-    let odd = abi::regions_malformed(regions, wide(q.setup.memory));
+    let odd = abi::regions_malformed(regions, number::usize_to_u64(q.setup.memory));
     if odd {
         return 34;
     }
@@ -169,7 +168,7 @@ pub extern "C" fn udalopek_remove_region(pair: &[u64], regions: &mut [[u64; 7]; 
     if unsound {
         return 34;
     }
-    let odd = abi::regions_malformed(regions, wide(q.setup.memory));
+    let odd = abi::regions_malformed(regions, number::usize_to_u64(q.setup.memory));
     if odd {
         return 34;
     }

@@ -3,5 +3,4 @@
 mod headers;
 mod host;
 mod messages;
-mod number;
 mod packets;

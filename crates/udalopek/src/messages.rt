@@ -1,7 +1,6 @@
 // A message cut into packets, one a call.
 use crate::headers::bytes_written;
 use crate::headers::refusal_number;
-use crate::number::wide32;
 use cut_spec::Connection;
 use cut_spec::Following;
 use cut_spec::Request;
@@ -61,7 +60,7 @@ fn following_psn(f: Following) -> u64
     ensures { λ r. ⌜ r ≡ followingPsn f ⌝ }
 {
     match f {
-        Following::Next(psn) => wide32(psn.0),
+        Following::Next(psn) => number::u32_to_u64(psn.0),
         Following::Refused(_) => 0,
     }
 }

@@ -1,7 +1,4 @@
 // The calls of a responder, on words that are lent.
-use crate::number::bit;
-use crate::number::wide;
-use crate::number::wide32;
 use responder_spec::Completion;
 ghost use mathlib.Core.Path.{_≡_};
 ghost use Rattle.abi_spec.specs.Pair.{malformed};
@@ -32,11 +29,11 @@ fn malformed_for(regions: &[[u64; 7]; 16], memory: u64, packet: &[u8]) -> bool
 fn report_words(outgoing: usize, c: Completion) -> [u64; 6]
     ensures { λ r. ⌜ r ≡ reportWords outgoing c ⌝ }
 {
-    let s = wide(outgoing);
-    let some = bit(c.some);
-    let n = wide(c.length);
-    let i = bit(c.immediate);
-    let v = wide32(c.value);
+    let s = number::usize_to_u64(outgoing);
+    let some = number::bool_to_u64(c.some);
+    let n = number::usize_to_u64(c.length);
+    let i = number::bool_to_u64(c.immediate);
+    let v = number::u32_to_u64(c.value);
     [s, some, c.number, n, i, v]
 }
 
@@ -68,7 +65,7 @@ pub extern "C" fn udalopek_inbound(
         *report = [0; 6];
         return 34;
     }
-    let odd = malformed_for(regions, wide(q.setup.memory), packet);
+    let odd = malformed_for(regions, number::usize_to_u64(q.setup.memory), packet);
     if odd {
         *report = [0; 6];
         return 34;
@@ -105,7 +102,7 @@ pub extern "C" fn udalopek_next_response(
         return 34;
     }
     let got = responder::next_response(q, mem, out);
-    *report = [wide(got.outgoing)];
+    *report = [number::usize_to_u64(got.outgoing)];
     let after = got.pair;
     let status = got.status;
     let next = abi::pair_words(after);

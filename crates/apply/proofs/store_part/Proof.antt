@@ -5,11 +5,11 @@ use borrow.Author.Needs.{needs}
 use Rattle.apply.proofs.store_part.Statement.{statement}
 use Rattle.apply.proofs.store_part.Tie as tie
 
-least-requires : tie.Need-least-requires
-least-requires c κs = search needs
+min-requires : tie.Need-min-requires
+min-requires c κs = search needs
 
-least-requires-2 : tie.Need-least-requires-2
-least-requires-2 c κs = search needs
+min-requires-2 : tie.Need-min-requires-2
+min-requires-2 c κs = search needs
 
 sub-store : tie.Need-sub-store
 sub-store c = search needs
@@ -29,14 +29,14 @@ same-length c = search needs
 returns : tie.Need-returns
 returns c =
     let A = c .before .before .before .before .before .before .before .before .before .args in
-    c .before .before .store .ensures ∙ ap (store (A .mem .now) (A .at)) (part-cut (A .packet .now) (A .start) (A .end) _ _ (c .before .before .before .before .before .before .least .ensures) (c .before .before .before .before .before .least2 .ensures))
+    c .before .before .store .ensures ∙ ap (store (A .mem .now) (A .at)) (part-cut (A .packet .now) (A .start) (A .end) _ _ (c .before .before .before .before .before .before .min .ensures) (c .before .before .before .before .before .min2 .ensures))
 
 pub store-part-spec : {M : Type 1} → statement M
 store-part-spec =
     tie.close
     (tie.spec
-    least-requires
-    least-requires-2
+    min-requires
+    min-requires-2
     sub-store
     part-store-start
     part-store-end

@@ -1,109 +1,93 @@
-use mathlib.Core.Path.{sym, subst, _∙_}
-use native.Mathlib.Omega.{arith}
-use borrow.Author.Tests.{le-leb, le-ltb, lt-leb, lt-ltb}
-use Rattle.decide.specs.Guard.{Shaped, guarded}
-use Rattle.decide.proofs.Places.{shaped}
-use Rattle.decide.proofs.Either.{taken, ahead, again}
+use mathlib.Core.Path.{sym, _∙_}
+use Rattle.execute.proofs.Places.{whole}
+use Rattle.decide.proofs.Formed.{formed}
+use Rattle.responder_spec.specs.Decide.{packetDecision, rcDecision}
+use borrow.Author.Tests.{eq-eqb, ne-eqb}
 use borrow.Author.Needs.{needs}
 use Rattle.decide.proofs.decision.Statement.{statement}
 use Rattle.decide.proofs.decision.Tie as tie
-use Rattle.decide.proofs.decision.Reads as reads
-use Rattle.decide.proofs.decision.Lts as lts
-use Rattle.decide.proofs.again.duplicate.Reads as duplicate-reads
-use Rattle.decide.proofs.class_of.Reads as class-of-reads
-use Rattle.decide.proofs.take.Reads as take-reads
-use Rattle.decide.proofs.unreliable_service.Reads as unreliable-service-reads
-use Rattle.idle.proofs.ahead.Reads as ahead-reads
-use Rattle.idle.proofs.no_reply.Reads as no-reply-reads
-use Rattle.request_checks.proofs.packet_of.Reads as packet-of-reads
+use Rattle.duplicate.proofs.answer.Reads as answer-reads
+use Rattle.execute.proofs.reliable.Reads as reliable-reads
+use Rattle.execute.proofs.unreliable.Reads as unreliable-reads
+use Rattle.execute.proofs.unformed.Reads as unformed-reads
+use Rattle.reply.proofs.ahead.Reads as ahead-reads
+use Rattle.reply.proofs.no_reply.Reads as no-reply-reads
+use Rattle.sequence.proofs.Psn.class.Reads as class-reads
 
--- src/lib.rt:154:9
+unformed-requires : tie.Need-unformed-requires
+unformed-requires c κs = search needs
+
 no-reply-requires : tie.Need-no-reply-requires
 no-reply-requires c κs = search needs
 
--- src/lib.rt:154:9
 returns : tie.Need-returns
-unfolding guarded
-returns c = simp (lt-leb _ _ (c .before .if1 .taken), lt-ltb _ _ (c .before .if1 .taken), ← c .no-reply .ensures)
+unfolding packetDecision rcDecision
+returns c = simp (← c .before .before .unformed .ensures, c .before .if1 .taken, ← c .no-reply .ensures)
 
--- src/lib.rt:156:9
-packet-of-requires : tie.Need-packet-of-requires
-packet-of-requires c κs = search needs
+unreliable-requires : tie.Need-unreliable-requires
+unreliable-requires c κs = search needs
 
--- src/lib.rt:157:9
-unreliable-service-requires : tie.Need-unreliable-service-requires
-unreliable-service-requires c κs = search needs
+returns-2 : tie.Need-returns-2
+unfolding packetDecision rcDecision
+returns-2 c = simp (← c .before .before .before .before .unformed .ensures, c .before .before .before .if1 .left, eq-eqb _ _ (c .before .if2 .taken), ← c .unreliable .ensures)
 
--- src/lib.rt:158:9
-class-of-requires : tie.Need-class-of-requires
-class-of-requires c κs = search needs
+class-requires : tie.Need-class-requires
+class-requires c κs = search needs
 
--- src/lib.rt:160:28
 enum-told : tie.Need-enum-told
 enum-told c = search needs
 
--- src/lib.rt:160:28
-take-requires : tie.Need-take-requires
-take-requires c κs = (subst Shaped (sym (c .before .before .before .before .packet-of .ensures)) (shaped (c .before .before .before .before .before .before .before .args .h) (c .before .before .before .before .before .before .before .args .n) (omega (arith, c .before .before .before .before .before .before .before .fits .n))), c .before .before .before .before .before .if1 .left)
+reliable-requires : tie.Need-reliable-requires
+reliable-requires c κs = search needs
 
--- src/lib.rt:161:25
 enum-told-2 : tie.Need-enum-told-2
 enum-told-2 c = search needs
 
--- src/lib.rt:161:25
 ahead-requires : tie.Need-ahead-requires
 ahead-requires c κs = search needs
 
--- src/lib.rt:162:29
 enum-told-3 : tie.Need-enum-told-3
 enum-told-3 c = search needs
 
--- src/lib.rt:162:29
-duplicate-requires : tie.Need-duplicate-requires
-duplicate-requires c κs = subst Shaped (sym (c .before .before .before .before .packet-of .ensures)) (shaped (c .before .before .before .before .before .before .before .args .h) (c .before .before .before .before .before .before .before .args .n) (omega (arith, c .before .before .before .before .before .before .before .fits .n)))
+answer-requires : tie.Need-answer-requires
+answer-requires c κs = search needs
 
--- src/lib.rt:142:1
-returns-2 : tie.Need-returns-2
-unfolding guarded
-returns-2 c =
-    let A = c .before .before .before .before .before .before .before .before .args in
-    let class = sym (c .before .before .before .class-of .ensures) ∙ c .before .enum-told .given .1 in
-    simp (le-ltb _ _ (c .before .before .before .before .before .before .if1 .left), le-leb _ _ (c .before .before .before .before .before .before .if1 .left), ← c .before .before .before .before .before .packet-of .ensures)
-    (c .take .ensures ∙ taken (A .pair) (A .regions .now) (A .entries .now) (A .saved .now) (c .before .before .before .before .before .packet-of .result) (c .before .before .before .before .unreliable-service .result) (c .before .before .before .before .unreliable-service .ensures) class)
-
--- src/lib.rt:142:1
 returns-3 : tie.Need-returns-3
-unfolding guarded
+unfolding packetDecision rcDecision
 returns-3 c =
-    let A = c .before .before .before .before .before .before .before .before .args in
-    let class = sym (c .before .before .before .class-of .ensures) ∙ c .before .enum-told2 .given .1 in
-    simp (le-ltb _ _ (c .before .before .before .before .before .before .if1 .left), le-leb _ _ (c .before .before .before .before .before .before .if1 .left), ← c .before .before .before .before .before .packet-of .ensures)
-    (c .ahead .ensures ∙ ahead (A .pair) (A .regions .now) (A .entries .now) (A .saved .now) (c .before .before .before .before .before .packet-of .result) (c .before .before .before .before .unreliable-service .result) (c .before .before .before .before .unreliable-service .ensures) class)
+    let c7 = c .before .before .before .before .before .before .before in
+    let c8 = c7 .before in
+    simp (← c8 .unformed .ensures, c7 .if1 .left, ne-eqb _ _ (c .before .before .before .before .before .if2 .left), ← c .before .before .before .class .ensures, c .before .enum-told .given .1)
+    (formed _ _ _ _ (c .reliable .ensures) (sym (c8 .unformed .ensures) ∙ c7 .if1 .left))
 
--- src/lib.rt:142:1
 returns-4 : tie.Need-returns-4
-unfolding guarded
-returns-4 c =
-    let A = c .before .before .before .before .before .before .before .before .args in
-    let class = sym (c .before .before .before .class-of .ensures) ∙ c .before .enum-told3 .given .1 in
-    simp (le-ltb _ _ (c .before .before .before .before .before .before .if1 .left), le-leb _ _ (c .before .before .before .before .before .before .if1 .left), ← c .before .before .before .before .before .packet-of .ensures)
-    (c .duplicate .ensures ∙ again (A .pair) (A .regions .now) (A .entries .now) (A .saved .now) (c .before .before .before .before .before .packet-of .result) (c .before .before .before .before .unreliable-service .result) (c .before .before .before .before .unreliable-service .ensures) class)
+unfolding packetDecision rcDecision
+returns-4 c = simp (← c .before .before .before .before .before .before .before .before .unformed .ensures, c .before .before .before .before .before .before .before .if1 .left, ne-eqb _ _ (c .before .before .before .before .before .if2 .left), ← c .before .before .before .class .ensures, c .before .enum-told2 .given .1, ← c .ahead .ensures)
+
+returns-5 : tie.Need-returns-5
+unfolding packetDecision rcDecision
+returns-5 c =
+    let c7 = c .before .before .before .before .before .before .before in
+    let c8 = c7 .before in
+    simp (← c8 .unformed .ensures, c7 .if1 .left, ne-eqb _ _ (c .before .before .before .before .before .if2 .left), ← c .before .before .before .class .ensures, c .before .enum-told3 .given .1)
+    (formed _ _ _ _ (c .answer .ensures) (whole (c8 .before .args .p) (c8 .before .args .pair .setup .timer) (c8 .unformed .result) (c8 .unformed .ensures) (c7 .if1 .left)))
 
 pub decision-spec : {M : Type 1} → statement M
 decision-spec =
     tie.close
     (tie.spec
+    unformed-requires
     no-reply-requires
     returns
-    packet-of-requires
-    unreliable-service-requires
-    class-of-requires
+    unreliable-requires
+    returns-2
+    class-requires
     enum-told
-    take-requires
+    reliable-requires
     enum-told-2
     ahead-requires
     enum-told-3
-    duplicate-requires
-    returns-2
+    answer-requires
     returns-3
-    returns-4)
+    returns-4
+    returns-5)

@@ -5,15 +5,15 @@ use borrow.Author.Needs.{needs}
 use Rattle.host_calls.proofs.remove_region.Statement.{statement}
 use Rattle.host_calls.proofs.remove_region.Tie as tie
 
-wide32-requires : tie.Need-wide32-requires
-wide32-requires c κs = search needs
+u32-to-u64-requires : tie.Need-u32-to-u64-requires
+u32-to-u64-requires c κs = search needs
 
 find-requires : tie.Need-find-requires
 find-requires c κs = search needs
 
 returns : tie.Need-returns
 unfolding removeStatus removeRegions executed statusNumber
-returns c = (simp (← c .before .before .wide32 .ensures, ← c .before .find .ensures .0, le-ltb _ _ (c .if1 .taken), le-leb _ _ (c .if1 .taken)), simp (← c .before .before .wide32 .ensures, ← c .before .find .ensures .0, le-ltb _ _ (c .if1 .taken), le-leb _ _ (c .if1 .taken)))
+returns c = (simp (← c .before .before .u32-to-u64 .ensures .0, ← c .before .find .ensures .0, le-ltb _ _ (c .if1 .taken), le-leb _ _ (c .if1 .taken)), simp (← c .before .before .u32-to-u64 .ensures .0, ← c .before .find .ensures .0, le-ltb _ _ (c .if1 .taken), le-leb _ _ (c .if1 .taken)))
 
 mul-row : tie.Need-mul-row
 mul-row c = search needs
@@ -23,9 +23,9 @@ element-set-from-row c = search needs
 
 returns-2 : tie.Need-returns-2
 unfolding removeStatus removeRegions executed statusNumber
-returns-2 c = (simp (← c .before .before .wide32 .ensures, ← c .before .find .ensures .0, lt-leb _ _ (c .if1 .left), lt-ltb _ _ (c .if1 .left)), simp (← c .before .before .wide32 .ensures, ← c .before .find .ensures .0, lt-leb _ _ (c .if1 .left), lt-ltb _ _ (c .if1 .left)))
+returns-2 c = (simp (← c .before .before .u32-to-u64 .ensures .0, ← c .before .find .ensures .0, lt-leb _ _ (c .if1 .left), lt-ltb _ _ (c .if1 .left)), simp (← c .before .before .u32-to-u64 .ensures .0, ← c .before .find .ensures .0, lt-leb _ _ (c .if1 .left), lt-ltb _ _ (c .if1 .left)))
 
 pub remove-region-spec : {M : Type 1} → statement M
 remove-region-spec =
     tie.close
-    (tie.spec wide32-requires find-requires returns mul-row element-set-from-row returns-2)
+    (tie.spec u32-to-u64-requires find-requires returns mul-row element-set-from-row returns-2)

@@ -8,38 +8,38 @@ use borrow.Author.Needs.{needs}
 use Rattle.memory.proofs.half.Statement.{statement}
 use Rattle.memory.proofs.half.Tie as tie
 
-shared-slice-read-wide : tie.Need-shared-slice-read-wide
-shared-slice-read-wide c = search needs
+shared-slice-read-u8-to-u64 : tie.Need-shared-slice-read-u8-to-u64
+shared-slice-read-u8-to-u64 c = search needs
 
-wide-requires : tie.Need-wide-requires
-wide-requires c κs = search needs
+u8-to-u64-requires : tie.Need-u8-to-u64-requires
+u8-to-u64-requires c κs = search needs
 
-add-wide : tie.Need-add-wide
-add-wide c = search needs
+add-u8-to-u64 : tie.Need-add-u8-to-u64
+add-u8-to-u64 c = search needs
 
-shared-slice-read-wide-2 : tie.Need-shared-slice-read-wide-2
-shared-slice-read-wide-2 c = search needs
+shared-slice-read-u8-to-u64-2 : tie.Need-shared-slice-read-u8-to-u64-2
+shared-slice-read-u8-to-u64-2 c = search needs
 
-wide-requires-2 : tie.Need-wide-requires-2
-wide-requires-2 c κs = search needs
+u8-to-u64-requires-2 : tie.Need-u8-to-u64-requires-2
+u8-to-u64-requires-2 c κs = search needs
 
-add-wide-2 : tie.Need-add-wide-2
-add-wide-2 c = search needs
+add-u8-to-u64-2 : tie.Need-add-u8-to-u64-2
+add-u8-to-u64-2 c = search needs
 
-shared-slice-read-wide-3 : tie.Need-shared-slice-read-wide-3
-shared-slice-read-wide-3 c = search needs
+shared-slice-read-u8-to-u64-3 : tie.Need-shared-slice-read-u8-to-u64-3
+shared-slice-read-u8-to-u64-3 c = search needs
 
-wide-requires-3 : tie.Need-wide-requires-3
-wide-requires-3 c κs = search needs
+u8-to-u64-requires-3 : tie.Need-u8-to-u64-requires-3
+u8-to-u64-requires-3 c κs = search needs
 
-add-wide-3 : tie.Need-add-wide-3
-add-wide-3 c = search needs
+add-u8-to-u64-3 : tie.Need-add-u8-to-u64-3
+add-u8-to-u64-3 c = search needs
 
-shared-slice-read-wide-4 : tie.Need-shared-slice-read-wide-4
-shared-slice-read-wide-4 c = search needs
+shared-slice-read-u8-to-u64-4 : tie.Need-shared-slice-read-u8-to-u64-4
+shared-slice-read-u8-to-u64-4 c = search needs
 
-wide-requires-4 : tie.Need-wide-requires-4
-wide-requires-4 c κs = search needs
+u8-to-u64-requires-4 : tie.Need-u8-to-u64-requires-4
+u8-to-u64-requires-4 c κs = search needs
 
 mul-result : tie.Need-mul-result
 mul-result c = search needs
@@ -74,17 +74,17 @@ pub half-spec : {M : Type 1} → statement M
 half-spec =
     tie.close
     (tie.spec
-    shared-slice-read-wide
-    wide-requires
-    add-wide
-    shared-slice-read-wide-2
-    wide-requires-2
-    add-wide-2
-    shared-slice-read-wide-3
-    wide-requires-3
-    add-wide-3
-    shared-slice-read-wide-4
-    wide-requires-4
+    shared-slice-read-u8-to-u64
+    u8-to-u64-requires
+    add-u8-to-u64
+    shared-slice-read-u8-to-u64-2
+    u8-to-u64-requires-2
+    add-u8-to-u64-2
+    shared-slice-read-u8-to-u64-3
+    u8-to-u64-requires-3
+    add-u8-to-u64-3
+    shared-slice-read-u8-to-u64-4
+    u8-to-u64-requires-4
     mul-result
     add-result
     mul-result-2

@@ -8,15 +8,15 @@ returns : tie.Need-returns
 unfolding newestSaved
 returns c = simp (lt-leb _ _ (c .if1 .taken), lt-ltb _ _ (c .if1 .taken))
 
-wide-requires : tie.Need-wide-requires
-wide-requires c κs = search needs
+u32-to-u64-requires : tie.Need-u32-to-u64-requires
+u32-to-u64-requires c κs = search needs
 
 newest-of-requires : tie.Need-newest-of-requires
 newest-of-requires c κs = search needs
 
 returns-2 : tie.Need-returns-2
 unfolding newestSaved
-returns-2 c = simp (le-ltb _ _ (c .before .before .if1 .left), le-leb _ _ (c .before .before .if1 .left), ← c .before .wide .ensures, ← c .newest-of .ensures)
+returns-2 c = simp (le-ltb _ _ (c .before .before .if1 .left), le-leb _ _ (c .before .before .if1 .left), ← c .before .u32-to-u64 .ensures .0, ← c .newest-of .ensures)
 
 pub newest-spec : {M : Type 1} → statement M
-newest-spec = tie.close (tie.spec returns wide-requires newest-of-requires returns-2)
+newest-spec = tie.close (tie.spec returns u32-to-u64-requires newest-of-requires returns-2)

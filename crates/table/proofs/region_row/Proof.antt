@@ -3,22 +3,22 @@ use borrow.Author.Needs.{needs}
 use Rattle.table.proofs.region_row.Statement.{statement}
 use Rattle.table.proofs.region_row.Tie as tie
 
-bit-requires : tie.Need-bit-requires
-bit-requires c κs = search needs
+bool-to-u64-requires : tie.Need-bool-to-u64-requires
+bool-to-u64-requires c κs = search needs
 
-bit-requires-2 : tie.Need-bit-requires-2
-bit-requires-2 c κs = search needs
+bool-to-u64-requires-2 : tie.Need-bool-to-u64-requires-2
+bool-to-u64-requires-2 c κs = search needs
 
-bit-requires-3 : tie.Need-bit-requires-3
-bit-requires-3 c κs = search needs
+bool-to-u64-requires-3 : tie.Need-bool-to-u64-requires-3
+bool-to-u64-requires-3 c κs = search needs
 
-wide-requires : tie.Need-wide-requires
-wide-requires c κs = search needs
+u32-to-u64-requires : tie.Need-u32-to-u64-requires
+u32-to-u64-requires c κs = search needs
 
 returns : tie.Need-returns
 unfolding regionRow
-returns c = simp (← c .before .before .before .bit .ensures, ← c .before .before .bit2 .ensures, ← c .before .bit3 .ensures, ← c .wide .ensures)
+returns c = simp (← c .before .before .before .bool-to-u64 .ensures, ← c .before .before .bool-to-u642 .ensures, ← c .before .bool-to-u643 .ensures, ← c .u32-to-u64 .ensures .0)
 
 pub region-row-spec : {M : Type 1} → statement M
 region-row-spec =
-    tie.close (tie.spec bit-requires bit-requires-2 bit-requires-3 wide-requires returns)
+    tie.close (tie.spec bool-to-u64-requires bool-to-u64-requires-2 bool-to-u64-requires-3 u32-to-u64-requires returns)

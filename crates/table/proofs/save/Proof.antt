@@ -6,8 +6,8 @@ use Rattle.table.proofs.save.Tie as tie
 slot-requires : tie.Need-slot-requires
 slot-requires c κs = search needs
 
-wide-requires : tie.Need-wide-requires
-wide-requires c κs = search needs
+u32-to-u64-requires : tie.Need-u32-to-u64-requires
+u32-to-u64-requires c κs = search needs
 
 mul-row : tie.Need-mul-row
 mul-row c = search needs
@@ -17,7 +17,7 @@ element-set-from-row c = search needs
 
 returns : tie.Need-returns
 unfolding savedRows
-returns c = simp (← c .before .slot .ensures .0, ← c .wide .ensures)
+returns c = simp (← c .before .slot .ensures .0, ← c .u32-to-u64 .ensures .0)
 
 pub save-spec : {M : Type 1} → statement M
-save-spec = tie.close (tie.spec slot-requires wide-requires mul-row element-set-from-row returns)
+save-spec = tie.close (tie.spec slot-requires u32-to-u64-requires mul-row element-set-from-row returns)

@@ -27,15 +27,15 @@ returns-5 : tie.Need-returns-5
 unfolding messageUnsound writeUnsound
 returns-5 c = simp (ne-eqb _ _ (c .before .before .before .before .if1 .left), ne-eqb _ _ (c .before .before .before .if2 .left), eq-eqb _ _ (c .before .before .if3 .left), lt-leb _ _ (c .before .if4 .left), lt-ltb _ _ (c .before .if4 .left), lt-leb _ _ (c .if5 .taken), lt-ltb _ _ (c .if5 .taken))
 
-wide-requires : tie.Need-wide-requires
-wide-requires c κs = search needs
+usize-to-u64-requires : tie.Need-usize-to-u64-requires
+usize-to-u64-requires c κs = search needs
 
 past-top-requires : tie.Need-past-top-requires
 past-top-requires c κs = search needs
 
 returns-6 : tie.Need-returns-6
 unfolding messageUnsound writeUnsound
-returns-6 c = simp (ne-eqb _ _ (c .before .before .before .before .before .before .if1 .left), ne-eqb _ _ (c .before .before .before .before .before .if2 .left), eq-eqb _ _ (c .before .before .before .before .if3 .left), lt-leb _ _ (c .before .before .before .if4 .left), lt-ltb _ _ (c .before .before .before .if4 .left), le-ltb _ _ (c .before .before .if5 .left), le-leb _ _ (c .before .before .if5 .left), ← c .before .wide .ensures, ← c .past-top .ensures)
+returns-6 c = simp (ne-eqb _ _ (c .before .before .before .before .before .before .if1 .left), ne-eqb _ _ (c .before .before .before .before .before .if2 .left), eq-eqb _ _ (c .before .before .before .before .if3 .left), lt-leb _ _ (c .before .before .before .if4 .left), lt-ltb _ _ (c .before .before .before .if4 .left), le-ltb _ _ (c .before .before .if5 .left), le-leb _ _ (c .before .before .if5 .left), ← c .before .usize-to-u64 .ensures, ← c .past-top .ensures)
 
 pub message-unsound-spec : {M : Type 1} → statement M
 message-unsound-spec =
@@ -47,6 +47,6 @@ message-unsound-spec =
     returns-3
     returns-4
     returns-5
-    wide-requires
+    usize-to-u64-requires
     past-top-requires
     returns-6)

@@ -4,7 +4,7 @@ use borrow.Author.Needs.{needs}
 use Rattle.request_checks.proofs.key.lacks.Statement.{statement}
 use Rattle.request_checks.proofs.key.lacks.Tie as tie
 use Rattle.request_checks.proofs.key.past_end.Reads as past-end-reads
-use Rattle.request_checks.proofs.wide.Reads as wide-reads
+use Rattle.number.proofs.usize_to_u64.Reads as usize-to-u64-reads
 use Rattle.table.proofs.outside.Reads as outside-reads
 use Rattle.table.proofs.past_top.Reads as past-top-reads
 
@@ -18,15 +18,15 @@ array-read-outside c = search needs
 array-read-outside-2 : tie.Need-array-read-outside-2
 array-read-outside-2 c = search needs
 
-wide-requires : tie.Need-wide-requires
-wide-requires c κs = search needs
+usize-to-u64-requires : tie.Need-usize-to-u64-requires
+usize-to-u64-requires c κs = search needs
 
 outside-requires : tie.Need-outside-requires
 outside-requires c κs = search needs
 
 returns-2 : tie.Need-returns-2
 unfolding lacks
-returns-2 c = simp (ne-eqb _ _ (c .before .before .before .if1 .left), ← c .before .before .wide .ensures, ← c .before .outside .ensures, c .if2 .taken)
+returns-2 c = simp (ne-eqb _ _ (c .before .before .before .if1 .left), ← c .before .before .usize-to-u64 .ensures, ← c .before .outside .ensures, c .if2 .taken)
 
 array-read-past-top : tie.Need-array-read-past-top
 array-read-past-top c = search needs
@@ -39,14 +39,14 @@ past-top-requires c κs = search needs
 
 returns-3 : tie.Need-returns-3
 unfolding lacks
-returns-3 c = simp (ne-eqb _ _ (c .before .before .before .before .before .if1 .left), ← c .before .before .before .before .wide .ensures, ← c .before .before .before .outside .ensures, c .before .before .if2 .left, ← c .before .past-top .ensures, c .if3 .taken)
+returns-3 c = simp (ne-eqb _ _ (c .before .before .before .before .before .if1 .left), ← c .before .before .before .before .usize-to-u64 .ensures, ← c .before .before .before .outside .ensures, c .before .before .if2 .left, ← c .before .past-top .ensures, c .if3 .taken)
 
 array-read-if4 : tie.Need-array-read-if4
 array-read-if4 c = search needs
 
 returns-4 : tie.Need-returns-4
 unfolding lacks
-returns-4 c = simp (ne-eqb _ _ (c .before .before .before .before .before .before .if1 .left), ← c .before .before .before .before .before .wide .ensures, ← c .before .before .before .before .outside .ensures, c .before .before .before .if2 .left, ← c .before .before .past-top .ensures, c .before .if3 .left, lt-leb _ _ (c .if4 .taken), lt-ltb _ _ (c .if4 .taken))
+returns-4 c = simp (ne-eqb _ _ (c .before .before .before .before .before .before .if1 .left), ← c .before .before .before .before .before .usize-to-u64 .ensures, ← c .before .before .before .before .outside .ensures, c .before .before .before .if2 .left, ← c .before .before .past-top .ensures, c .before .if3 .left, lt-leb _ _ (c .if4 .taken), lt-ltb _ _ (c .if4 .taken))
 
 array-read-past-end : tie.Need-array-read-past-end
 array-read-past-end c = search needs
@@ -59,7 +59,7 @@ past-end-requires c κs = search needs
 
 returns-5 : tie.Need-returns-5
 unfolding lacks
-returns-5 c = simp (ne-eqb _ _ (c .before .before .before .before .before .before .before .if1 .left), ← c .before .before .before .before .before .before .wide .ensures, ← c .before .before .before .before .before .outside .ensures, c .before .before .before .before .if2 .left, ← c .before .before .before .past-top .ensures, c .before .before .if3 .left, le-ltb _ _ (c .before .if4 .left), le-leb _ _ (c .before .if4 .left), ← c .past-end .ensures)
+returns-5 c = simp (ne-eqb _ _ (c .before .before .before .before .before .before .before .if1 .left), ← c .before .before .before .before .before .before .usize-to-u64 .ensures, ← c .before .before .before .before .before .outside .ensures, c .before .before .before .before .if2 .left, ← c .before .before .before .past-top .ensures, c .before .before .if3 .left, le-ltb _ _ (c .before .if4 .left), le-leb _ _ (c .before .if4 .left), ← c .past-end .ensures)
 
 pub lacks-spec : {M : Type 1} → statement M
 lacks-spec =
@@ -68,7 +68,7 @@ lacks-spec =
     returns
     array-read-outside
     array-read-outside-2
-    wide-requires
+    usize-to-u64-requires
     outside-requires
     returns-2
     array-read-past-top

@@ -6,21 +6,21 @@ use Rattle.request_checks.proofs.lengths.total_off.Tie as tie
 use Rattle.request_checks.proofs.lengths.no_more.Reads as no-more-reads
 use Rattle.request_checks.proofs.lengths.over.Reads as over-reads
 use Rattle.request_checks.proofs.lengths.unequal.Reads as unequal-reads
-use Rattle.request_checks.proofs.wide.Reads as wide-reads
+use Rattle.number.proofs.usize_to_u64.Reads as usize-to-u64-reads
 use Rattle.pmtu.proofs.ends.Reads as ends-reads
 
-wide-requires : tie.Need-wide-requires
-wide-requires c κs = search needs
+usize-to-u64-requires : tie.Need-usize-to-u64-requires
+usize-to-u64-requires c κs = search needs
 
-wide-requires-2 : tie.Need-wide-requires-2
-wide-requires-2 c κs = search needs
+usize-to-u64-requires-2 : tie.Need-usize-to-u64-requires-2
+usize-to-u64-requires-2 c κs = search needs
 
 over-requires : tie.Need-over-requires
 over-requires c κs = search needs
 
 returns : tie.Need-returns
 unfolding totalOff
-returns c = simp (eq-eqb _ _ (c .before .before .before .if1 .taken), ← c .before .before .wide .ensures, ← c .before .wide2 .ensures, ← c .over .ensures)
+returns c = simp (eq-eqb _ _ (c .before .before .before .if1 .taken), ← c .before .before .usize-to-u64 .ensures, ← c .before .usize-to-u642 .ensures, ← c .over .ensures)
 
 ends-requires : tie.Need-ends-requires
 ends-requires c κs = search needs
@@ -43,8 +43,8 @@ pub total-off-spec : {M : Type 1} → statement M
 total-off-spec =
     tie.close
     (tie.spec
-    wide-requires
-    wide-requires-2
+    usize-to-u64-requires
+    usize-to-u64-requires-2
     over-requires
     returns
     ends-requires

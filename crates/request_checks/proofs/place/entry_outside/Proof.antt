@@ -3,7 +3,7 @@ use borrow.Author.Needs.{needs}
 use Rattle.request_checks.proofs.place.entry_outside.Statement.{statement}
 use Rattle.request_checks.proofs.place.entry_outside.Tie as tie
 use Rattle.request_checks.proofs.place.uses_entry.Reads as uses-entry-reads
-use Rattle.request_checks.proofs.wide.Reads as wide-reads
+use Rattle.number.proofs.usize_to_u64.Reads as usize-to-u64-reads
 use Rattle.table.proofs.outside.Reads as outside-reads
 
 uses-entry-requires : tie.Need-uses-entry-requires
@@ -15,15 +15,15 @@ array-read-outside c = search needs
 array-read-outside-2 : tie.Need-array-read-outside-2
 array-read-outside-2 c = search needs
 
-wide-requires : tie.Need-wide-requires
-wide-requires c κs = search needs
+usize-to-u64-requires : tie.Need-usize-to-u64-requires
+usize-to-u64-requires c κs = search needs
 
 outside-requires : tie.Need-outside-requires
 outside-requires c κs = search needs
 
 returns : tie.Need-returns
 unfolding entryOutside
-returns c = simp (← c .before .before .before .uses-entry .ensures, c .before .before .if1 .taken, ← c .before .wide .ensures, ← c .outside .ensures)
+returns c = simp (← c .before .before .before .uses-entry .ensures, c .before .before .if1 .taken, ← c .before .usize-to-u64 .ensures, ← c .outside .ensures)
 
 returns-2 : tie.Need-returns-2
 unfolding entryOutside
@@ -36,7 +36,7 @@ entry-outside-spec =
     uses-entry-requires
     array-read-outside
     array-read-outside-2
-    wide-requires
+    usize-to-u64-requires
     outside-requires
     returns
     returns-2)

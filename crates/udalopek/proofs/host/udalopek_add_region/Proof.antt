@@ -13,15 +13,15 @@ returns c = (simp (← c .before .malformed .ensures, c .if1 .taken), simp (← 
 pair-of-requires : tie.Need-pair-of-requires
 pair-of-requires c κs = search needs
 
-wide-requires : tie.Need-wide-requires
-wide-requires c κs = search needs
+usize-to-u64-requires : tie.Need-usize-to-u64-requires
+usize-to-u64-requires c κs = search needs
 
 regions-malformed-requires : tie.Need-regions-malformed-requires
 regions-malformed-requires c κs = search needs
 
 returns-2 : tie.Need-returns-2
 unfolding addNumber addTable oddRegions
-returns-2 c = (simp (← c .before .before .before .before .before .before .malformed .ensures, c .before .before .before .before .before .if1 .left, ← c .before .before .before .before .pair-of .ensures, ← c .before .before .wide .ensures, ← c .before .regions-malformed .ensures, c .if2 .taken), simp (← c .before .before .before .before .before .before .malformed .ensures, c .before .before .before .before .before .if1 .left, ← c .before .before .before .before .pair-of .ensures, ← c .before .before .wide .ensures, ← c .before .regions-malformed .ensures, c .if2 .taken))
+returns-2 c = (simp (← c .before .before .before .before .before .before .malformed .ensures, c .before .before .before .before .before .if1 .left, ← c .before .before .before .before .pair-of .ensures, ← c .before .before .usize-to-u64 .ensures, ← c .before .regions-malformed .ensures, c .if2 .taken), simp (← c .before .before .before .before .before .before .malformed .ensures, c .before .before .before .before .before .if1 .left, ← c .before .before .before .before .pair-of .ensures, ← c .before .before .usize-to-u64 .ensures, ← c .before .regions-malformed .ensures, c .if2 .taken))
 
 add-region-requires : tie.Need-add-region-requires
 add-region-requires c κs = search needs
@@ -31,7 +31,7 @@ number-requires c κs = search needs
 
 returns-3 : tie.Need-returns-3
 unfolding addNumber addTable oddRegions
-returns-3 c = (simp (← c .before .before .before .before .before .before .before .before .before .malformed .ensures, c .before .before .before .before .before .before .before .before .if1 .left, ← c .before .before .before .before .before .before .before .pair-of .ensures, ← c .before .before .before .before .before .wide .ensures, ← c .before .before .before .before .regions-malformed .ensures, c .before .before .before .if2 .left, ← c .before .add-region .ensures .1, ← c .before .add-region .ensures .0, ← c .number .ensures), simp (← c .before .before .before .before .before .before .before .before .before .malformed .ensures, c .before .before .before .before .before .before .before .before .if1 .left, ← c .before .before .before .before .before .before .before .pair-of .ensures, ← c .before .before .before .before .before .wide .ensures, ← c .before .before .before .before .regions-malformed .ensures, c .before .before .before .if2 .left, ← c .before .add-region .ensures .1, ← c .before .add-region .ensures .0, ← c .number .ensures))
+returns-3 c = (simp (← c .before .before .before .before .before .before .before .before .before .malformed .ensures, c .before .before .before .before .before .before .before .before .if1 .left, ← c .before .before .before .before .before .before .before .pair-of .ensures, ← c .before .before .before .before .before .usize-to-u64 .ensures, ← c .before .before .before .before .regions-malformed .ensures, c .before .before .before .if2 .left, ← c .before .add-region .ensures .1, ← c .before .add-region .ensures .0, ← c .number .ensures), simp (← c .before .before .before .before .before .before .before .before .before .malformed .ensures, c .before .before .before .before .before .before .before .before .if1 .left, ← c .before .before .before .before .before .before .before .pair-of .ensures, ← c .before .before .before .before .before .usize-to-u64 .ensures, ← c .before .before .before .before .regions-malformed .ensures, c .before .before .before .if2 .left, ← c .before .add-region .ensures .1, ← c .before .add-region .ensures .0, ← c .number .ensures))
 
 pub udalopek-add-region-spec : {M : Type 1} → statement M
 udalopek-add-region-spec =
@@ -40,7 +40,7 @@ udalopek-add-region-spec =
     malformed-requires
     returns
     pair-of-requires
-    wide-requires
+    usize-to-u64-requires
     regions-malformed-requires
     returns-2
     add-region-requires

@@ -32,8 +32,8 @@ returns-2 c =
     let u : unmade (A .pair .now) ≡ true = ap pairUnsound (sym q) ∙ sym (c .before .unsound .ensures) ∙ c .if2 .taken in
     (first _ 34 _ u ∙ second _ 34 _ p, first _ _ _ u ∙ second _ _ _ p)
 
-wide-requires : tie.Need-wide-requires
-wide-requires c κs = search needs
+usize-to-u64-requires : tie.Need-usize-to-u64-requires
+usize-to-u64-requires c κs = search needs
 
 regions-malformed-requires : tie.Need-regions-malformed-requires
 regions-malformed-requires c κs = search needs
@@ -45,7 +45,7 @@ returns-3 c =
     let p : malformed (A .pair .now) ≡ false = sym (c .before .before .before .before .before .before .before .before .malformed .ensures) ∙ c .before .before .before .before .before .before .before .if1 .left in
     let q = c .before .before .before .before .before .before .pair-of .ensures in
     let u : unmade (A .pair .now) ≡ false = ap pairUnsound (sym q) ∙ sym (c .before .before .before .before .before .unsound .ensures) ∙ c .before .before .before .before .if2 .left in
-    let o : oddRegions (A .pair .now) (A .regions .now) ≡ true = ap (λ x. malformedFrom (A .regions .now) (x .setup .memory) 0 16) (sym q) ∙ ap (λ n. malformedFrom (A .regions .now) n 0 16) (sym (c .before .before .wide .ensures)) ∙ sym (c .before .regions-malformed .ensures) ∙ c .if3 .taken in
+    let o : oddRegions (A .pair .now) (A .regions .now) ≡ true = ap (λ x. malformedFrom (A .regions .now) (x .setup .memory) 0 16) (sym q) ∙ ap (λ n. malformedFrom (A .regions .now) n 0 16) (sym (c .before .before .usize-to-u64 .ensures)) ∙ sym (c .before .regions-malformed .ensures) ∙ c .if3 .taken in
     (first _ 34 _ o ∙ second _ 34 _ u ∙ second _ 34 _ p, first _ _ _ o ∙ second _ _ _ u ∙ second _ _ _ p)
 
 remove-region-requires : tie.Need-remove-region-requires
@@ -61,7 +61,7 @@ returns-4 c =
     let p : malformed (A .pair .now) ≡ false = sym (c .before .before .before .before .before .before .before .before .before .before .before .malformed .ensures) ∙ c .before .before .before .before .before .before .before .before .before .before .if1 .left in
     let q = c .before .before .before .before .before .before .before .before .before .pair-of .ensures in
     let u : unmade (A .pair .now) ≡ false = ap pairUnsound (sym q) ∙ sym (c .before .before .before .before .before .before .before .before .unsound .ensures) ∙ c .before .before .before .before .before .before .before .if2 .left in
-    let o : oddRegions (A .pair .now) (A .regions .now) ≡ false = ap (λ x. malformedFrom (A .regions .now) (x .setup .memory) 0 16) (sym q) ∙ ap (λ n. malformedFrom (A .regions .now) n 0 16) (sym (c .before .before .before .before .before .wide .ensures)) ∙ sym (c .before .before .before .before .regions-malformed .ensures) ∙ c .before .before .before .if3 .left in
+    let o : oddRegions (A .pair .now) (A .regions .now) ≡ false = ap (λ x. malformedFrom (A .regions .now) (x .setup .memory) 0 16) (sym q) ∙ ap (λ n. malformedFrom (A .regions .now) n 0 16) (sym (c .before .before .before .before .before .usize-to-u64 .ensures)) ∙ sym (c .before .before .before .before .regions-malformed .ensures) ∙ c .before .before .before .if3 .left in
     (c .number .ensures ∙ ap statusNumber (c .before .remove-region .ensures .0) ∙ second _ 34 _ o ∙ second _ 34 _ u ∙ second _ 34 _ p, c .before .remove-region .ensures .1 ∙ second _ _ _ o ∙ second _ _ _ u ∙ second _ _ _ p)
 
 pub udalopek-remove-region-spec : {M : Type 1} → statement M
@@ -73,7 +73,7 @@ udalopek-remove-region-spec =
     pair-of-requires
     unsound-requires
     returns-2
-    wide-requires
+    usize-to-u64-requires
     regions-malformed-requires
     returns-3
     remove-region-requires

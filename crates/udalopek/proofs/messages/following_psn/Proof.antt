@@ -6,19 +6,19 @@ use Rattle.udalopek.proofs.messages.following_psn.Tie as tie
 enum-known-f : tie.Need-enum-known-f
 enum-known-f c = search needs
 
-wide32-requires : tie.Need-wide32-requires
-wide32-requires c κs = search needs
+u32-to-u64-requires : tie.Need-u32-to-u64-requires
+u32-to-u64-requires c κs = search needs
 
 enum-told : tie.Need-enum-told
 enum-told c = search needs
 
 returns : tie.Need-returns
 unfolding followingPsn
-returns c = simp (c .before .before .f .given .1, ← c .wide32 .ensures)
+returns c = simp (c .before .before .f .given .1, ← c .u32-to-u64 .ensures .0)
 
 returns-2 : tie.Need-returns-2
 unfolding followingPsn
 returns-2 c = simp (c .enum-told .given .1)
 
 pub following-psn-spec : {M : Type 1} → statement M
-following-psn-spec = tie.close (tie.spec enum-known-f wide32-requires enum-told returns returns-2)
+following-psn-spec = tie.close (tie.spec enum-known-f u32-to-u64-requires enum-told returns returns-2)

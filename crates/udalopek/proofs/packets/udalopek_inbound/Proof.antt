@@ -34,8 +34,8 @@ returns c =
     let r = refused-words (A .pair .now) (A .regions .now) (A .packet .now) p in
     (first _ 34 _ r, (first _ _ _ r, (first _ _ _ r, (first _ _ _ r, (first _ _ _ r, (first _ _ _ r, refl))))))
 
-wide-requires : tie.Need-wide-requires
-wide-requires c κs = search needs
+usize-to-u64-requires : tie.Need-usize-to-u64-requires
+usize-to-u64-requires c κs = search needs
 
 malformed-for-requires : tie.Need-malformed-for-requires
 malformed-for-requires c κs = search needs
@@ -49,7 +49,7 @@ returns-2 c =
     let A = c .before .before .before .before .before .before .before .before .before .before .before .before .before .before .before .args in
     let q = c .before .before .before .before .before .before .before .before .before .pair-of .ensures in
     let p : malformed (A .pair .now) ≡ false = strange-by (A .pair .now) _ _ _ q (c .before .before .before .before .before .before .before .before .pair-words .ensures .0) (c .before .before .before .before .before .same .ensures) ∙ c .before .before .before .before .if1 .left in
-    let h = ap (λ x. malformedFor (A .regions .now) (x .setup .memory) (A .packet .now)) (sym q) ∙ ap (λ n. malformedFor (A .regions .now) n (A .packet .now)) (sym (c .before .before .before .wide .ensures)) ∙ sym (c .before .before .malformed-for .ensures) ∙ c .before .if2 .taken in
+    let h = ap (λ x. malformedFor (A .regions .now) (x .setup .memory) (A .packet .now)) (sym q) ∙ ap (λ n. malformedFor (A .regions .now) n (A .packet .now)) (sym (c .before .before .before .usize-to-u64 .ensures)) ∙ sym (c .before .before .malformed-for .ensures) ∙ c .before .if2 .taken in
     let r = refused-rows (A .pair .now) (A .regions .now) (A .packet .now) _ p h in
     (first _ 34 _ r, (first _ _ _ r, (first _ _ _ r, (first _ _ _ r, (first _ _ _ r, (first _ _ _ r, refl))))))
 
@@ -86,7 +86,7 @@ returns-3 c =
     let A = c .before .before .before .before .before .before .before .before .before .before .before .before .before .before .before .before .before .before .before .before .before .before .before .before .before .before .before .before .before .before .before .before .args in
     let q = c .before .before .before .before .before .before .before .before .before .before .before .before .before .before .before .before .before .before .before .before .before .before .before .before .before .before .pair-of .ensures in
     let p : malformed (A .pair .now) ≡ false = strange-by (A .pair .now) _ _ _ q (c .before .before .before .before .before .before .before .before .before .before .before .before .before .before .before .before .before .before .before .before .before .before .before .before .before .pair-words .ensures .0) (c .before .before .before .before .before .before .before .before .before .before .before .before .before .before .before .before .before .before .before .before .before .before .same .ensures) ∙ c .before .before .before .before .before .before .before .before .before .before .before .before .before .before .before .before .before .before .before .before .before .if1 .left in
-    let h = ap (λ x. malformedFor (A .regions .now) (x .setup .memory) (A .packet .now)) (sym q) ∙ ap (λ n. malformedFor (A .regions .now) n (A .packet .now)) (sym (c .before .before .before .before .before .before .before .before .before .before .before .before .before .before .before .before .before .before .before .before .wide .ensures)) ∙ sym (c .before .before .before .before .before .before .before .before .before .before .before .before .before .before .before .before .before .before .before .malformed-for .ensures) ∙ c .before .before .before .before .before .before .before .before .before .before .before .before .before .before .before .before .before .before .if2 .left in
+    let h = ap (λ x. malformedFor (A .regions .now) (x .setup .memory) (A .packet .now)) (sym q) ∙ ap (λ n. malformedFor (A .regions .now) n (A .packet .now)) (sym (c .before .before .before .before .before .before .before .before .before .before .before .before .before .before .before .before .before .before .before .before .usize-to-u64 .ensures)) ∙ sym (c .before .before .before .before .before .before .before .before .before .before .before .before .before .before .before .before .before .before .before .malformed-for .ensures) ∙ c .before .before .before .before .before .before .before .before .before .before .before .before .before .before .before .before .before .before .if2 .left in
     let r = refused-rows (A .pair .now) (A .regions .now) (A .packet .now) _ p h in
     let l = left-words (A .pair .now) _ _ _ p (c .before .before .before .before .before .before .pair-words2 .ensures .0) (c .before .before .before .overwrite-words .ensures) in
     let s = ap malformed l ∙ sym (ap malformed (c .before .before .before .before .before .before .pair-words2 .ensures .0)) ∙ c .before .before .before .before .before .before .pair-words2 .ensures .1 ∙ sym p in
@@ -103,7 +103,7 @@ udalopek-inbound-spec =
     same-requires
     same-length
     returns
-    wide-requires
+    usize-to-u64-requires
     malformed-for-requires
     same-length-2
     returns-2

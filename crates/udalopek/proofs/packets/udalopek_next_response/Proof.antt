@@ -37,8 +37,8 @@ returns c =
 next-response-requires : tie.Need-next-response-requires
 next-response-requires c κs = search needs
 
-wide-requires : tie.Need-wide-requires
-wide-requires c κs = search needs
+usize-to-u64-requires : tie.Need-usize-to-u64-requires
+usize-to-u64-requires c κs = search needs
 
 pair-words-requires-2 : tie.Need-pair-words-requires-2
 pair-words-requires-2 c κs = search needs
@@ -67,7 +67,7 @@ returns-2 c =
     let l = left-words (A .pair .now) _ _ _ p (c .before .before .before .before .before .before .pair-words2 .ensures .0) (c .before .before .before .overwrite-words .ensures) in
     let s = ap malformed l ∙ sym (ap malformed (c .before .before .before .before .before .before .pair-words2 .ensures .0)) ∙ c .before .before .before .before .before .before .pair-words2 .ensures .1 ∙ sym p in
     let o = c .before .before .before .before .before .before .before .before .before .before .before .before .next-response .ensures .0 ∙ ap (λ x. nextResponse x (A .mem .now) (A .out .now)) q in
-    (c .number .ensures ∙ ap (λ x. statusNumber (x .status)) o ∙ second _ 34 _ p, (l ∙ ap (λ x. pairWords (x .pair)) o ∙ second _ _ _ p, (c .before .before .before .before .before .before .before .before .before .before .before .before .next-response .ensures .1 ∙ ap (λ x. nextOut x (A .mem .now) (A .out .now)) q ∙ second _ _ _ p, (ap (λ n. n ∷ []) (c .before .before .before .before .before .before .before .before .before .wide .ensures ∙ ap (λ x. x .outgoing) o) ∙ second _ _ _ p, s))))
+    (c .number .ensures ∙ ap (λ x. statusNumber (x .status)) o ∙ second _ 34 _ p, (l ∙ ap (λ x. pairWords (x .pair)) o ∙ second _ _ _ p, (c .before .before .before .before .before .before .before .before .before .before .before .before .next-response .ensures .1 ∙ ap (λ x. nextOut x (A .mem .now) (A .out .now)) q ∙ second _ _ _ p, (ap (λ n. n ∷ []) (c .before .before .before .before .before .before .before .before .before .usize-to-u64 .ensures ∙ ap (λ x. x .outgoing) o) ∙ second _ _ _ p, s))))
 
 pub udalopek-next-response-spec : {M : Type 1} → statement M
 udalopek-next-response-spec =
@@ -80,7 +80,7 @@ udalopek-next-response-spec =
     same-length
     returns
     next-response-requires
-    wide-requires
+    usize-to-u64-requires
     pair-words-requires-2
     slice-aggregate-overwrite-words
     overwrite-words-requires

@@ -1,0 +1,32 @@
+use mathlib.Core.Path.{_≡_, sym, ap, subst}
+use lib.Dec.{eqb}
+use Rattle.duplicate.proofs.Keys.{begun, bare}
+use Rattle.responder_spec.specs.Decide.{regionFor}
+use borrow.Author.Needs.{needs}
+use Rattle.duplicate.proofs.read.Statement.{statement}
+use Rattle.duplicate.proofs.read.Tie as tie
+use Rattle.duplicate.proofs.duplicate_read.Reads as duplicate-read-reads
+use Rattle.request_checks.proofs.current.Reads as current-reads
+use Rattle.table.proofs.region_of.Reads as region-of-reads
+
+current-requires : tie.Need-current-requires
+current-requires c κs = search needs
+
+region-of-requires : tie.Need-region-of-requires
+region-of-requires c κs = search needs
+
+duplicate-read-requires : tie.Need-duplicate-read-requires
+duplicate-read-requires c κs =
+    let c2 = c .before .before in
+    let S = c2 .before .before in
+    subst (λ x. x .stored ≡ 0) (sym (c2 .current .ensures)) (begun (S .args .pair .message) (S .args .p) (S .pre .0) (bare (S .args .p .kind) (S .pre .1)))
+
+returns : tie.Need-returns
+unfolding regionFor
+returns c =
+    let S = c .before .before .before .before .before in
+    simp (ap (λ k. eqb k 0) (S .pre .1), ← c .before .before .before .current .ensures, ← c .before .before .region-of .ensures, ← c .duplicate-read .ensures)
+
+pub read-spec : {M : Type 1} → statement M
+read-spec =
+    tie.close (tie.spec current-requires region-of-requires duplicate-read-requires returns)
