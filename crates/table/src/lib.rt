@@ -6,7 +6,34 @@ ghost use Prim.Native.Nat.{_≤_, _<_};
 ghost use Rattle.table.specs.View.{ringFrom, newest, newestSaved, savedRing, savedRows};
 ghost use Rattle.table.specs.Table.{sought, firstFrom, regionRow, entryRow, slotAt, outside, pastTop, regionOutside};
 
-// Memory that peers may name by a key. Its row has the fields in this order, a right as 1 or 0.
+// Columns of a region's row; a right is 1 or 0.
+pub const REGION_KEY: usize = 0;
+
+pub const REGION_ADDRESS: usize = 1;
+
+pub const REGION_LENGTH: usize = 2;
+
+pub const REGION_OFFSET: usize = 3;
+
+pub const REGION_WRITE: usize = 4;
+
+pub const REGION_READ: usize = 5;
+
+pub const REGION_ATOMIC: usize = 6;
+
+// Columns of an entry's row.
+pub const ENTRY_NUMBER: usize = 0;
+
+pub const ENTRY_OFFSET: usize = 1;
+
+pub const ENTRY_LENGTH: usize = 2;
+
+// Columns of a saved atomic's row.
+const SAVED_PSN: usize = 0;
+
+const SAVED_VALUE: usize = 1;
+
+// Memory that peers may name by a key.
 // A row of length 0 is empty.
 pub struct Region {
     pub key: u32,
@@ -18,7 +45,7 @@ pub struct Region {
     pub atomic: bool,
 }
 
-// Memory for one message, under a number of the host's choice. Its row has the fields in this order.
+// Memory for one message, under a number of the host's choice.
 pub struct Entry {
     pub number: u64,
     pub offset: u64,
@@ -120,7 +147,7 @@ pub fn find(regions: &[[u64; 7]; 16], free: bool, key: u64) -> usize
     let mut i: usize = 0;
     while i < 16 {
         let row = regions[i];
-        let found = hit(free, key, row[0], row[2]);
+        let found = hit(free, key, row[REGION_KEY], row[REGION_LENGTH]);
         if found {
             return i;
         }
@@ -179,8 +206,8 @@ fn newest_of(saved: &[[u64; 2]; 16], head: usize, n: usize, psn: u64) -> Saved
     while 0 < rest {
         let at = slot(head, rest - 1);
         let row = saved[at];
-        if row[0] == psn {
-            return Saved::Value(row[1]);
+        if row[SAVED_PSN] == psn {
+            return Saved::Value(row[SAVED_VALUE]);
         }
         rest = rest - 1;
     }
