@@ -14,7 +14,7 @@ fn names(packet: &[u8]) -> bool
     if packet.len() == 0 {
         return false;
     }
-    6 <= packet[0] % 32
+    opcode::WRITE <= packet[0] % opcode::PER_SERVICE
 }
 
 // Whether a packet may name a region, and the table has a row that no call wrote.
@@ -66,12 +66,12 @@ pub extern "C" fn udalopek_inbound(
     let said = abi::same(pair, &own);
     if !said {
         *report = [0; 6];
-        return 34;
+        return header::OUT_OF_RANGE;
     }
     let odd = malformed_for(regions, wide(q.setup.memory), packet);
     if odd {
         *report = [0; 6];
-        return 34;
+        return header::OUT_OF_RANGE;
     }
     let got = responder::inbound(q, regions, entries, saved, mem, packet, out);
     let completion = got.completion;
@@ -102,7 +102,7 @@ pub extern "C" fn udalopek_next_response(
     let said = abi::same(pair, &own);
     if !said {
         *report = [0; 1];
-        return 34;
+        return header::OUT_OF_RANGE;
     }
     let got = responder::next_response(q, mem, out);
     *report = [wide(got.outgoing)];
