@@ -16,14 +16,15 @@ use header::reason;
 use sequence::Msn;
 use sequence::Psn;
 ghost use mathlib.Core.Path.{_≡_};
-ghost use Prim.Native.Nat.{_≤_};
+ghost use Prim.Native.Nat.{_+_, _≤_};
 ghost use lib.ListN.{length};
 ghost use Rattle.opcode.specs.Opcode.{lengthOf};
+ghost use Rattle.opcode.specs.Length as Length;
 ghost use Rattle.header.specs.Read.{bthOf, rethOf, atomicOf, aethOf, extensionOf, badLength, readHeader};
 ghost use Rattle.header.specs.Check.{wrongService, isResponse, beyondService, admitted};
 
 fn read_bth(p: &[u8]) -> Bth
-    requires { ⌜ 12 ≤ length (now p) ⌝ }
+    requires { ⌜ Length.bth ≤ length (now p) ⌝ }
     ensures { λ r. ⌜ r ≡ bthOf (now (p .entry)) ⌝ }
 {
     let opcode = p[0];
@@ -49,7 +50,7 @@ fn read_bth(p: &[u8]) -> Bth
 }
 
 fn read_reth(p: &[u8]) -> Reth
-    requires { ⌜ 28 ≤ length (now p) ⌝ }
+    requires { ⌜ Length.bth + Length.reth ≤ length (now p) ⌝ }
     ensures { λ r. ⌜ r ≡ rethOf (now (p .entry)) ⌝ }
 {
     Reth {
@@ -60,7 +61,7 @@ fn read_reth(p: &[u8]) -> Reth
 }
 
 fn read_atomic(p: &[u8]) -> AtomicEth
-    requires { ⌜ 40 ≤ length (now p) ⌝ }
+    requires { ⌜ Length.bth + Length.atomicEth ≤ length (now p) ⌝ }
     ensures { λ r. ⌜ r ≡ atomicOf (now (p .entry)) ⌝ }
 {
     AtomicEth {
@@ -72,7 +73,7 @@ fn read_atomic(p: &[u8]) -> AtomicEth
 }
 
 fn read_aeth(p: &[u8]) -> Aeth
-    requires { ⌜ 16 ≤ length (now p) ⌝ }
+    requires { ⌜ Length.bth + Length.aeth ≤ length (now p) ⌝ }
     ensures { λ r. ⌜ r ≡ aethOf (now (p .entry)) ⌝ }
 {
     let syndrome = p[12];
