@@ -13,6 +13,19 @@ use sequence::Psn;
 ghost use mathlib.Core.Path.{_≡_};
 ghost use Rattle.abi_spec.specs.Fields.{bthFrom, bthWords, rethFrom, atomicFrom, aethFrom, extensionFrom, remoteWords, atomicWords, aethWords, immediateWords, extensionWords};
 
+// The headers that follow the BTH, as words.
+const RETH: u64 = opcode::RETH as u64;
+
+const RETH_IMMEDIATE: u64 = opcode::RETH_IMMEDIATE as u64;
+
+const IMMEDIATE: u64 = opcode::IMMEDIATE as u64;
+
+const ATOMIC_ETH: u64 = opcode::ATOMIC_ETH as u64;
+
+const AETH: u64 = opcode::AETH as u64;
+
+const AETH_ATOMIC_ACK: u64 = opcode::AETH_ATOMIC_ACK as u64;
+
 // The BTH of its words, each cut to its field.
 pub fn bth_from(w: &[u64; 11]) -> Bth
     ensures { λ r. ⌜ r ≡ bthFrom (now (w .entry)) ⌝ }
@@ -88,28 +101,28 @@ pub fn extension_from(w: &[u64; 10]) -> Extension
     ensures { λ r. ⌜ r ≡ extensionFrom (now (w .entry)) ⌝ }
 {
     let follows = w[0];
-    if follows == 1 {
+    if follows == RETH {
         let reth = reth_from(w);
         return Extension::Remote(reth);
     }
-    if follows == 2 {
+    if follows == RETH_IMMEDIATE {
         let reth = reth_from(w);
         let immediate = low32(w[9]);
         return Extension::RemoteImmediate(reth, immediate);
     }
-    if follows == 3 {
+    if follows == IMMEDIATE {
         let immediate = low32(w[9]);
         return Extension::Immediate(immediate);
     }
-    if follows == 4 {
+    if follows == ATOMIC_ETH {
         let atomic = atomic_from(w);
         return Extension::Atomic(atomic);
     }
-    if follows == 5 {
+    if follows == AETH {
         let aeth = aeth_from(w);
         return Extension::Acknowledge(aeth);
     }
-    if follows == 6 {
+    if follows == AETH_ATOMIC_ACK {
         let aeth = aeth_from(w);
         return Extension::AtomicAcknowledge(aeth, w[8]);
     }
@@ -137,7 +150,18 @@ fn remote_words(follows: u64, r: Reth, immediate: u32) -> [u64; 10]
 fn atomic_words(a: AtomicEth) -> [u64; 10]
     ensures { λ r. ⌜ r ≡ atomicWords a ⌝ }
 {
-    [4, a.address, a.key as u64, 0, a.swap, a.compare, 0, 0, 0, 0]
+    [
+        ATOMIC_ETH,
+        a.address,
+        a.key as u64,
+        0,
+        a.swap,
+        a.compare,
+        0,
+        0,
+        0,
+        0,
+    ]
 }
 
 fn aeth_words(follows: u64, a: Aeth, value: u64) -> [u64; 10]
@@ -161,7 +185,7 @@ fn aeth_words(follows: u64, a: Aeth, value: u64) -> [u64; 10]
 fn immediate_words(immediate: u32) -> [u64; 10]
     ensures { λ r. ⌜ r ≡ immediateWords immediate ⌝ }
 {
-    [3, 0, 0, 0, 0, 0, 0, 0, 0, immediate as u64]
+    [IMMEDIATE, 0, 0, 0, 0, 0, 0, 0, 0, immediate as u64]
 }
 
 // The words of the headers after the BTH: which these are, then every field of any of them, 0 where there is none.
@@ -170,11 +194,11 @@ pub fn extension_words(e: Extension) -> [u64; 10]
 {
     match e {
         Extension::Bare => [0; 10],
-        Extension::Remote(r) => remote_words(1, r, 0),
-        Extension::RemoteImmediate(r, i) => remote_words(2, r, i),
+        Extension::Remote(r) => remote_words(RETH, r, 0),
+        Extension::RemoteImmediate(r, i) => remote_words(RETH_IMMEDIATE, r, i),
         Extension::Immediate(i) => immediate_words(i),
         Extension::Atomic(a) => atomic_words(a),
-        Extension::Acknowledge(a) => aeth_words(5, a, 0),
-        Extension::AtomicAcknowledge(a, v) => aeth_words(6, a, v),
+        Extension::Acknowledge(a) => aeth_words(AETH, a, 0),
+        Extension::AtomicAcknowledge(a, v) => aeth_words(AETH_ATOMIC_ACK, a, v),
     }
 }

@@ -20,7 +20,7 @@ ghost use Prim.Native.Nat.{_%_, _^_, _≤_};
 ghost use lib.Dec.{eqb};
 ghost use lib.ListN.{length};
 ghost use Rattle.abi_spec.specs.Words.{flag, eqWords, overwriteWords};
-ghost use Rattle.abi_spec.specs.Pair.{setupOf, messageOf, readOf, pairOf, pairWords, malformed};
+ghost use Rattle.abi_spec.specs.Pair.{pairLength, setupOf, messageOf, readOf, pairOf, pairWords, malformed};
 
 // How many words a pair has.
 pub const PAIR: usize = 30;
@@ -91,7 +91,7 @@ pub fn overwrite_words(words: &mut [u64], new: &[u64])
 }
 
 fn setup_of(w: &[u64]) -> Setup
-    requires { ⌜ 30 ≤ length (now w) ⌝ }
+    requires { ⌜ pairLength ≤ length (now w) ⌝ }
     ensures { λ r. ⌜ r ≡ setupOf (now (w .entry)) ⌝ }
 {
     let start = Psn(low32(w[4]));
@@ -112,7 +112,7 @@ fn setup_of(w: &[u64]) -> Setup
 }
 
 fn message_of(w: &[u64]) -> OpenMessage
-    requires { ⌜ 30 ≤ length (now w) ⌝ }
+    requires { ⌜ pairLength ≤ length (now w) ⌝ }
     ensures { λ r. ⌜ r ≡ messageOf (now (w .entry)) ⌝ }
 {
     OpenMessage {
@@ -125,7 +125,7 @@ fn message_of(w: &[u64]) -> OpenMessage
 }
 
 fn read_of(w: &[u64]) -> ReadAnswer
-    requires { ⌜ 30 ≤ length (now w) ⌝ }
+    requires { ⌜ pairLength ≤ length (now w) ⌝ }
     ensures { λ r. ⌜ r ≡ readOf (now (w .entry)) ⌝ }
 {
     let psn = Psn(low32(w[22]));
@@ -173,7 +173,7 @@ pub fn pair_of(w: &[u64]) -> Pair
 }
 
 // The words of a pair. As every number fits its field, they are not strange.
-pub fn pair_words(q: Pair) -> [u64; 30]
+pub fn pair_words(q: Pair) -> [u64; PAIR]
     ensures { λ r. ⌜ r ≡ pairWords q ⌝ }
     ensures { λ r. ⌜ malformed r ≡ false ⌝ }
 {

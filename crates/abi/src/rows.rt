@@ -6,22 +6,27 @@ ghost use Rattle.abi_spec.specs.Rows.{rowMalformed, malformedFrom};
 fn row_malformed(row: [u64; 7], memory: u64) -> bool
     ensures { λ r. ⌜ r ≡ rowMalformed row memory ⌝ }
 {
-    if row[2] == 0 {
+    if row[table::REGION_LENGTH] == 0 {
         return false;
     }
-    if 4294967296 <= row[0] {
+    if 4294967296 <= row[table::REGION_KEY] {
         return true;
     }
-    if 1 < row[4] {
+    if 1 < row[table::REGION_WRITE] {
         return true;
     }
-    if 1 < row[5] {
+    if 1 < row[table::REGION_READ] {
         return true;
     }
-    if 1 < row[6] {
+    if 1 < row[table::REGION_ATOMIC] {
         return true;
     }
-    table::region_outside(row[1], row[2], row[3], memory)
+    table::region_outside(
+        row[table::REGION_ADDRESS],
+        row[table::REGION_LENGTH],
+        row[table::REGION_OFFSET],
+        memory,
+    )
 }
 
 // Whether some row is.

@@ -4,6 +4,7 @@ use mathlib.Core.Bool.{cond}
 use mathlib.Core.List.{List, [], _∷_}
 use lib.Dec.{eqb}
 use lib.ListN.{replicate}
+use Rattle.opcode.specs.Follows as Follows
 use Rattle.header.specs.declared.Aeth.{Aeth}
 use Rattle.header.specs.declared.AtomicEth.{AtomicEth}
 use Rattle.header.specs.declared.Bth.{Bth}
@@ -33,8 +34,11 @@ bthWords b =
     b .opcode ∷ bit (b .se) ∷ bit (b .migreq) ∷ b .pad ∷ b .tver ∷ b .pkey ∷ b .reserved8 ∷ b .dest ∷ bit (b .ackreq)
     ∷ b .reserved7 ∷ b .psn .0 ∷ []
 
--- The words after the BTH: which headers follow (0 none, 1 RETH, 2 RETH and Immediate, 3 Immediate, 4 AtomicETH, 5 AETH, 6 AETH
--- and AtomicAckETH), address, R_Key, DMA length, swap-or-add, compare, syndrome, MSN, the value of AtomicAckETH, the immediate.
+-- The words after the BTH: which headers follow, by the number of their class; address, R_Key, DMA length, swap-or-add, compare,
+-- syndrome, MSN, the value of AtomicAckETH, the immediate.
+abbrev pub followsFrom : List ℕ → ℕ
+followsFrom w = word w 0
+
 unfoldable pub rethFrom : List ℕ → Reth
 rethFrom w = record { address = word w 1; key = low 32 w 2; length = low 32 w 3 }
 
@@ -46,12 +50,12 @@ aethFrom w = record { syndrome = low 8 w 6; msn = record { 0 = low 32 w 7 } }
 
 unfoldable pub extensionFrom : List ℕ → Extension
 extensionFrom w =
-    cond (eqb (word w 0) 1) (Remote (rethFrom w))
-    (cond (eqb (word w 0) 2) (RemoteImmediate (rethFrom w) (low 32 w 9))
-    (cond (eqb (word w 0) 3) (Immediate (low 32 w 9))
-    (cond (eqb (word w 0) 4) (Atomic (atomicFrom w))
-    (cond (eqb (word w 0) 5) (Acknowledge (aethFrom w))
-    (cond (eqb (word w 0) 6) (AtomicAcknowledge (aethFrom w) (word w 8)) Bare)))))
+    cond (eqb (followsFrom w) Follows.reth) (Remote (rethFrom w))
+    (cond (eqb (followsFrom w) Follows.rethImmediate) (RemoteImmediate (rethFrom w) (low 32 w 9))
+    (cond (eqb (followsFrom w) Follows.immediate) (Immediate (low 32 w 9))
+    (cond (eqb (followsFrom w) Follows.atomicEth) (Atomic (atomicFrom w))
+    (cond (eqb (followsFrom w) Follows.aeth) (Acknowledge (aethFrom w))
+    (cond (eqb (followsFrom w) Follows.aethAtomicAck) (AtomicAcknowledge (aethFrom w) (word w 8)) Bare)))))
 
 -- a field that the headers lack is 0
 unfoldable pub remoteWords : ℕ → Reth → ℕ → List ℕ
@@ -59,19 +63,19 @@ remoteWords follows r immediate =
     follows ∷ r .address ∷ r .key ∷ r .length ∷ 0 ∷ 0 ∷ 0 ∷ 0 ∷ 0 ∷ immediate ∷ []
 
 unfoldable pub atomicWords : AtomicEth → List ℕ
-atomicWords a = 4 ∷ a .address ∷ a .key ∷ 0 ∷ a .swap ∷ a .compare ∷ 0 ∷ 0 ∷ 0 ∷ 0 ∷ []
+atomicWords a = Follows.atomicEth ∷ a .address ∷ a .key ∷ 0 ∷ a .swap ∷ a .compare ∷ 0 ∷ 0 ∷ 0 ∷ 0 ∷ []
 
 unfoldable pub aethWords : ℕ → Aeth → ℕ → List ℕ
 aethWords follows a value = follows ∷ 0 ∷ 0 ∷ 0 ∷ 0 ∷ 0 ∷ a .syndrome ∷ a .msn .0 ∷ value ∷ 0 ∷ []
 
 unfoldable pub immediateWords : ℕ → List ℕ
-immediateWords i = 3 ∷ 0 ∷ 0 ∷ 0 ∷ 0 ∷ 0 ∷ 0 ∷ 0 ∷ 0 ∷ i ∷ []
+immediateWords i = Follows.immediate ∷ 0 ∷ 0 ∷ 0 ∷ 0 ∷ 0 ∷ 0 ∷ 0 ∷ 0 ∷ i ∷ []
 
 unfoldable pub extensionWords : Extension → List ℕ
 extensionWords Bare = replicate 10 0
-extensionWords (Remote r) = remoteWords 1 r 0
-extensionWords (RemoteImmediate r i) = remoteWords 2 r i
+extensionWords (Remote r) = remoteWords Follows.reth r 0
+extensionWords (RemoteImmediate r i) = remoteWords Follows.rethImmediate r i
 extensionWords (Immediate i) = immediateWords i
 extensionWords (Atomic a) = atomicWords a
-extensionWords (Acknowledge a) = aethWords 5 a 0
-extensionWords (AtomicAcknowledge a v) = aethWords 6 a v
+extensionWords (Acknowledge a) = aethWords Follows.aeth a 0
+extensionWords (AtomicAcknowledge a v) = aethWords Follows.aethAtomicAck a v

@@ -1,4 +1,4 @@
--- A pair as 30 words: its numbers in the order of its fields.
+-- A pair as words: its numbers in the order of its fields.
 use Prim.Native.Nat.{ℕ}
 use mathlib.Core.Bool.{Bool, cond, not}
 use mathlib.Core.List.{List, [], _∷_}
@@ -10,6 +10,10 @@ use Rattle.pair.specs.declared.OpenMessage.{OpenMessage}
 use Rattle.pair.specs.declared.ReadAnswer.{ReadAnswer}
 use Rattle.pair.specs.declared.Pair.{Pair}
 use Rattle.abi_spec.specs.Words.{word, low, flag, bit, eqWords}
+
+-- how many words a pair has
+abbrev pub pairLength : ℕ
+pairLength = 30
 
 unfoldable pub setupOf : List ℕ → Setup
 setupOf w =
@@ -57,7 +61,7 @@ narrowed w =
 
 -- the pair that words say, each cut to the width of its field; the blank pair where they are too few
 unfoldable pub pairOf : List ℕ → Pair
-pairOf w = cond (ltb (length w) 30) blankPair (narrowed w)
+pairOf w = cond (ltb (length w) pairLength) blankPair (narrowed w)
 
 unfoldable pub pairWords : Pair → List ℕ
 pairWords q =
@@ -69,6 +73,6 @@ pairWords q =
     ∷ q .saved .head ∷ q .saved .count
     ∷ q .expected .0 ∷ q .msn .0 ∷ q .state ∷ bit (q .nakmark) ∷ []
 
--- words that are not those of a pair: not 30, or one does not fit its field
+-- words that are not those of a pair: too few or too many, or one does not fit its field
 unfoldable pub malformed : List ℕ → Bool
 malformed w = not (eqWords w (pairWords (pairOf w)))

@@ -9,6 +9,7 @@ use Rattle.sequence.specs.declared.Psn.{Psn}
 use Rattle.sequence.specs.declared.Class.{Class}
 use Rattle.sequence.specs.declared.Class.the-variants.{Expected, Ahead, Duplicate}
 use Rattle.opcode.specs.Opcode.{classOf}
+use Rattle.opcode.specs.Service as Service
 use Rattle.header.specs.Bytes.{bit}
 use Rattle.header.specs.Check.{pkeysMatch}
 use Rattle.header.specs.declared.Answer.{Answer}
@@ -59,7 +60,7 @@ at n = record { 0 = n }
 
 -- W5 to W9: messages of RC at PMTU 256, to queue pair 0x12 under P_Key FFFF
 abbrev pub link : Connection
-link = record { service = 0; pmtu = 256; pkey = 65535; dest = 18 }
+link = record { service = Service.rc; pmtu = 256; pkey = 65535; dest = 18 }
 
 -- W10: a word whose 64 bits are all set
 abbrev pub ones : List ℕ
@@ -79,7 +80,7 @@ ack = 17 ∷ 0 ∷ 255 ∷ 255 ∷ 0 ∷ 0 ∷ 0 ∷ 52 ∷ 0 ∷ 0 ∷ 0 ∷ 7 
 abbrev pub setup : Setup
 setup =
     record {
-      service = 0;
+      service = Service.rc;
       pmtu = 256;
       ours = 18;
       theirs = 52;

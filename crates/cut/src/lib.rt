@@ -60,10 +60,10 @@ fn length_refusal(n: usize, pmtu: usize) -> u8
 {
     let unfit = pmtu::pmtu_unfit(pmtu);
     if unfit {
-        return 39;
+        return header::BAD_NUMBER;
     }
     if cut_spec::MESSAGE_LIMIT < n {
-        return 34;
+        return header::OUT_OF_RANGE;
     }
     0
 }
@@ -99,7 +99,7 @@ pub fn next_psn(request: Request, n: usize, pmtu: usize, first: Psn) -> Followin
     ensures { λ r. ⌜ r ≡ nextAnswer request n pmtu first ⌝ }
 {
     if Psn::SPACE <= first.0 {
-        return Following::Refused(39);
+        return Following::Refused(header::BAD_NUMBER);
     }
     let whole = message_length(request, n);
     let code = length_refusal(whole, pmtu);
@@ -133,7 +133,7 @@ fn unfit(connection: Connection, carrying: bool, first: Psn) -> bool
     if other {
         return true;
     }
-    if Psn::SPACE <= connection.dest {
+    if header::QPN_SPACE <= connection.dest {
         return true;
     }
     if Psn::SPACE <= first.0 {
@@ -149,16 +149,16 @@ fn refusal(connection: Connection, request: Request, n: usize, first: Psn, index
     let carrying = carries(request);
     let bad = unfit(connection, carrying, first);
     if bad {
-        return 39;
+        return header::BAD_NUMBER;
     }
     let whole = message_length(request, n);
     if cut_spec::MESSAGE_LIMIT < whole {
-        return 34;
+        return header::OUT_OF_RANGE;
     }
     let carried = carried_length(request, n);
     let count = pmtu::count(carried, connection.pmtu);
     if count <= index {
-        return 34;
+        return header::OUT_OF_RANGE;
     }
     0
 }

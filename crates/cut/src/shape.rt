@@ -9,10 +9,14 @@ use header::Reth;
 use sequence::Psn;
 ghost use mathlib.Core.Path.{_≡_};
 ghost use Prim.Native.Nat.{_≤_, _<_};
+ghost use Rattle.sequence.specs.Sequence.{space};
+ghost use Rattle.opcode.specs.Kind as Kind;
+ghost use Rattle.opcode.specs.Place as Place;
+ghost use Rattle.opcode.specs.Service as Service;
 ghost use Rattle.cut_spec.specs.Cut.{withImmediate, lowFor, sendExtension, rethFor, writeExtension, writeEnd, writeImmediateExtension, fetchAddEth, extensionFor, bthAt};
 
 fn with_immediate(place: u8) -> u8
-    requires { ⌜ place ≤ 4 ⌝ }
+    requires { ⌜ place ≤ Place.only ⌝ }
     ensures { λ r. ⌜ r ≡ withImmediate place ⌝ }
 {
     if opcode::LAST <= place {
@@ -22,7 +26,7 @@ fn with_immediate(place: u8) -> u8
 }
 
 pub(crate) fn low_for(request: Request, place: u8) -> u8
-    requires { ⌜ place ≤ 4 ⌝ }
+    requires { ⌜ place ≤ Place.only ⌝ }
     ensures { λ r. ⌜ r ≡ lowFor request place ⌝ }
 {
     match request {
@@ -123,15 +127,15 @@ pub(crate) fn bth_at(
     count: usize,
     size: usize,
 ) -> Bth
-    requires { ⌜ connection .service ≤ 1 ⌝ }
-    requires { ⌜ low ≤ 20 ⌝ }
-    requires { ⌜ index < 16777216 ⌝ }
+    requires { ⌜ connection .service ≤ Service.uc ⌝ }
+    requires { ⌜ low ≤ Kind.fetchAdd ⌝ }
+    requires { ⌜ index < space ⌝ }
     ensures { λ r. ⌜ r ≡ bthAt connection low first index count size ⌝ }
 {
     let pad = packet::pad(size);
     let psn = first.after(index as u32);
     Bth {
-        opcode: connection.service * 32 + low,
+        opcode: connection.service * opcode::PER_SERVICE + low,
         se: false,
         migreq: false,
         pad,

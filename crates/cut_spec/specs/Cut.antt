@@ -6,8 +6,12 @@ use lib.Dec.{leb, ltb, eqb}
 use lib.ListN.{length, drop}
 use Rattle.sequence.specs.Sequence.{space, psnAfter}
 use Rattle.sequence.specs.declared.Psn.{Psn}
+use Rattle.opcode.specs.Opcode.{perService}
+use Rattle.opcode.specs.Kind as Kind
+use Rattle.opcode.specs.Service as Service
+use Rattle.header.specs.Refusal as Refusal
 use Rattle.header.specs.Read.{otherService}
-use Rattle.header.specs.Write.{answerBy}
+use Rattle.header.specs.Write.{qpnSpace, answerBy}
 use Rattle.header.specs.declared.Bth.{Bth}
 use Rattle.header.specs.declared.Reth.{Reth}
 use Rattle.header.specs.declared.AtomicEth.{AtomicEth}
@@ -27,15 +31,15 @@ use Rattle.cut_spec.specs.declared.Request.the-variants.{Send, SendImmed
 unfoldable pub withImmediate : ℕ → ℕ
 withImmediate place = cond (ends place) (place + 1) place
 
--- the opcode's low five bits: SEND from 0 on, WRITE from 6, READ request 12, CmpSwap 19, FetchAdd 20
+-- the opcode's low five bits: kind plus place; of a SEND, whose kind is 0, the place alone
 unfoldable pub lowFor : Request → ℕ → ℕ
 lowFor Send place = place
 lowFor (SendImmediate v) place = withImmediate place
-lowFor (Write t) place = 6 + place
-lowFor (WriteImmediate t v) place = 6 + withImmediate place
-lowFor (Read a) place = 12
-lowFor (CmpSwap a) place = 19
-lowFor (FetchAdd t v) place = 20
+lowFor (Write t) place = Kind.write + place
+lowFor (WriteImmediate t v) place = Kind.write + withImmediate place
+lowFor (Read a) place = Kind.read
+lowFor (CmpSwap a) place = Kind.cmpSwap
+lowFor (FetchAdd t v) place = Kind.fetchAdd
 
 -- an Immediate stands on the packet that ends a message
 unfoldable pub sendExtension : ℕ → ℕ → Extension
@@ -73,7 +77,7 @@ extensionFor (FetchAdd t v) n place = Atomic (fetchAddEth t v)
 unfoldable pub bthAt : Connection → ℕ → Psn → ℕ → ℕ → ℕ → Bth
 bthAt c low first i count size =
     record {
-      opcode = c .service * 32 + low;
+      opcode = c .service * perService + low;
       se = false;
       migreq = false;
       pad = padOf size;
@@ -109,22 +113,22 @@ cutBytes c r d first i = packetBytes (headerAt c r (length d) first i) (payloadA
 
 -- READs and atomics, which carry no bytes, are not for UC
 unfoldable pub unserved : Bool → ℕ → Bool
-unserved carrying service = not carrying && eqb service 1
+unserved carrying service = not carrying && eqb service Service.uc
 
 -- no such PMTU, a service that is neither RC nor UC, a number over 24 bits, a READ or atomic on UC
 unfoldable pub cutUnfit : Connection → Bool → ℕ → Bool
 cutUnfit c carrying psn =
     not (pmtuFits (c .pmtu))
-    || (otherService (c .service) || (leb space (c .dest) || (leb space psn || unserved carrying (c .service))))
+    || (otherService (c .service) || (leb qpnSpace (c .dest) || (leb space psn || unserved carrying (c .service))))
 
--- the refusal of a cut before its output is looked at, or 0. 39: as above; 34: a message over the limit, or no packet i in it
+-- the refusal of a cut before its output is looked at, or 0: as above; a message over the limit, or no packet i in it
 unfoldable pub cutRefusal : Connection → Request → ℕ → ℕ → ℕ → ℕ
 cutRefusal c r n psn i =
-    cond (cutUnfit c (carries r) psn) 39
-    (cond (ltb messageLimit (messageLength r n)) 34
-    (cond (leb (packetsOf r n (c .pmtu)) i) 34 0))
+    cond (cutUnfit c (carries r) psn) Refusal.badNumber
+    (cond (ltb messageLimit (messageLength r n)) Refusal.outOfRange
+    (cond (leb (packetsOf r n (c .pmtu)) i) Refusal.outOfRange 0))
 
--- the answer's number: that, or what the packet writer answers, which is 35 where the packet does not fit the output
+-- the answer's number: that, or what the packet writer answers, which refuses a packet that does not fit the output
 unfoldable pub cutAnswer : Connection → Request → List ℕ → Psn → ℕ → ℕ → ℕ
 cutAnswer c r d first i room =
     cond (eqb (cutRefusal c r (length d) (first .0) i) 0)

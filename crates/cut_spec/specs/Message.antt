@@ -3,6 +3,7 @@ use Prim.Native.Nat.{ℕ}
 use mathlib.Core.Bool.{Bool, true, false, cond, not}
 use mathlib.Core.List.{List, []}
 use lib.Dec.{ltb}
+use Rattle.header.specs.Refusal as Refusal
 use Rattle.header.specs.Write.{answerBy}
 use Rattle.header.specs.declared.Answer.{Answer}
 use Rattle.pmtu.specs.Pieces.{pmtuFits, pieces}
@@ -44,9 +45,9 @@ messageLimit = 1048576
 unfoldable pub packetsOf : Request → ℕ → ℕ → ℕ
 packetsOf r n pmtu = pieces (carriedLength r n) pmtu
 
--- the refusal of a length, or 0. 39: no such PMTU; 34: over the limit
+-- the refusal of a length, or 0: no such PMTU; over the limit
 unfoldable pub lengthRefusal : ℕ → ℕ → ℕ
-lengthRefusal n pmtu = cond (not (pmtuFits pmtu)) 39 (cond (ltb messageLimit n) 34 0)
+lengthRefusal n pmtu = cond (not (pmtuFits pmtu)) Refusal.badNumber (cond (ltb messageLimit n) Refusal.outOfRange 0)
 
 -- the answers: how many packets a message has, and how many responses a READ of n bytes
 unfoldable pub packetsAnswer : Request → ℕ → ℕ → Answer

@@ -4,6 +4,7 @@ use mathlib.Core.Bool.{cond}
 use lib.Dec.{leb, eqb}
 use Rattle.sequence.specs.Sequence.{space, psnAfter}
 use Rattle.sequence.specs.declared.Psn.{Psn}
+use Rattle.header.specs.Refusal as Refusal
 use Rattle.pmtu.specs.Pieces.{pieces}
 use Rattle.cut_spec.specs.Message.{messageLength, lengthRefusal}
 use Rattle.cut_spec.specs.declared.Request.{Request}
@@ -18,9 +19,9 @@ psnsOf r n pmtu = pieces (messageLength r n) pmtu
 unfoldable pub nextPsn : Request → ℕ → ℕ → Psn → Psn
 nextPsn r n pmtu first = psnAfter first (psnsOf r n pmtu)
 
--- the refusal, or 0. 39: a PSN over 24 bits, no such PMTU; 34: over the limit
+-- the refusal, or 0: a PSN over 24 bits, no such PMTU; over the limit
 unfoldable pub nextRefusal : ℕ → ℕ → ℕ → ℕ
-nextRefusal n pmtu psn = cond (leb space psn) 39 (lengthRefusal n pmtu)
+nextRefusal n pmtu psn = cond (leb space psn) Refusal.badNumber (lengthRefusal n pmtu)
 
 -- the answer: with 0 the PSN
 unfoldable pub followingBy : ℕ → Psn → Following

@@ -12,17 +12,19 @@ use header::Extension;
 use header::Header;
 use header::HeaderRead;
 use header::Reth;
+use header::reason;
 use sequence::Msn;
 use sequence::Psn;
 ghost use mathlib.Core.Path.{_≡_};
-ghost use Prim.Native.Nat.{_≤_};
+ghost use Prim.Native.Nat.{_+_, _≤_};
 ghost use lib.ListN.{length};
 ghost use Rattle.opcode.specs.Opcode.{lengthOf};
+ghost use Rattle.opcode.specs.Length as Length;
 ghost use Rattle.header.specs.Read.{bthOf, rethOf, atomicOf, aethOf, extensionOf, badLength, readHeader};
 ghost use Rattle.header.specs.Check.{wrongService, isResponse, beyondService, admitted};
 
 fn read_bth(p: &[u8]) -> Bth
-    requires { ⌜ 12 ≤ length (now p) ⌝ }
+    requires { ⌜ Length.bth ≤ length (now p) ⌝ }
     ensures { λ r. ⌜ r ≡ bthOf (now (p .entry)) ⌝ }
 {
     let opcode = p[0];
@@ -48,7 +50,7 @@ fn read_bth(p: &[u8]) -> Bth
 }
 
 fn read_reth(p: &[u8]) -> Reth
-    requires { ⌜ 28 ≤ length (now p) ⌝ }
+    requires { ⌜ Length.bth + Length.reth ≤ length (now p) ⌝ }
     ensures { λ r. ⌜ r ≡ rethOf (now (p .entry)) ⌝ }
 {
     Reth {
@@ -59,7 +61,7 @@ fn read_reth(p: &[u8]) -> Reth
 }
 
 fn read_atomic(p: &[u8]) -> AtomicEth
-    requires { ⌜ 40 ≤ length (now p) ⌝ }
+    requires { ⌜ Length.bth + Length.atomicEth ≤ length (now p) ⌝ }
     ensures { λ r. ⌜ r ≡ atomicOf (now (p .entry)) ⌝ }
 {
     AtomicEth {
@@ -71,7 +73,7 @@ fn read_atomic(p: &[u8]) -> AtomicEth
 }
 
 fn read_aeth(p: &[u8]) -> Aeth
-    requires { ⌜ 16 ≤ length (now p) ⌝ }
+    requires { ⌜ Length.bth + Length.aeth ≤ length (now p) ⌝ }
     ensures { λ r. ⌜ r ≡ aethOf (now (p .entry)) ⌝ }
 {
     let syndrome = p[12];
@@ -116,10 +118,10 @@ fn read_extension(p: &[u8], follows: u8) -> Extension
 fn bad_length(n: usize) -> bool
     ensures { λ r. ⌜ r ≡ badLength n ⌝ }
 {
-    if n < 12 {
+    if n < opcode::BTH_LENGTH {
         return true;
     }
-    if 4128 < n {
+    if header::PACKET_LIMIT < n {
         return true;
     }
     n % 4 != 0
@@ -155,43 +157,43 @@ fn beyond_service(service: u8, low: u8) -> bool
 }
 
 // The header of a packet that passes all header checks of a queue pair with these numbers, or the
-// check that failed first, 1 to 9.
+// check that failed first.
 pub fn admit(p: &[u8], service: u8, ours: u32, pkey: u16, ready: bool) -> HeaderRead
     ensures { λ r. ⌜ r ≡ admitted service ours pkey ready (now (p .entry)) ⌝ }
 {
     let bad = bad_length(p.len());
     if bad {
-        return HeaderRead::Dropped(1);
+        return HeaderRead::Dropped(reason::LENGTH);
     }
     let b = read_bth(p);
     if b.tver != 0 {
-        return HeaderRead::Dropped(2);
+        return HeaderRead::Dropped(reason::VERSION);
     }
     if b.dest != ours {
-        return HeaderRead::Dropped(3);
+        return HeaderRead::Dropped(reason::NUMBER);
     }
     let matched = header::pkeys_match(b.pkey, pkey);
     if !matched {
-        return HeaderRead::Dropped(4);
+        return HeaderRead::Dropped(reason::KEY);
     }
-    let wrong = wrong_service(b.opcode / 32, service);
+    let wrong = wrong_service(b.opcode / opcode::PER_SERVICE, service);
     if wrong {
-        return HeaderRead::Dropped(5);
+        return HeaderRead::Dropped(reason::SERVICE);
     }
-    let response = is_response(b.opcode % 32);
+    let response = is_response(b.opcode % opcode::PER_SERVICE);
     if response {
-        return HeaderRead::Dropped(6);
+        return HeaderRead::Dropped(reason::RESPONSE);
     }
-    let beyond = beyond_service(service, b.opcode % 32);
+    let beyond = beyond_service(service, b.opcode % opcode::PER_SERVICE);
     if beyond {
-        return HeaderRead::Dropped(7);
+        return HeaderRead::Dropped(reason::UNSERVED);
     }
     let class = opcode::class(b.opcode);
     if p.len() < class.length {
-        return HeaderRead::Dropped(8);
+        return HeaderRead::Dropped(reason::SHORT);
     }
     if !ready {
-        return HeaderRead::Dropped(9);
+        return HeaderRead::Dropped(reason::NOT_READY);
     }
     let extension = read_extension(p, class.follows);
     HeaderRead::Accepted(Header { bth: b, extension })
@@ -203,19 +205,19 @@ pub fn read(p: &[u8]) -> HeaderRead
 {
     let bad = bad_length(p.len());
     if bad {
-        return HeaderRead::Dropped(1);
+        return HeaderRead::Dropped(reason::LENGTH);
     }
     let bth = read_bth(p);
     if bth.tver != 0 {
-        return HeaderRead::Dropped(2);
+        return HeaderRead::Dropped(reason::VERSION);
     }
-    let other = header::other_service(bth.opcode / 32);
+    let other = header::other_service(bth.opcode / opcode::PER_SERVICE);
     if other {
-        return HeaderRead::Dropped(5);
+        return HeaderRead::Dropped(reason::SERVICE);
     }
     let class = opcode::class(bth.opcode);
     if p.len() < class.length {
-        return HeaderRead::Dropped(8);
+        return HeaderRead::Dropped(reason::SHORT);
     }
     let extension = read_extension(p, class.follows);
     HeaderRead::Accepted(Header { bth, extension })

@@ -4,12 +4,16 @@ use mathlib.Core.Path.{_≡_}
 use mathlib.Core.Bool.{Bool, true, false}
 use mathlib.Core.List.{List, [], _∷_, _++_, map}
 use mathlib.Core.Logic.{_⊎_}
-use lib.ListN.{length, getD}
+use lib.ListN.{length}
+use Rattle.opcode.specs.Service as Service
 use Rattle.header.specs.Check.{pkeysMatch}
+use Rattle.table.specs.EntryRow as EntryRow
 use Rattle.table.specs.Table.{regionRow}
 use Rattle.table.specs.View.{regionOf}
 use Rattle.table.specs.declared.Region.{Region}
 use Rattle.table.specs.declared.Entry.{Entry}
+use Rattle.pair.specs.State as State
+use Rattle.pair.specs.Pair.{closed}
 use Rattle.pair.specs.View.{entriesOf}
 use Rattle.pair.specs.Calls.HostCall.{PostEntry}
 use Rattle.pair.specs.Calls.{Whole, called}
@@ -23,7 +27,7 @@ use Rattle.responder_spec.specs.Response.{nextResponse}
 use Rattle.responder_spec.specs.Calls.{received, drained, reports}
 use Rattle.responder_spec.specs.declared.Completion.{Completion}
 use Rattle.delivery.specs.Stream.{Message, Slot, slot, stream, packetAt, numberAlong}
-use Rattle.delivery.specs.Plain.{Plain, Call, plainStep, plain, start}
+use Rattle.delivery.specs.Plain.{Plain, Call, answerRoom, plainStep, plain, start}
 use Rattle.delivery.specs.Plain.Call.{Hand, Next, Post}
 
 -- The pair's run: its tables, memory, and the completions told so far.
@@ -60,12 +64,12 @@ run S x (c ∷ cs) = run S (step S x c) cs
 -- A fresh pair: made by calls, reliable, Ready, its regions in place, nothing delivered. Entries may wait.
 pub record Fresh (w : Whole) : Type 0 where
   pub sound : WholeSound w
-  pub reliable : w .pair .setup .service ≡ 0
-  pub ready : w .pair .state ≡ 1
+  pub reliable : w .pair .setup .service ≡ Service.rc
+  pub ready : w .pair .state ≡ State.ready
   pub expected : w .pair .expected ≡ w .pair .setup .start
   pub msn : w .pair .msn .0 ≡ 0
   pub nakmark : w .pair .nakmark ≡ false
-  pub message : w .pair .message .kind ≡ 255
+  pub message : w .pair .message .kind ≡ closed
   pub read : w .pair .read .remaining ≡ 0
   pub saved : w .pair .saved .count ≡ 0
 
@@ -131,7 +135,7 @@ pub record Near (x y : ℕ) : Type 0 where
 -- refused, its number is near the one of packet k, which may be the next after the last.
 pub record Handed (s : Setup) (S : List Slot) (p : Plain) (j : ℕ) (out : List ℕ) : Type 0 where
   pub inside : j < length S
-  pub near : 24 ≤ length out → length (p .memory) ≡ s .memory → p .r ≡ 0 → Near (numberAlong S j) (numberAlong S (p .k))
+  pub near : answerRoom ≤ length out → length (p .memory) ≡ s .memory → p .r ≡ 0 → Near (numberAlong S j) (numberAlong S (p .k))
 
 -- An entry that is accepted is long enough.
 pub record Posted (s : Setup) (ms : List Message) (p : Plain) (e : Entry) : Type 0 where
@@ -146,9 +150,9 @@ abbrev pub AllCallsPermitted : Setup → List (List ℕ) → List Message → Li
 AllCallsPermitted s regions ms S p [] = Unit {0}
 AllCallsPermitted s regions ms S p (c ∷ cs) = CallPermitted s ms S p c × AllCallsPermitted s regions ms S (plainStep s regions S p c) cs
 
--- the entries that wait at the start; an entry's row is number, offset, length
+-- the entries that wait at the start
 abbrev pub entryOf : List ℕ → Entry
-entryOf row = record { number = getD row 0 0; offset = getD row 1 0; length = getD row 2 0 }
+entryOf row = record { number = EntryRow.number row; offset = EntryRow.offset row; length = EntryRow.length row }
 
 abbrev pub waitingAt : Whole → List Entry
 waitingAt w = map entryOf (entriesOf (w .pair) (w .entries))

@@ -5,6 +5,7 @@ use mathlib.Core.Path.{_≡_}
 use mathlib.Core.Bool.{true}
 use mathlib.Core.List.{List, [], _∷_}
 use lib.ListN.{length, replicate}
+use Rattle.opcode.specs.Service as Service
 use Rattle.table.specs.declared.Region.{Region}
 use Rattle.pair.specs.Calls.HostCall.{AddRegion, PostEntry, MakeReady}
 use Rattle.pair.specs.Calls.{Whole, HostCall, begun, calledAll}
@@ -19,7 +20,7 @@ use Rattle.delivery.specs.Witness.{wholeEntry}
 unfoldable pub setup : Setup
 setup =
     record {
-      service = 0;
+      service = Service.rc;
       pmtu = 256;
       ours = 18;
       theirs = 52;
@@ -45,7 +46,7 @@ made = calledAll (begun setup [] (replicate 16 (replicate 3 0)) (replicate 16 (r
 
 unfoldable pub message : ℕ → Request → ℕ → Message
 message pkey r n =
-    record { connection = record { service = 0; pmtu = 256; pkey = pkey; dest = 18 }; request = r; bytes = replicate n 9 }
+    record { connection = record { service = Service.rc; pmtu = 256; pkey = pkey; dest = 18 }; request = r; bytes = replicate n 9 }
 
 unfoldable pub messages : List Message
 messages =

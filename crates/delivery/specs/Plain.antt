@@ -4,13 +4,14 @@ use Prim.Native.Nat.{ℕ, suc, _+_, _-_, _*_}
 use mathlib.Core.Bool.{Bool, true, false, cond, not, _&&_}
 use mathlib.Core.List.{List, [], _∷_, _++_}
 use lib.Dec.{leb, ltb, eqb}
-use lib.ListN.{length, getD, take, drop}
+use lib.ListN.{length, take, drop}
 use Rattle.sequence.specs.Sequence.{psnAfter, msnNext}
 use Rattle.sequence.specs.declared.Psn.{Psn}
 use Rattle.sequence.specs.declared.Msn.{Msn}
 use Rattle.memory.specs.Memory.{overwrite}
 use Rattle.memory.specs.Word.{fetchAdded, swapped}
 use Rattle.pmtu.specs.Pieces.{pieceAt}
+use Rattle.table.specs.RegionRow as RegionRow
 use Rattle.table.specs.View.{regionOf}
 use Rattle.table.specs.declared.Entry.{Entry}
 use Rattle.pair.specs.declared.Setup.{Setup}
@@ -70,9 +71,10 @@ completionFor (Read a) e n = completionWith e n false 0
 completionFor (CmpSwap a) e n = completionWith e n false 0
 completionFor (FetchAdd t v) e n = completionWith e n false 0
 
--- where in memory the address of a region lies; a region's row is key, address, length, offset and rights
+-- where in memory the address of a region lies
 unfoldable pub regionOffset : List (List ℕ) → ℕ → ℕ → ℕ
-regionOffset regions key address = getD (regionOf key regions) 3 0 + (address - getD (regionOf key regions) 1 0)
+regionOffset regions key address =
+    RegionRow.offset (regionOf key regions) + (address - RegionRow.address (regionOf key regions))
 
 -- memory after packet i, of the entry e: piece i of the message at its place
 abbrev pub memoryAfter : Request → List (List ℕ) → ℕ → List ℕ → ℕ → Entry → List ℕ → List ℕ
@@ -149,14 +151,21 @@ deliver regions S p j =
     cond (eqb j (p .k)) (executeNext regions p (slot S j))
     (cond (ltb j (p .k) && isRead (slot S j .message .request)) (withResponses p (psnCount (slot S j))) p)
 
+-- how long an output must be to take any answer, and the headers of a READ's response
+abbrev pub answerRoom : ℕ
+answerRoom = 24
+
+abbrev pub responseHeaders : ℕ
+responseHeaders = 16
+
 -- a call that the order of checks refuses changes nothing
 abbrev pub plainStep : Setup → List (List ℕ) → List Slot → Plain → Call → Plain
 plainStep s regions S p (Hand j out) =
-    cond (ltb (length out) 24) p
+    cond (ltb (length out) answerRoom) p
     (cond (not (eqb (length (p .memory)) (s .memory))) p (cond (not (eqb (p .r) 0)) p (deliver regions S p j)))
 plainStep s regions S p (Next out) =
     cond (eqb (p .r) 0) p
-    (cond (ltb (length out) (16 + s .pmtu)) p (cond (not (eqb (length (p .memory)) (s .memory))) p (withResponses p (p .r - 1))))
+    (cond (ltb (length out) (responseHeaders + s .pmtu)) p (cond (not (eqb (length (p .memory)) (s .memory))) p (withResponses p (p .r - 1))))
 plainStep s regions S p (Post e) =
     cond (ltb (s .memory) (e .offset + e .length)) p
     (cond (leb 16 (length (p .held) + length (p .waiting))) p (withWaiting p (p .waiting ++ (e ∷ []))))

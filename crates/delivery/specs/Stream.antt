@@ -3,6 +3,7 @@ use Prim.Native.Nat.{ℕ, zero, suc, _+_}
 use mathlib.Core.List.{List, [], _∷_, _++_}
 use lib.ListN.{length, getD}
 use Rattle.sequence.specs.declared.Psn.{Psn}
+use Rattle.opcode.specs.Service as Service
 use Rattle.pmtu.specs.Pieces.{pieces}
 use Rattle.cut_spec.specs.Message.{packetsOf}
 use Rattle.cut_spec.specs.Next.{nextPsn}
@@ -43,7 +44,7 @@ stream first (m ∷ ms) =
 abbrev pub past : Slot
 past =
     record {
-      message = record { connection = record { service = 0; pmtu = 0; pkey = 0; dest = 0 }; request = Send; bytes = [] };
+      message = record { connection = record { service = Service.rc; pmtu = 0; pkey = 0; dest = 0 }; request = Send; bytes = [] };
       first = record { 0 = 0 };
       index = 0;
     }

@@ -5,6 +5,7 @@ use header::Answer;
 use header::Bth;
 use header::Extension;
 use header::Header;
+use sequence::Psn;
 ghost use mathlib.Core.Path.{_≡_};
 ghost use mathlib.Core.Bool.{not};
 ghost use Prim.Native.Nat.{_+_, _≤_};
@@ -17,7 +18,7 @@ ghost use Rattle.header.specs.Write.{bthFits, followsBy, widthsFit, extensionFi
 fn bth_unfit(b: Bth) -> bool
     ensures { λ r. ⌜ r ≡ not (bthFits b) ⌝ }
 {
-    let other = header::other_service(b.opcode / 32);
+    let other = header::other_service(b.opcode / opcode::PER_SERVICE);
     if other {
         return true;
     }
@@ -27,14 +28,14 @@ fn bth_unfit(b: Bth) -> bool
     if b.tver != 0 {
         return true;
     }
-    if 16777216 <= b.dest {
+    if header::QPN_SPACE <= b.dest {
         return true;
     }
     if 128 <= b.reserved7 {
         return true;
     }
     let psn = b.psn;
-    16777216 <= psn.0
+    Psn::SPACE <= psn.0
 }
 
 // Which headers these are, as an opcode's class numbers them.
@@ -136,12 +137,12 @@ pub fn write(h: Header, out: &mut [u8]) -> Answer
 {
     let none = unfit(h);
     if none {
-        return Answer::Refused(39);
+        return Answer::Refused(header::BAD_NUMBER);
     }
     let bth = h.bth;
     let class = opcode::class(bth.opcode);
     if out.len() < class.length {
-        return Answer::Refused(35);
+        return Answer::Refused(header::OUTPUT_SHORT);
     }
     let b = wire::bth_bytes(bth);
     memory::store(out, 0, &b);

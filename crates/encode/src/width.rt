@@ -3,6 +3,7 @@
 use header::Aeth;
 use header::AtomicEth;
 use header::Reth;
+use sequence::Msn;
 ghost use mathlib.Core.Path.{_≡_};
 ghost use mathlib.Core.Bool.{not};
 ghost use Rattle.header.specs.Write.{rethFits, rethImmediateFits, immediateFits, atomicFits, aethFits, aethValueFits};
@@ -35,12 +36,12 @@ pub(crate) fn aeth_unfit(a: Aeth) -> bool
     ensures { λ u. ⌜ u ≡ not (aethFits a) ⌝ }
 {
     let msn = a.msn;
-    16777216 <= msn.0
+    Msn::SPACE <= msn.0
 }
 
 pub(crate) fn aeth_value_unfit(a: Aeth, v: u64) -> bool
     ensures { λ u. ⌜ u ≡ not (aethValueFits a v) ⌝ }
 {
     let msn = a.msn;
-    16777216 <= msn.0
+    Msn::SPACE <= msn.0
 }

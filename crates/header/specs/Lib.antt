@@ -1,3 +1,5 @@
+pub mod Refusal
+pub mod Reason
 pub mod Bytes
 pub mod Read
 pub mod Write

@@ -5,6 +5,10 @@ use mathlib.Core.List.{List}
 use lib.Dec.{leb, ltb, eqb}
 use lib.ListN.{length, getD}
 use Rattle.opcode.specs.Opcode.{classOf, serviceOf}
+use Rattle.opcode.specs.Service as Service
+use Rattle.opcode.specs.Follows as Follows
+use Rattle.opcode.specs.Length as Length
+use Rattle.header.specs.Reason as Reason
 use Rattle.header.specs.Bytes.{be2, be3, be4, be8}
 use Rattle.header.specs.declared.Bth.{Bth}
 use Rattle.header.specs.declared.Reth.{Reth}
@@ -49,40 +53,47 @@ aethOf p = record { syndrome = getD p 12 0; msn = record { 0 = be3 p 13 } }
 -- the headers after the BTH, by the opcode's class; Immediate stands last, AtomicAckETH after the AETH
 unfoldable pub extensionOf : ℕ → List ℕ → Extension
 extensionOf follows p =
-    cond (eqb follows 1) (Remote (rethOf p))
-    (cond (eqb follows 2) (RemoteImmediate (rethOf p) (be4 p 28))
-    (cond (eqb follows 3) (Immediate (be4 p 12))
-    (cond (eqb follows 4) (Atomic (atomicOf p))
-    (cond (eqb follows 5) (Acknowledge (aethOf p))
-    (cond (eqb follows 6) (AtomicAcknowledge (aethOf p) (be8 p 16)) Bare)))))
+    cond (eqb follows Follows.reth) (Remote (rethOf p))
+    (cond (eqb follows Follows.rethImmediate) (RemoteImmediate (rethOf p) (be4 p 28))
+    (cond (eqb follows Follows.immediate) (Immediate (be4 p 12))
+    (cond (eqb follows Follows.atomicEth) (Atomic (atomicOf p))
+    (cond (eqb follows Follows.aeth) (Acknowledge (aethOf p))
+    (cond (eqb follows Follows.aethAtomicAck) (AtomicAcknowledge (aethOf p) (be8 p 16)) Bare)))))
 
 unfoldable pub headerOf : List ℕ → Header
 headerOf p = record { bth = bthOf p; extension = extensionOf (classOf (bthOf p .opcode) .follows) p }
 
--- a packet has 12 to 4,128 bytes, in words of 4
-unfoldable pub badLength : ℕ → Bool
-badLength n = cond (ltb n 12) true (cond (ltb 4128 n) true (not (eqb (n % 4) 0)))
+-- the bytes of the longest packet: a payload of 4,096 behind the BTH, a RETH and an Immediate
+abbrev pub packetLimit : ℕ
+packetLimit = 4128
 
--- service bits that are neither RC, 000, nor UC, 001
+-- a packet has a BTH at least, and words of 4 bytes
+unfoldable pub badLength : ℕ → Bool
+badLength n = cond (ltb n Length.bth) true (cond (ltb packetLimit n) true (not (eqb (n % 4) 0)))
+
+-- service bits that are neither RC's nor UC's
 unfoldable pub otherService : ℕ → Bool
-otherService service = ltb 1 service
+otherService service = ltb Service.uc service
 
 -- reading alone makes four of the header checks; the first that fails, by its number among all nine, or 0
 unfoldable pub readReason : List ℕ → ℕ
 readReason p =
-    cond (badLength (length p)) 1
-    (cond (not (eqb (bthOf p .tver) 0)) 2
-    (cond (otherService (serviceOf (bthOf p .opcode))) 5
-    (cond (ltb (length p) (classOf (bthOf p .opcode) .length)) 8 0)))
+    cond (badLength (length p)) Reason.length
+    (cond (not (eqb (bthOf p .tver) 0)) Reason.version
+    (cond (otherService (serviceOf (bthOf p .opcode))) Reason.service
+    (cond (ltb (length p) (classOf (bthOf p .opcode) .length)) Reason.short 0)))
 
 -- what a reason makes of a packet
 unfoldable pub readBy : ℕ → List ℕ → HeaderRead
 readBy reason p = cond (eqb reason 0) (Accepted (headerOf p)) (Dropped reason)
 
 -- the answer's number in the rules: a packet whose header does not read is a quiet drop
+abbrev pub quietDrop : ℕ
+quietDrop = 5
+
 unfoldable pub readNumber : HeaderRead → ℕ
 readNumber (Accepted h) = 0
-readNumber (Dropped reason) = 5
+readNumber (Dropped reason) = quietDrop
 
 unfoldable pub readHeader : List ℕ → HeaderRead
 readHeader p = readBy (readReason p) p

@@ -4,7 +4,10 @@ use mathlib.Core.Bool.{Bool, true, cond, not, _&&_}
 use mathlib.Core.List.{List, [], _∷_, _++_}
 use lib.Dec.{ltb, eqb}
 use lib.ListN.{length, drop}
+use Rattle.sequence.specs.Sequence.{space, msnSpace}
 use Rattle.opcode.specs.Opcode.{classOf, serviceOf}
+use Rattle.opcode.specs.Follows as Follows
+use Rattle.header.specs.Refusal as Refusal
 use Rattle.header.specs.Bytes.{two, three, four, eight, bit}
 use Rattle.header.specs.Read.{otherService}
 use Rattle.header.specs.declared.Bth.{Bth}
@@ -50,6 +53,10 @@ extensionBytes (AtomicAcknowledge a v) = aethBytes a ++ eight v
 unfoldable pub headerBytes : Header → List ℕ
 headerBytes h = bthBytes (h .bth) ++ extensionBytes (h .extension)
 
+-- how many queue pair numbers there are
+abbrev pub qpnSpace : ℕ
+qpnSpace = 2 ^ 24
+
 -- each field within its width, TVer 0, a service that is RC or UC
 unfoldable pub bthFits : Bth → Bool
 bthFits b =
@@ -59,7 +66,7 @@ bthFits b =
     && (eqb (b .tver) 0
     && (ltb (b .pkey) (2 ^ 16)
     && (ltb (b .reserved8) (2 ^ 8)
-    && (ltb (b .dest) (2 ^ 24) && (ltb (b .reserved7) (2 ^ 7) && ltb (b .psn .0) (2 ^ 24))))))))
+    && (ltb (b .dest) qpnSpace && (ltb (b .reserved7) (2 ^ 7) && ltb (b .psn .0) space)))))))
 
 unfoldable pub rethFits : Reth → Bool
 rethFits r = ltb (r .address) (2 ^ 64) && (ltb (r .key) (2 ^ 32) && ltb (r .length) (2 ^ 32))
@@ -70,7 +77,7 @@ atomicFits a =
     && (ltb (a .key) (2 ^ 32) && (ltb (a .swap) (2 ^ 64) && ltb (a .compare) (2 ^ 64)))
 
 unfoldable pub aethFits : Aeth → Bool
-aethFits a = ltb (a .syndrome) (2 ^ 8) && ltb (a .msn .0) (2 ^ 24)
+aethFits a = ltb (a .syndrome) (2 ^ 8) && ltb (a .msn .0) msnSpace
 
 unfoldable pub immediateFits : ℕ → Bool
 immediateFits i = ltb i (2 ^ 32)
@@ -92,13 +99,13 @@ widthsFit (AtomicAcknowledge a v) = aethValueFits a v
 
 -- which headers these are, by the number that an opcode's class gives them
 unfoldable pub followsBy : Extension → ℕ
-followsBy Bare = 0
-followsBy (Remote r) = 1
-followsBy (RemoteImmediate r i) = 2
-followsBy (Immediate i) = 3
-followsBy (Atomic a) = 4
-followsBy (Acknowledge a) = 5
-followsBy (AtomicAcknowledge a v) = 6
+followsBy Bare = Follows.none
+followsBy (Remote r) = Follows.reth
+followsBy (RemoteImmediate r i) = Follows.rethImmediate
+followsBy (Immediate i) = Follows.immediate
+followsBy (Atomic a) = Follows.atomicEth
+followsBy (Acknowledge a) = Follows.aeth
+followsBy (AtomicAcknowledge a v) = Follows.aethAtomicAck
 
 -- the headers are those of the opcode's class, and each field is within its width
 unfoldable pub extensionFits : ℕ → Extension → Bool
@@ -110,9 +117,9 @@ headerFits h = bthFits (h .bth) && extensionFits (classOf (h .bth .opcode) .foll
 unfoldable pub headerLength : Header → ℕ
 headerLength h = classOf (h .bth .opcode) .length
 
--- the answer's number: 39 before 35, else 0
+-- the answer's number: the refusal, or 0
 unfoldable pub writeAnswer : Header → ℕ → ℕ
-writeAnswer h n = cond (headerFits h) (cond (ltb n (headerLength h)) 35 0) 39
+writeAnswer h n = cond (headerFits h) (cond (ltb n (headerLength h)) Refusal.outputShort 0) Refusal.badNumber
 
 -- the answer: with 0 the bytes written
 unfoldable pub answerBy : ℕ → ℕ → Answer

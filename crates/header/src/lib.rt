@@ -1,10 +1,28 @@
 // Packet headers as values, and the tests of service and P_Key. The definitions of reading and writing them, and the
 // proof that each undoes the other, stand in specs/ and proofs/; the code in decode and encode.
+pub mod reason;
+
 use sequence::Msn;
 use sequence::Psn;
 ghost use mathlib.Core.Path.{_≡_};
 ghost use Rattle.header.specs.Read.{otherService};
 ghost use Rattle.header.specs.Check.{pkeysMatch};
+
+// How many queue pair numbers there are.
+pub const QPN_SPACE: u32 = 16777216;
+
+// The top bit of a P_Key: a full member's.
+pub const PKEY_TOP: u16 = 32768;
+
+// Bytes of the longest packet.
+pub const PACKET_LIMIT: usize = 4128;
+
+// Refusals of calls that write or count.
+pub const OUT_OF_RANGE: u8 = 34;
+
+pub const OUTPUT_SHORT: u8 = 35;
+
+pub const BAD_NUMBER: u8 = 39;
 
 // Base transport header.
 pub struct Bth {
@@ -58,15 +76,15 @@ pub struct Header {
     pub extension: Extension,
 }
 
-// What reading finds: the header, or why the packet is dropped: the header check that failed first,
-// by its number from 1 to 9. Reading alone makes four of them: 1, 2, 5 and 8.
+// What reading finds: the header, or why the packet is dropped: the header check that failed first.
+// Reading alone makes four of them: reason::LENGTH, VERSION, SERVICE and SHORT.
 pub enum HeaderRead {
     Accepted(Header),
     Dropped(u8),
 }
 
 // What a call answers that writes or counts: how many bytes or packets, or the number of its refusal.
-// A header is refused with 39 where there is no such header, 35 where the output is too short for it.
+// A header is refused with BAD_NUMBER where there is no such header, OUTPUT_SHORT where the output is too short for it.
 pub enum Answer {
     Done(usize),
     Refused(u8),
@@ -83,14 +101,14 @@ pub fn other_service(service: u8) -> bool
 pub fn pkeys_match(theirs: u16, ours: u16) -> bool
     ensures { λ r. ⌜ r ≡ pkeysMatch theirs ours ⌝ }
 {
-    if theirs % 32768 != ours % 32768 {
+    if theirs % PKEY_TOP != ours % PKEY_TOP {
         return false;
     }
-    if theirs % 32768 == 0 {
+    if theirs % PKEY_TOP == 0 {
         return false;
     }
-    if 32768 <= theirs {
+    if PKEY_TOP <= theirs {
         return true;
     }
-    32768 <= ours
+    PKEY_TOP <= ours
 }

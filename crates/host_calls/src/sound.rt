@@ -29,16 +29,16 @@ pub fn setup_unfit(setup: Setup) -> bool
     if service {
         return true;
     }
-    if Psn::SPACE <= setup.ours {
+    if header::QPN_SPACE <= setup.ours {
         return true;
     }
-    if Psn::SPACE <= setup.theirs {
+    if header::QPN_SPACE <= setup.theirs {
         return true;
     }
     if Psn::SPACE <= setup.start.0 {
         return true;
     }
-    if setup.pkey % 32768 == 0 {
+    if setup.pkey % header::PKEY_TOP == 0 {
         return true;
     }
     31 < setup.timer
@@ -122,20 +122,20 @@ pub fn read_unsound(
     if Psn::SPACE <= psn.0 {
         return true;
     }
-    16777216 <= msn.0
+    Msn::SPACE <= msn.0
 }
 
 // The state is one of three, PSN and MSN have 24 bits.
 pub fn numbers_unsound(state: u8, expected: Psn, msn: Msn) -> bool
     ensures { λ r. ⌜ r ≡ numbersUnsound state (expected .0) (msn .0) ⌝ }
 {
-    if 2 < state {
+    if pair::ERROR < state {
         return true;
     }
     if Psn::SPACE <= expected.0 {
         return true;
     }
-    16777216 <= msn.0
+    Msn::SPACE <= msn.0
 }
 
 // Whether some number of the pair is out of its range.

@@ -1,5 +1,6 @@
 // Numbers in words: an opcode's, and that of the check that dropped a packet.
 use crate::print::text;
+use header::reason;
 use opcode::OpcodeClass;
 
 // No packet that reads has another service.
@@ -52,7 +53,7 @@ fn immediate(follows: u8) {
 }
 
 pub(crate) fn opcode_words(n: u8, class: OpcodeClass) {
-    service(n / 32);
+    service(n / opcode::PER_SERVICE);
     kind(class.kind);
     let stored = has_places(class.kind);
     if stored {
@@ -64,10 +65,10 @@ pub(crate) fn opcode_words(n: u8, class: OpcodeClass) {
 // Why reading dropped a packet.
 pub(crate) fn check_words(n: u8) {
     match n {
-        1 => text(b"length, not 12 to 4,128 bytes or no multiple of 4"),
-        2 => text(b"transport version, not 0"),
-        5 => text(b"service, neither RC nor UC"),
-        8 => text(b"too short for its headers"),
+        reason::LENGTH => text(b"length, not 12 to 4,128 bytes or no multiple of 4"),
+        reason::VERSION => text(b"transport version, not 0"),
+        reason::SERVICE => text(b"service, neither RC nor UC"),
+        reason::SHORT => text(b"too short for its headers"),
         _ => text(b"other"),
     }
 }

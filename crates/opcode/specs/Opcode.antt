@@ -1,78 +1,85 @@
--- Opcodes: bits 7 to 5 are the service, RC 000 and UC 001; bits 4 to 0 say kind, place and headers.
+-- Opcodes: bits 7 to 5 are the service; bits 4 to 0 say kind, place and headers.
 use Prim.Native.Nat.{ℕ, _+_, _-_, _/_, _%_}
 use mathlib.Core.Bool.{Bool, cond}
 use lib.Dec.{eqb, ltb}
+use Rattle.opcode.specs.Kind as Kind
+use Rattle.opcode.specs.Place as Place
+use Rattle.opcode.specs.Service as Service
+use Rattle.opcode.specs.Low as Low
+use Rattle.opcode.specs.Follows as Follows
+use Rattle.opcode.specs.Length as Length
 use Rattle.opcode.specs.declared.OpcodeClass.{OpcodeClass}
 
+-- how many opcodes a service has
+abbrev pub perService : ℕ
+perService = 32
+
 abbrev pub serviceOf : ℕ → ℕ
-serviceOf opcode = opcode / 32
+serviceOf opcode = opcode / perService
 
 abbrev pub lowOf : ℕ → ℕ
-lowOf opcode = opcode % 32
+lowOf opcode = opcode % perService
 
--- a kind's number is the first opcode that has it:
--- 0 SEND, 6 WRITE, 12 READ request, 13 READ response, 17 Acknowledge, 18 Atomic Acknowledge, 19 CmpSwap,
--- 20 FetchAdd, 21 reserved
+-- a kind's number is the first opcode that has it
 unfoldable pub kindOf : ℕ → ℕ
 kindOf low =
-    cond (ltb low 6) 0
-    (cond (ltb low 12) 6
-    (cond (eqb low 12) 12
-    (cond (ltb low 17) 13
-    (cond (eqb low 17) 17
-    (cond (eqb low 18) 18
-    (cond (eqb low 19) 19
-    (cond (eqb low 20) 20 21)))))))
+    cond (ltb low Kind.write) Kind.send
+    (cond (ltb low Kind.read) Kind.write
+    (cond (eqb low Kind.read) Kind.read
+    (cond (ltb low Kind.acknowledge) Kind.readResponse
+    (cond (eqb low Kind.acknowledge) Kind.acknowledge
+    (cond (eqb low Kind.atomicAcknowledge) Kind.atomicAcknowledge
+    (cond (eqb low Kind.cmpSwap) Kind.cmpSwap
+    (cond (eqb low Kind.fetchAdd) Kind.fetchAdd Kind.reserved)))))))
 
--- counted from a First: 0 First, 1 Middle, 2 and 3 Last, 4 and 5 Only; an odd number from 3 on has an immediate.
--- The place's number is 0, 1, 2 or 4
+-- counted from a First: the number after a Last's, and after an Only's, is the same place with an immediate
 unfoldable pub placeIn : ℕ → ℕ
-placeIn n = cond (eqb n 0) 0 (cond (eqb n 1) 1 (cond (ltb n 4) 2 4))
+placeIn n =
+    cond (eqb n Place.first) Place.first
+    (cond (eqb n Place.middle) Place.middle (cond (ltb n Place.only) Place.last Place.only))
 
--- a SEND's counted from 0, a WRITE's from 6; of READ responses 13 is the First, 14 a Middle, 15 the Last and 16 an
--- Only; all else is one packet, so Only
+-- a SEND's and a WRITE's are counted from their First, READ responses have one opcode for each place; all else is one
+-- packet, so Only
 unfoldable pub placeOf : ℕ → ℕ
 placeOf low =
-    cond (ltb low 6) (placeIn low)
-    (cond (ltb low 12) (placeIn (low - 6))
-    (cond (eqb low 13) 0
-    (cond (eqb low 14) 1
-    (cond (eqb low 15) 2 4))))
+    cond (ltb low Kind.write) (placeIn low)
+    (cond (ltb low Kind.read) (placeIn (low - Kind.write))
+    (cond (eqb low Low.readResponseFirst) Place.first
+    (cond (eqb low Low.readResponseMiddle) Place.middle
+    (cond (eqb low Low.readResponseLast) Place.last Place.only))))
 
--- the headers after the BTH have a number: 0 none, 1 RETH, 2 RETH and Immediate, 3 Immediate, 4 AtomicETH, 5 AETH,
--- 6 AETH and AtomicAckETH. SENDs and WRITEs have an Immediate in the Imm forms, and a WRITE that begins a message a
--- RETH before it
+-- SENDs and WRITEs have an Immediate in the Imm forms, and a WRITE that begins a message a RETH before it
 unfoldable pub sendWriteFollows : ℕ → ℕ
 sendWriteFollows low =
-    cond (eqb low 3) 3
-    (cond (eqb low 5) 3
-    (cond (eqb low 6) 1
-    (cond (eqb low 9) 3
-    (cond (eqb low 10) 1
-    (cond (eqb low 11) 2 0)))))
+    cond (eqb low Low.sendLastImmediate) Follows.immediate
+    (cond (eqb low Low.sendOnlyImmediate) Follows.immediate
+    (cond (eqb low Low.writeFirst) Follows.reth
+    (cond (eqb low Low.writeLastImmediate) Follows.immediate
+    (cond (eqb low Low.writeOnly) Follows.reth
+    (cond (eqb low Low.writeOnlyImmediate) Follows.rethImmediate Follows.none)))))
 
 -- a READ request has a RETH, atomics an AtomicETH, and of the responses all but a READ's Middle an AETH
 unfoldable pub followsOf : ℕ → ℕ
 followsOf low =
-    cond (ltb low 12) (sendWriteFollows low)
-    (cond (eqb low 12) 1
-    (cond (eqb low 13) 5
-    (cond (eqb low 15) 5
-    (cond (eqb low 16) 5
-    (cond (eqb low 17) 5
-    (cond (eqb low 18) 6
-    (cond (eqb low 19) 4
-    (cond (eqb low 20) 4 0))))))))
+    cond (ltb low Kind.read) (sendWriteFollows low)
+    (cond (eqb low Kind.read) Follows.reth
+    (cond (eqb low Low.readResponseFirst) Follows.aeth
+    (cond (eqb low Low.readResponseLast) Follows.aeth
+    (cond (eqb low Low.readResponseOnly) Follows.aeth
+    (cond (eqb low Kind.acknowledge) Follows.aeth
+    (cond (eqb low Kind.atomicAcknowledge) Follows.aethAtomicAck
+    (cond (eqb low Kind.cmpSwap) Follows.atomicEth
+    (cond (eqb low Kind.fetchAdd) Follows.atomicEth Follows.none))))))))
 
--- BTH 12 bytes, RETH 16, Immediate 4, AtomicETH 28, AETH 4, AtomicAckETH 8
+-- the bytes of all headers
 unfoldable pub lengthOf : ℕ → ℕ
 lengthOf follows =
-    cond (eqb follows 1) (12 + 16)
-    (cond (eqb follows 2) (12 + 16 + 4)
-    (cond (eqb follows 3) (12 + 4)
-    (cond (eqb follows 4) (12 + 28)
-    (cond (eqb follows 5) (12 + 4)
-    (cond (eqb follows 6) (12 + 4 + 8) 12)))))
+    cond (eqb follows Follows.reth) (Length.bth + Length.reth)
+    (cond (eqb follows Follows.rethImmediate) (Length.bth + Length.reth + Length.immediate)
+    (cond (eqb follows Follows.immediate) (Length.bth + Length.immediate)
+    (cond (eqb follows Follows.atomicEth) (Length.bth + Length.atomicEth)
+    (cond (eqb follows Follows.aeth) (Length.bth + Length.aeth)
+    (cond (eqb follows Follows.aethAtomicAck) (Length.bth + Length.aeth + Length.atomicAckEth) Length.bth)))))
 
 unfoldable pub lowClass : ℕ → OpcodeClass
 lowClass low =
@@ -80,14 +87,14 @@ lowClass low =
 
 -- a reserved opcode: the BTH alone
 unfoldable pub reservedClass : OpcodeClass
-reservedClass = record { kind = 21; place = 4; follows = 0; length = 12 }
+reservedClass = record { kind = Kind.reserved; place = Place.only; follows = Follows.none; length = Length.bth }
 
--- UC has the first twelve opcodes, SENDs and WRITEs
+-- UC has SENDs and WRITEs, whose opcodes come first
 unfoldable pub ucHas : ℕ → Bool
-ucHas low = ltb low 12
+ucHas low = ltb low Kind.read
 
--- RC has 0 to 20; the others, and those of other services, are reserved
+-- all other opcodes, and those of other services, are reserved
 unfoldable pub classOf : ℕ → OpcodeClass
 classOf opcode =
-    cond (eqb (serviceOf opcode) 0) (lowClass (lowOf opcode))
-    (cond (eqb (serviceOf opcode) 1) (cond (ucHas (lowOf opcode)) (lowClass (lowOf opcode)) reservedClass) reservedClass)
+    cond (eqb (serviceOf opcode) Service.rc) (lowClass (lowOf opcode))
+    (cond (eqb (serviceOf opcode) Service.uc) (cond (ucHas (lowOf opcode)) (lowClass (lowOf opcode)) reservedClass) reservedClass)

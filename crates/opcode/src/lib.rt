@@ -3,6 +3,9 @@
 ghost use mathlib.Core.Path.{_≡_};
 ghost use Rattle.opcode.specs.Opcode.{kindOf, placeIn, placeOf, sendWriteFollows, followsOf, lengthOf, lowClass, reservedClass, ucHas, classOf};
 
+// How many opcodes a service has: those of the low five bits.
+pub const PER_SERVICE: u8 = 32;
+
 // Services, the opcode's bits 7 to 5.
 pub const RC: u8 = 0;
 
@@ -36,6 +39,27 @@ pub const LAST: u8 = 2;
 
 pub const ONLY: u8 = 4;
 
+// Opcodes, in the low five bits, where kind and place alone do not say which headers follow.
+const SEND_LAST_IMMEDIATE: u8 = 3;
+
+const SEND_ONLY_IMMEDIATE: u8 = 5;
+
+const WRITE_FIRST: u8 = 6;
+
+const WRITE_LAST_IMMEDIATE: u8 = 9;
+
+const WRITE_ONLY: u8 = 10;
+
+const WRITE_ONLY_IMMEDIATE: u8 = 11;
+
+const READ_RESPONSE_FIRST: u8 = 13;
+
+const READ_RESPONSE_MIDDLE: u8 = 14;
+
+const READ_RESPONSE_LAST: u8 = 15;
+
+const READ_RESPONSE_ONLY: u8 = 16;
+
 // The headers that follow the BTH.
 pub const NONE: u8 = 0;
 
@@ -50,6 +74,32 @@ pub const ATOMIC_ETH: u8 = 4;
 pub const AETH: u8 = 5;
 
 pub const AETH_ATOMIC_ACK: u8 = 6;
+
+// Bytes of each header.
+pub const BTH_LENGTH: usize = 12;
+
+const RETH_LENGTH: usize = 16;
+
+const IMMEDIATE_LENGTH: usize = 4;
+
+const ATOMIC_ETH_LENGTH: usize = 28;
+
+const AETH_LENGTH: usize = 4;
+
+const ATOMIC_ACK_ETH_LENGTH: usize = 8;
+
+// Bytes of the BTH with the headers that follow it.
+pub const WITH_RETH: usize = BTH_LENGTH + RETH_LENGTH;
+
+pub const WITH_RETH_IMMEDIATE: usize = WITH_RETH + IMMEDIATE_LENGTH;
+
+pub const WITH_IMMEDIATE: usize = BTH_LENGTH + IMMEDIATE_LENGTH;
+
+pub const WITH_ATOMIC_ETH: usize = BTH_LENGTH + ATOMIC_ETH_LENGTH;
+
+pub const WITH_AETH: usize = BTH_LENGTH + AETH_LENGTH;
+
+pub const WITH_AETH_ATOMIC_ACK: usize = WITH_AETH + ATOMIC_ACK_ETH_LENGTH;
 
 pub struct OpcodeClass {
     pub kind: u8,
@@ -92,13 +142,13 @@ fn kind_of(low: u8) -> u8
 fn place_in(n: u8) -> u8
     ensures { λ r. ⌜ r ≡ placeIn n ⌝ }
 {
-    if n == 0 {
+    if n == FIRST {
         return FIRST;
     }
-    if n == 1 {
+    if n == MIDDLE {
         return MIDDLE;
     }
-    if n < 4 {
+    if n < ONLY {
         return LAST;
     }
     ONLY
@@ -107,19 +157,19 @@ fn place_in(n: u8) -> u8
 fn place_of(low: u8) -> u8
     ensures { λ r. ⌜ r ≡ placeOf low ⌝ }
 {
-    if low < 6 {
+    if low < WRITE {
         return place_in(low);
     }
-    if low < 12 {
-        return place_in(low - 6);
+    if low < READ {
+        return place_in(low - WRITE);
     }
-    if low == READ_RESPONSE {
+    if low == READ_RESPONSE_FIRST {
         return FIRST;
     }
-    if low == 14 {
+    if low == READ_RESPONSE_MIDDLE {
         return MIDDLE;
     }
-    if low == 15 {
+    if low == READ_RESPONSE_LAST {
         return LAST;
     }
     ONLY
@@ -128,22 +178,22 @@ fn place_of(low: u8) -> u8
 fn send_write_follows(low: u8) -> u8
     ensures { λ r. ⌜ r ≡ sendWriteFollows low ⌝ }
 {
-    if low == 3 {
+    if low == SEND_LAST_IMMEDIATE {
         return IMMEDIATE;
     }
-    if low == 5 {
+    if low == SEND_ONLY_IMMEDIATE {
         return IMMEDIATE;
     }
-    if low == 6 {
+    if low == WRITE_FIRST {
         return RETH;
     }
-    if low == 9 {
+    if low == WRITE_LAST_IMMEDIATE {
         return IMMEDIATE;
     }
-    if low == 10 {
+    if low == WRITE_ONLY {
         return RETH;
     }
-    if low == 11 {
+    if low == WRITE_ONLY_IMMEDIATE {
         return RETH_IMMEDIATE;
     }
     NONE
@@ -152,31 +202,31 @@ fn send_write_follows(low: u8) -> u8
 fn follows_of(low: u8) -> u8
     ensures { λ r. ⌜ r ≡ followsOf low ⌝ }
 {
-    if low < 12 {
+    if low < READ {
         return send_write_follows(low);
     }
-    if low == 12 {
+    if low == READ {
         return RETH;
     }
-    if low == 13 {
+    if low == READ_RESPONSE_FIRST {
         return AETH;
     }
-    if low == 15 {
+    if low == READ_RESPONSE_LAST {
         return AETH;
     }
-    if low == 16 {
+    if low == READ_RESPONSE_ONLY {
         return AETH;
     }
-    if low == 17 {
+    if low == ACKNOWLEDGE {
         return AETH;
     }
-    if low == 18 {
+    if low == ATOMIC_ACKNOWLEDGE {
         return AETH_ATOMIC_ACK;
     }
-    if low == 19 {
+    if low == CMP_SWAP {
         return ATOMIC_ETH;
     }
-    if low == 20 {
+    if low == FETCH_ADD {
         return ATOMIC_ETH;
     }
     NONE
@@ -187,24 +237,24 @@ fn length_of(follows: u8) -> usize
     ensures { λ r. ⌜ r ≡ lengthOf follows ⌝ }
 {
     if follows == RETH {
-        return 28;
+        return WITH_RETH;
     }
     if follows == RETH_IMMEDIATE {
-        return 32;
+        return WITH_RETH_IMMEDIATE;
     }
     if follows == IMMEDIATE {
-        return 16;
+        return WITH_IMMEDIATE;
     }
     if follows == ATOMIC_ETH {
-        return 40;
+        return WITH_ATOMIC_ETH;
     }
     if follows == AETH {
-        return 16;
+        return WITH_AETH;
     }
     if follows == AETH_ATOMIC_ACK {
-        return 24;
+        return WITH_AETH_ATOMIC_ACK;
     }
-    12
+    BTH_LENGTH
 }
 
 fn low_class(low: u8) -> OpcodeClass
@@ -229,7 +279,7 @@ fn reserved_class() -> OpcodeClass
         kind: RESERVED,
         place: ONLY,
         follows: NONE,
-        length: 12,
+        length: BTH_LENGTH,
     }
 }
 
@@ -237,15 +287,15 @@ fn reserved_class() -> OpcodeClass
 pub fn uc_has(low: u8) -> bool
     ensures { λ r. ⌜ r ≡ ucHas low ⌝ }
 {
-    low < 12
+    low < READ
 }
 
 // The class of an opcode: the one place that knows what opcodes mean.
 pub fn class(opcode: u8) -> OpcodeClass
     ensures { λ r. ⌜ r ≡ classOf opcode ⌝ }
 {
-    let service = opcode / 32;
-    let low = opcode % 32;
+    let service = opcode / PER_SERVICE;
+    let low = opcode % PER_SERVICE;
     if service == RC {
         return low_class(low);
     }

@@ -4,7 +4,8 @@ use mathlib.Core.Bool.{Bool, cond, not}
 use mathlib.Core.List.{List, _++_}
 use lib.Dec.{ltb, eqb}
 use lib.ListN.{length, take, drop, replicate}
-use Rattle.header.specs.Read.{headerOf}
+use Rattle.header.specs.Refusal as Refusal
+use Rattle.header.specs.Read.{headerOf, packetLimit}
 use Rattle.header.specs.Write.{headerBytes, headerFits, headerLength, answerBy}
 use Rattle.header.specs.declared.Header.{Header}
 use Rattle.header.specs.declared.Answer.{Answer}
@@ -21,14 +22,14 @@ packetBytes h d = headerBytes h ++ (d ++ replicate (padOf (length d)) 0)
 unfoldable pub packetLength : Header → ℕ → ℕ
 packetLength h n = headerLength h + (n + padOf n)
 
--- The refusal, or 0. 39: no such header, or a PadCnt that is not the pad of the n bytes; 34: over the longest packet,
--- 4,128 bytes; 35: output too short
+-- The refusal, or 0: no such header, or a PadCnt that is not the pad of the n bytes; over the longest packet; output too
+-- short
 unfoldable pub refusalBy : Bool → ℕ → ℕ → ℕ → ℕ → ℕ
 refusalBy unfit padcnt headers n room =
-    cond unfit 39
-    (cond (not (eqb padcnt (padOf n))) 39
-    (cond (ltb 4128 (headers + (n + padOf n))) 34
-    (cond (ltb room (headers + (n + padOf n))) 35 0)))
+    cond unfit Refusal.badNumber
+    (cond (not (eqb padcnt (padOf n))) Refusal.badNumber
+    (cond (ltb packetLimit (headers + (n + padOf n))) Refusal.outOfRange
+    (cond (ltb room (headers + (n + padOf n))) Refusal.outputShort 0)))
 
 -- the same of a header: the answer's number
 unfoldable pub packetAnswer : Header → ℕ → ℕ → ℕ

@@ -19,24 +19,24 @@ fn refusal(unfit: bool, padcnt: u8, headers: usize, n: usize, room: usize) -> u8
     ensures { λ r. ⌜ r ≡ refusalBy unfit padcnt headers n room ⌝ }
 {
     if unfit {
-        return 39;
+        return header::BAD_NUMBER;
     }
     let own = pad(n);
     if padcnt != own {
-        return 39;
+        return header::BAD_NUMBER;
     }
-    if 4128 < headers {
-        return 34;
+    if header::PACKET_LIMIT < headers {
+        return header::OUT_OF_RANGE;
     }
-    if 4128 < n {
-        return 34;
+    if header::PACKET_LIMIT < n {
+        return header::OUT_OF_RANGE;
     }
     let size = headers + (n + own as usize);
-    if 4128 < size {
-        return 34;
+    if header::PACKET_LIMIT < size {
+        return header::OUT_OF_RANGE;
     }
     if room < size {
-        return 35;
+        return header::OUTPUT_SHORT;
     }
     0
 }

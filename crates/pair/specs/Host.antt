@@ -13,6 +13,7 @@ use Rattle.pair.specs.declared.Pair.{Pair}
 use Rattle.pair.specs.declared.HostOutcome.{HostOutcome}
 use Rattle.pair.specs.declared.Status.{Status}
 use Rattle.pair.specs.declared.Status.the-variants.{Executed, TableFull, OutOfRange, WrongState, NoSuchKey, KeyInUse, BadNumber}
+use Rattle.pair.specs.State as State
 use Rattle.pair.specs.Answer.{executed}
 use Rattle.pair.specs.Pair.{freshPair, blankPair, moved}
 use Rattle.pair.specs.Sound.{memoryLimit, setupUnfit, setupUnsound, pairUnsound}
@@ -45,15 +46,15 @@ resetRegions q rows = cond (executed (resetStatus q)) noRegions rows
 
 -- Make ready: 36 unless Init
 unfoldable pub readyStatus : Pair → Status
-readyStatus q = cond (eqb (q .state) 0) (cond (pairUnsound q) OutOfRange Executed) WrongState
+readyStatus q = cond (eqb (q .state) State.init) (cond (pairUnsound q) OutOfRange Executed) WrongState
 
 unfoldable pub madeReady : Pair → HostOutcome
-madeReady q = outcome (readyStatus q) (cond (executed (readyStatus q)) (moved q 1 (q .entries)) q)
+madeReady q = outcome (readyStatus q) (cond (executed (readyStatus q)) (moved q State.ready (q .entries)) q)
 
 -- Add region: 36 in Error, 34 for a region that cannot be, 38 for a key in use, 33 for a full table
 unfoldable pub addStatus : Pair → List (List ℕ) → Region → Status
 addStatus q rows r =
-    cond (eqb (q .state) 2) WrongState
+    cond (eqb (q .state) State.error) WrongState
     (cond (pairUnsound q) OutOfRange
     (cond (regionOutside (r .address) (r .length) (r .offset) (q .setup .memory)) OutOfRange
     (cond (ltb (keyRow (r .key) rows) 16) KeyInUse
@@ -79,7 +80,7 @@ entryCount q = q .entries .count
 -- Post entry: 36 in Error, 34 for an entry outside memory, 33 where 16 are held or waiting
 unfoldable pub postStatus : Pair → Entry → Status
 postStatus q e =
-    cond (eqb (q .state) 2) WrongState
+    cond (eqb (q .state) State.error) WrongState
     (cond (pairUnsound q) OutOfRange
     (cond (outside (e .offset) (e .length) (q .setup .memory)) OutOfRange
     (cond (leb entryLimit (entryCount q)) TableFull Executed)))

@@ -1,4 +1,5 @@
 pub mod Number
+pub mod State
 pub mod Answer
 pub mod Pair
 pub mod Sound

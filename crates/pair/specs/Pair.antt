@@ -2,16 +2,18 @@
 use Prim.Native.Nat.{ℕ}
 use mathlib.Core.Bool.{false}
 use Rattle.table.specs.declared.Ring.{Ring}
+use Rattle.pair.specs.State as State
 use Rattle.pair.specs.declared.Setup.{Setup}
 use Rattle.pair.specs.declared.OpenMessage.{OpenMessage}
 use Rattle.pair.specs.declared.ReadAnswer.{ReadAnswer}
 use Rattle.pair.specs.declared.Pair.{Pair}
 
--- the states: 0 Init, 1 Ready, 2 Error
+-- the kind of an open message where none is open, which no opcode has
+abbrev pub closed : ℕ
+closed = 255
 
--- no message is open: its kind is 255, which no opcode has
 abbrev pub noMessage : OpenMessage
-noMessage = record { kind = 255; stored = 0; address = 0; key = 0; length = 0 }
+noMessage = record { kind = closed; stored = 0; address = 0; key = 0; length = 0 }
 
 abbrev pub noRead : ReadAnswer
 noRead = record { remaining = 0; offset = 0; length = 0; psn = record { 0 = 0 }; msn = record { 0 = 0 } }
@@ -24,7 +26,7 @@ unfoldable pub freshPair : Setup → Pair
 freshPair s =
     record {
       setup = s;
-      state = 0;
+      state = State.init;
       expected = s .start;
       msn = record { 0 = 0 };
       nakmark = false;
@@ -69,4 +71,4 @@ moved q state entries =
 
 unfoldable pub blankPair : Pair
 unfolding freshPair
-blankPair = moved (freshPair blankSetup) 2 noRows
+blankPair = moved (freshPair blankSetup) State.error noRows

@@ -2,12 +2,17 @@
 use Prim.Native.Nat.{ℕ, _%_}
 use mathlib.Core.Bool.{Bool, true, false, cond, not, _||_}
 use lib.Dec.{eqb, ltb, leb}
-use Rattle.sequence.specs.Sequence.{space}
+use Rattle.sequence.specs.Sequence.{space, msnSpace}
+use Rattle.opcode.specs.Kind as Kind
 use Rattle.header.specs.Read.{otherService}
+use Rattle.header.specs.Write.{qpnSpace}
+use Rattle.header.specs.Check.{pkeyTop}
 use Rattle.pmtu.specs.Pieces.{pmtuFits, pieces}
 use Rattle.table.specs.Table.{outside, pastTop}
 use Rattle.pair.specs.declared.Setup.{Setup}
 use Rattle.pair.specs.declared.Pair.{Pair}
+use Rattle.pair.specs.State as State
+use Rattle.pair.specs.Pair.{closed}
 
 -- lent memory and DMA lengths go up to 1,048,576 bytes
 abbrev pub memoryLimit : ℕ
@@ -18,7 +23,7 @@ unfoldable pub setupUnfit : Setup → Bool
 setupUnfit s =
     not (pmtuFits (s .pmtu))
     || (otherService (s .service)
-    || (leb space (s .ours) || (leb space (s .theirs) || (leb space (s .start .0) || (eqb (s .pkey % 32768) 0 || ltb 31 (s .timer))))))
+    || (leb qpnSpace (s .ours) || (leb qpnSpace (s .theirs) || (leb space (s .start .0) || (eqb (s .pkey % pkeyTop) 0 || ltb 31 (s .timer))))))
 
 -- numbers that no set-up accepts
 unfoldable pub setupUnsound : Setup → Bool
@@ -26,7 +31,7 @@ setupUnsound s = setupUnfit s || ltb memoryLimit (s .memory)
 
 -- the state is one of the three, PSN and MSN have 24 bits
 unfoldable pub numbersUnsound : ℕ → ℕ → ℕ → Bool
-numbersUnsound state expected msn = ltb 2 state || (leb space expected || leb space msn)
+numbersUnsound state expected msn = ltb State.error state || (leb space expected || leb msnSpace msn)
 
 -- a table has 16 rows
 unfoldable pub ringUnsound : ℕ → ℕ → Bool
@@ -45,15 +50,15 @@ writeUnsound stored address length = leb length stored || (ltb memoryLimit lengt
 
 unfoldable pub messageUnsound : ℕ → ℕ → ℕ → ℕ → ℕ → Bool
 messageUnsound kind stored address length entries =
-    cond (eqb kind 255) false
-    (cond (eqb kind 0) (sendUnsound stored entries)
-    (cond (eqb kind 6) (writeUnsound stored address length) true))
+    cond (eqb kind closed) false
+    (cond (eqb kind Kind.send) (sendUnsound stored entries)
+    (cond (eqb kind Kind.write) (writeUnsound stored address length) true))
 
 -- a READ being answered has no more responses remaining than it has at all, its bytes lie in memory, its numbers have 24 bits
 unfoldable pub readUnsound : ℕ → ℕ → ℕ → ℕ → ℕ → ℕ → ℕ → Bool
 readUnsound remaining offset length psn msn pmtu memory =
     cond (eqb remaining 0) false
-    (ltb (pieces length pmtu) remaining || (outside offset length memory || (leb space psn || leb space msn)))
+    (ltb (pieces length pmtu) remaining || (outside offset length memory || (leb space psn || leb msnSpace msn)))
 
 unfoldable pub pairUnsound : Pair → Bool
 pairUnsound q =

@@ -4,6 +4,7 @@ use mathlib.Core.Bool.{Bool, cond}
 use mathlib.Core.List.{List, []}
 use lib.Dec.{eqb}
 use lib.ListN.{take, drop}
+use Rattle.opcode.specs.Kind as Kind
 use Rattle.table.specs.View.{inRing}
 use Rattle.pair.specs.declared.Pair.{Pair}
 
@@ -12,7 +13,7 @@ entriesOf q rows = inRing rows (q .entries)
 
 -- an open SEND holds the first entry
 abbrev pub holds : Pair → Bool
-holds q = eqb (q .message .kind) 0
+holds q = eqb (q .message .kind) Kind.send
 
 unfoldable pub heldOf : Pair → List (List ℕ) → List (List ℕ)
 heldOf q rows = cond (holds q) (take 1 (entriesOf q rows)) []

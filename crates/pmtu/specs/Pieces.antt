@@ -4,6 +4,7 @@ use mathlib.Core.Bool.{Bool, cond, _||_}
 use mathlib.Core.List.{List, [], _++_}
 use lib.Dec.{leb, eqb}
 use lib.ListN.{take, drop}
+use Rattle.opcode.specs.Place as Place
 use Rattle.pmtu.specs.declared.Range.{Range}
 
 -- the PMTUs
@@ -14,18 +15,18 @@ pmtuFits pmtu = eqb pmtu 256 || (eqb pmtu 512 || (eqb pmtu 1024 || (eqb pmtu 204
 unfoldable pub pieces : ℕ → ℕ → ℕ
 pieces n pmtu = cond (eqb n 0) 1 (n / pmtu + cond (eqb (n % pmtu) 0) 0 1)
 
--- the place of piece i of count, by its number in an opcode: the one piece is 4, Only; else the first is 0, First, the
--- last 2, Last, and all others 1, Middle
+-- the place of piece i of count, by its number in an opcode
 unfoldable pub placeAt : ℕ → ℕ → ℕ
-placeAt count i = cond (eqb count 1) 4 (cond (eqb i 0) 0 (cond (eqb (i + 1) count) 2 1))
+placeAt count i =
+    cond (eqb count 1) Place.only (cond (eqb i 0) Place.first (cond (eqb (i + 1) count) Place.last Place.middle))
 
--- First, 0, and Middle, 1, are followed by more; Last, 2, and Only, 4, end the message
+-- First and Middle are followed by more; Last and Only, whose numbers are the higher ones, end the message
 unfoldable pub ends : ℕ → Bool
-ends place = leb 2 place
+ends place = leb Place.last place
 
 -- First and Only begin it
 unfoldable pub starts : ℕ → Bool
-starts place = eqb place 0 || eqb place 4
+starts place = eqb place Place.first || eqb place Place.only
 
 -- piece i of the bytes d: PMTU bytes, or as many as there are, from i x PMTU on
 unfoldable pub pieceAt : List ℕ → ℕ → ℕ → List ℕ

@@ -1,12 +1,13 @@
 -- The laws of the number circle, for every layer above.
-use Prim.Native.Nat.{ℕ, zero, suc, _+_, _-_, _%_, _≤_, _<_}
+use Prim.Native.Nat.{ℕ, zero, suc, _+_, _-_, _%_, _^_, _≤_, _<_}
 use mathlib.Core.Path.{_≡_, refl}
 use mathlib.Core.Bool.{Bool, true, false, cond}
 use native.Mathlib.Omega.{arith}
 use lib.Dec.{eqb, ltb}
 use borrow.Author.Tests.{eq-eqb, ne-eqb, le-leb, lt-leb, eqb-true, eqb-false, ltb-true, ltb-false}
-use Rattle.sequence.specs.Sequence.{space, half, distance, after, classAt, psnClass}
+use Rattle.sequence.specs.Sequence.{space, half, distance, after, msnNext, classAt, psnClass}
 use Rattle.sequence.specs.Claims.{order, msnOf, ClassIsOrder, TooFarBehind, DistanceAfter, AfterDistance, AfterAfter, AlongStream, AfterBelow, AfterNone, MsnCounts}
+use Rattle.sequence.specs.declared.Msn.{Msn}
 use Rattle.sequence.specs.declared.Class.the-variants.{Expected, Ahead, Duplicate}
 
 -- summing remainders, which no machine word overflows, is going on
@@ -40,13 +41,13 @@ reached p e = omega arith
 pub after-distance : AfterDistance
 after-distance psn expected = reached (psn .0) (expected .0)
 
-one-more : (m n : ℕ) → m ≡ n % space → after m 1 ≡ suc n % space
+one-more : (m : Msn) (n : ℕ) → m .0 ≡ n % 2 ^ 24 → msnNext m .0 ≡ suc n % 2 ^ 24
 one-more m n h = omega arith
 
 pub msn-counts : MsnCounts
 unfolding msnOf
 msn-counts zero = refl
-msn-counts (suc n) = one-more (msnOf n .0) n (msn-counts n)
+msn-counts (suc n) = one-more (msnOf n) n (msn-counts n)
 
 -- a remainder is its own remainder
 again : (n : ℕ) → n % 16777216 % 16777216 ≡ n % 16777216

@@ -1,5 +1,5 @@
 -- What is proved of the numbers, each statement by a name; the proofs stand in proofs/Circle.antt.
-use Prim.Native.Nat.{ℕ, zero, suc, _+_, _%_, _≤_, _<_}
+use Prim.Native.Nat.{ℕ, zero, suc, _+_, _%_, _^_, _≤_, _<_}
 use mathlib.Core.Bool.{cond}
 use mathlib.Core.Path.{_≡_}
 use lib.Dec.{eqb, ltb}
@@ -50,6 +50,6 @@ unfoldable pub msnOf : ℕ → Msn
 msnOf zero = record { 0 = 0 }
 msnOf (suc n) = msnNext (msnOf n)
 
--- It counts them, modulo the number space.
+-- It counts them, modulo 2^24.
 abbrev pub MsnCounts : Type 0
-MsnCounts = (n : ℕ) → msnOf n .0 ≡ n % space
+MsnCounts = (n : ℕ) → msnOf n .0 ≡ n % 2 ^ 24

@@ -67,10 +67,12 @@ impl Psn {
 }
 
 impl Msn {
+    pub const SPACE: u32 = 16777216;
+
     // The count after one more message.
     pub fn next(self) -> Msn
         ensures { λ r. ⌜ r ≡ msnNext self ⌝ }
     {
-        Msn((self.0 % 16777216 + 1) % 16777216)
+        Msn((self.0 % Msn::SPACE + 1) % Msn::SPACE)
     }
 }

@@ -4,6 +4,7 @@ use mathlib.Core.Bool.{Bool, true, false, cond, _||_}
 use mathlib.Core.List.{List, [], _∷_}
 use lib.Dec.{eqb, ltb, leb}
 use lib.ListN.{getD, replicate}
+use Rattle.table.specs.RegionRow as RegionRow
 use Rattle.table.specs.declared.Region.{Region}
 use Rattle.table.specs.declared.Entry.{Entry}
 
@@ -23,7 +24,7 @@ pastTop address length = leb addresses (address + length)
 unfoldable pub regionOutside : ℕ → ℕ → ℕ → ℕ → Bool
 regionOutside address length offset memory = eqb length 0 || (outside offset length memory || pastTop address length)
 
--- a region's row: key, address, length, offset; the rights to write, to read and to atomics, 1 or 0
+-- a region's row, by the columns of RegionRow
 unfoldable pub regionRow : Region → List ℕ
 regionRow r = r .key ∷ r .address ∷ r .length ∷ r .offset ∷ cond (r .write) 1 0 ∷ cond (r .read) 1 0 ∷ cond (r .atomic) 1 0 ∷ []
 
@@ -33,9 +34,10 @@ noRegion = replicate 7 0
 
 -- where in memory an address of a region lies; no bytes lie at 0
 unfoldable pub memoryOffset : List ℕ → ℕ → ℕ → ℕ
-memoryOffset region address needed = cond (eqb needed 0) 0 (getD region 3 0 + (address - getD region 1 0))
+memoryOffset region address needed =
+    cond (eqb needed 0) 0 (RegionRow.offset region + (address - RegionRow.address region))
 
--- an entry's row: number, offset, length
+-- an entry's row, by the columns of EntryRow
 unfoldable pub entryRow : Entry → List ℕ
 entryRow e = e .number ∷ e .offset ∷ e .length ∷ []
 
@@ -47,7 +49,7 @@ sought free key of length = cond free (eqb length 0) (cond (eqb length 0) false 
 unfoldable pub firstFrom : Bool → ℕ → List (List ℕ) → ℕ → ℕ → ℕ
 firstFrom free key rows i zero = i
 firstFrom free key rows i (suc n) =
-    cond (sought free key (getD (getD rows i []) 0 0) (getD (getD rows i []) 2 0)) i (firstFrom free key rows (suc i) n)
+    cond (sought free key (RegionRow.key (getD rows i [])) (RegionRow.length (getD rows i []))) i (firstFrom free key rows (suc i) n)
 
 -- the first row of a key and the first free row of a table, or 16
 abbrev pub keyRow : ℕ → List (List ℕ) → ℕ

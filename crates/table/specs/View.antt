@@ -7,6 +7,7 @@ use lib.ListN.{getD, set}
 use Rattle.table.specs.declared.Ring.{Ring}
 use Rattle.table.specs.declared.Saved.{Saved}
 use Rattle.table.specs.declared.Saved.the-variants.{Value, Nothing}
+use Rattle.table.specs.SavedRow as SavedRow
 use Rattle.table.specs.Table.{noRegion, keyRow, slotAt}
 
 -- the region of a key: its row, or an empty one
@@ -30,14 +31,14 @@ abbrev pub later : Saved → Saved → Saved
 later (Value v) s = Value v
 later Nothing s = s
 
--- a saved atomic's row: PSN, value. It is that of a repeated atomic if it has the packet's PSN
+-- a saved atomic is that of a repeated one if it has the packet's PSN
 abbrev pub savedMatch : ℕ → List ℕ → Bool
-savedMatch psn row = eqb (getD row 0 0) psn
+savedMatch psn row = eqb (SavedRow.psn row) psn
 
 -- of those saved, oldest first, the value of the newest that matches
 unfoldable pub newest : ℕ → List (List ℕ) → Saved
 newest psn [] = Nothing
-newest psn (row ∷ rows) = later (newest psn rows) (cond (savedMatch psn row) (Value (getD row 1 0)) Nothing)
+newest psn (row ∷ rows) = later (newest psn rows) (cond (savedMatch psn row) (Value (SavedRow.value row)) Nothing)
 
 -- how many atomics are saved
 abbrev pub savedLimit : ℕ
@@ -51,5 +52,6 @@ newestSaved psn rows r = cond (ltb savedLimit (r .count)) Nothing (newest psn (i
 unfoldable pub savedRing : Ring → Ring
 savedRing r = cond (ltb (r .count) savedLimit) (oneMore r) (record { head = slotAt (r .head) 1; count = r .count })
 
+-- its row, by the columns of SavedRow
 unfoldable pub savedRows : List (List ℕ) → Ring → ℕ → ℕ → List (List ℕ)
 savedRows rows r psn value = set rows (slotAt (r .head) (r .count)) (psn ∷ value ∷ [])

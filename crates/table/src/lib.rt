@@ -8,7 +8,34 @@ ghost use lib.ListN.{getD};
 ghost use Rattle.table.specs.View.{regionOf, ringFrom, newest, newestSaved, savedRing, savedRows};
 ghost use Rattle.table.specs.Table.{memoryOffset, sought, firstFrom, regionRow, entryRow, slotAt, outside, pastTop, regionOutside};
 
-// Memory that peers may name by a key. Its row has the fields in this order, a right as 1 or 0.
+// Columns of a region's row; a right is 1 or 0.
+pub const REGION_KEY: usize = 0;
+
+pub const REGION_ADDRESS: usize = 1;
+
+pub const REGION_LENGTH: usize = 2;
+
+pub const REGION_OFFSET: usize = 3;
+
+pub const REGION_WRITE: usize = 4;
+
+pub const REGION_READ: usize = 5;
+
+pub const REGION_ATOMIC: usize = 6;
+
+// Columns of an entry's row.
+pub const ENTRY_NUMBER: usize = 0;
+
+pub const ENTRY_OFFSET: usize = 1;
+
+pub const ENTRY_LENGTH: usize = 2;
+
+// Columns of a saved atomic's row.
+const SAVED_PSN: usize = 0;
+
+const SAVED_VALUE: usize = 1;
+
+// Memory that peers may name by a key.
 // A row of length 0 is empty.
 pub struct Region {
     pub key: u32,
@@ -20,7 +47,7 @@ pub struct Region {
     pub atomic: bool,
 }
 
-// Memory for one message, under a number of the host's choice. Its row has the fields in this order.
+// Memory for one message, under a number of the host's choice.
 pub struct Entry {
     pub number: u64,
     pub offset: u64,
@@ -107,7 +134,7 @@ pub fn find(regions: &[[u64; 7]; 16], free: bool, key: u64) -> usize
     let mut i: usize = 0;
     while i < 16 {
         let row = regions[i];
-        let found = hit(free, key, row[0], row[2]);
+        let found = hit(free, key, row[REGION_KEY], row[REGION_LENGTH]);
         if found {
             return i;
         }
@@ -135,8 +162,8 @@ pub fn memory_offset(region: [u64; 7], address: u64, needed: usize) -> usize
     if needed == 0 {
         return 0;
     }
-    let skip = number::saturating_sub_u64(address, region[1]);
-    std::num::wrapping_add_u64(region[3], skip) as usize
+    let skip = number::saturating_sub_u64(address, region[REGION_ADDRESS]);
+    std::num::wrapping_add_u64(region[REGION_OFFSET], skip) as usize
 }
 
 // The first entry of a ring.
@@ -197,8 +224,8 @@ fn newest_of(saved: &[[u64; 2]; 16], head: usize, n: usize, psn: u64) -> Saved
     while 0 < rest {
         let at = slot(head, rest - 1);
         let row = saved[at];
-        if row[0] == psn {
-            return Saved::Value(row[1]);
+        if row[SAVED_PSN] == psn {
+            return Saved::Value(row[SAVED_VALUE]);
         }
         rest = rest - 1;
     }

@@ -6,6 +6,7 @@ use mathlib.Core.Bool.{true, false}
 use mathlib.Core.List.{List, [], _∷_}
 use lib.ListN.{length, replicate}
 use Rattle.sequence.specs.declared.Psn.{Psn}
+use Rattle.opcode.specs.Service as Service
 use Rattle.table.specs.declared.Region.{Region}
 use Rattle.pair.specs.Calls.HostCall.{AddRegion, PostEntry, MakeReady}
 use Rattle.pair.specs.Calls.{Whole, HostCall, begun, calledAll}
@@ -13,13 +14,14 @@ use Rattle.pair.specs.declared.Setup.{Setup}
 use Rattle.cut_spec.specs.declared.Request.{Request}
 use Rattle.cut_spec.specs.declared.Request.the-variants.{Send, SendImmediate, Write, WriteImmediate}
 use Rattle.delivery.specs.Stream.{Message, packetCount}
+use Rattle.delivery.specs.Plain.{answerRoom}
 use Rattle.delivery.specs.Demand.{Run, Allowed}
 use Rattle.uc_delivery.specs.Message.{Comes, Supplied, handed, handedAll, Untold}
 
 unfoldable pub setup : Setup
 setup =
     record {
-      service = 1;
+      service = Service.uc;
       pmtu = 256;
       ours = 18;
       theirs = 52;
@@ -44,14 +46,14 @@ unfoldable pub made : Whole
 made = calledAll (begun setup [] (replicate 16 (replicate 3 0)) (replicate 16 (replicate 2 0))) calls
 
 unfoldable pub message : Request → ℕ → Message
-message r n = record { connection = record { service = 1; pmtu = 256; pkey = 65535; dest = 18 }; request = r; bytes = replicate n 9 }
+message r n = record { connection = record { service = Service.uc; pmtu = 256; pkey = 65535; dest = 18 }; request = r; bytes = replicate n 9 }
 
 -- the PSN of each message's first packet: the third of a message is 0
 abbrev pub first : Psn
 first = record { 0 = 16777214 }
 
 abbrev pub out : ℕ → List ℕ
-out i = replicate 24 0
+out i = replicate answerRoom 0
 
 unfoldable pub fresh : Run
 fresh = record { whole = made; memory = replicate 4096 0; completions = [] }

@@ -1,19 +1,22 @@
 -- A message on the unreliable connection. Handed in whole it is placed and told of once; with a packet lost it is told of
 -- never, whatever came before.
-use Prim.Native.Nat.{ℕ, suc, _-_, _^_, _≤_, _<_}
+use Prim.Native.Nat.{ℕ, suc, _-_, _≤_, _<_}
 use mathlib.Core.Path.{_≡_}
 use mathlib.Core.Bool.{Bool, true, false, cond}
 use mathlib.Core.List.{List, [], _∷_, _++_}
 use mathlib.Core.Logic.{_⊎_}
 use lib.ListN.{length, getD, replicate}
-use Rattle.sequence.specs.Sequence.{psnAfter, msnNext}
+use Rattle.sequence.specs.Sequence.{space, psnAfter, msnNext}
 use Rattle.sequence.specs.declared.Psn.{Psn}
+use Rattle.opcode.specs.Service as Service
 use Rattle.header.specs.Bytes.{Bytes}
 use Rattle.header.specs.Read.{bthOf}
 use Rattle.memory.specs.Memory.{overwrite}
 use Rattle.table.specs.Table.{slotAt}
 use Rattle.table.specs.declared.Entry.{Entry}
 use Rattle.table.specs.declared.Ring.{Ring}
+use Rattle.pair.specs.State as State
+use Rattle.pair.specs.Pair.{closed, noMessage}
 use Rattle.pair.specs.Calls.{Whole, HostCall, begun, calledAll}
 use Rattle.pair.specs.Claims.{SetupSound}
 use Rattle.pair.specs.declared.Setup.{Setup}
@@ -23,28 +26,28 @@ use Rattle.cut_spec.specs.declared.Request.the-variants.{Send, SendImmediate, W
 use Rattle.responder_spec.specs.Kept.{Steady}
 use Rattle.delivery.specs.Stream.{Message, packetCount, packetAt}
 use Rattle.delivery.specs.Made.{NoneSetUp}
-use Rattle.delivery.specs.Plain.{takesEntry, completionFor, regionOffset}
+use Rattle.delivery.specs.Plain.{answerRoom, takesEntry, completionFor, regionOffset}
 use Rattle.delivery.specs.Demand.{Run, taken, Allowed, Addressed, AtLeast, entryOf}
 
 -- A pair of the unreliable connection as calls leave it, Ready. It may have received anything: a message may be open, and
 -- any PSN expected. A READ is never being answered on such a pair.
 pub record Standing (w : Whole) : Type 0 where
   pub steady : Steady w
-  pub unreliable : w .pair .setup .service ≡ 1
-  pub ready : w .pair .state ≡ 1
+  pub unreliable : w .pair .setup .service ≡ Service.uc
+  pub ready : w .pair .state ≡ State.ready
   pub idle : w .pair .read .remaining ≡ 0
 
 -- So is a pair that was set up, given regions and entries and made Ready by any calls of the host; none is open then.
 abbrev pub StandsMade : Type 0
 StandsMade =
     (s : Setup) (regions entries saved : List (List ℕ)) (calls : List HostCall) → SetupSound s
-    → s .service ≡ 1
+    → s .service ≡ Service.uc
     → length entries ≡ 16
     → length saved ≡ 16
     → NoneSetUp calls
     → let w = calledAll (begun s regions entries saved) calls in
-    w .pair .state ≡ 1
-    → Standing w × (w .pair .message .kind ≡ 255)
+    w .pair .state ≡ State.ready
+    → Standing w × (w .pair .message .kind ≡ closed)
 
 -- packet i of a message whose first packet has the PSN given; its bytes are those that the cutting call writes
 abbrev pub packetOf : Message → Psn → ℕ → List ℕ
@@ -61,8 +64,8 @@ handed outs m first x i (false ∷ bs) = handed outs m first x (suc i) bs
 pub record Comes (outs : ℕ → List ℕ) (m : Message) (first : Psn) (x : Run) : Type 0 where
   pub standing : Standing (x .whole)
   pub memory : length (x .memory) ≡ x .whole .pair .setup .memory
-  pub outputs : (i : ℕ) → 24 ≤ length (outs i)
-  pub first24 : first .0 < 2 ^ 24
+  pub outputs : (i : ℕ) → answerRoom ≤ length (outs i)
+  pub first24 : first .0 < space
   pub addressed : Addressed (x .whole .pair .setup) m
   pub carries : Carrier (m .request)
 
@@ -105,7 +108,7 @@ handedAll x m first =
                   expected = psnAfter first (packetCount m);
                   msn = msnNext (q .msn);
                   nakmark = false;
-                  message = record { kind = 255; stored = 0; address = 0; key = 0; length = 0 };
+                  message = noMessage;
                   entries = without (takesEntry (m .request)) (q .entries);
                   read = q .read;
                   saved = q .saved;

@@ -94,5 +94,5 @@ pub extern "C" fn udalopek_write_header(
         return refusal_number(answer);
     }
     *report = [0; 1];
-    39
+    header::BAD_NUMBER
 }

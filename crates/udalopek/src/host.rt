@@ -46,8 +46,8 @@ pub extern "C" fn udalopek_set_up(
     ensures { λ r. ⌜ now (regions .exit) ≡ setUpTable (now (pair .entry)) (now (regions .entry)) (record { pmtu = pmtu; memory = memory; ours = ours; theirs = theirs; start = record { 0 = start }; pkey = pkey; service = service; timer = timer; send = send; write = write; read = read; atomic = atomic }) ⌝ }
     ensures { λ r. ⌜ (r ≡ 0 → malformed (now (pair .exit)) ≡ false) ⌝ }
 {
-    if pair.len() != 30 {
-        return 34;
+    if pair.len() != abi::PAIR {
+        return header::OUT_OF_RANGE;
     }
     let first = Psn(start);
     let setup = Setup {
@@ -84,12 +84,12 @@ pub extern "C" fn udalopek_reset(pair: &mut [u64], regions: &mut [[u64; 7]; 16])
 {
     let bad = abi::malformed(pair);
     if bad {
-        return 34;
+        return header::OUT_OF_RANGE;
     }
     let q = abi::pair_of(pair);
     let unsound = host_calls::sound::unsound(q);
     if unsound {
-        return 34;
+        return header::OUT_OF_RANGE;
     }
     let left = host_calls::reset(q, regions);
     let q = left.pair;
@@ -106,7 +106,7 @@ pub extern "C" fn udalopek_make_ready(pair: &mut [u64]) -> u8
 {
     let bad = abi::malformed(pair);
     if bad {
-        return 34;
+        return header::OUT_OF_RANGE;
     }
     let q = abi::pair_of(pair);
     let left = host_calls::make_ready(q);
@@ -133,12 +133,12 @@ pub extern "C" fn udalopek_add_region(
 {
     let bad = abi::malformed(pair);
     if bad {
-        return 34;
+        return header::OUT_OF_RANGE;
     }
     let q = abi::pair_of(pair);
     let odd = abi::regions_malformed(regions, number::usize_to_u64(q.setup.memory));
     if odd {
-        return 34;
+        return header::OUT_OF_RANGE;
     }
     let region = Region {
         key,
@@ -161,16 +161,16 @@ pub extern "C" fn udalopek_remove_region(pair: &[u64], regions: &mut [[u64; 7]; 
 {
     let bad = abi::malformed(pair);
     if bad {
-        return 34;
+        return header::OUT_OF_RANGE;
     }
     let q = abi::pair_of(pair);
     let unsound = host_calls::sound::unsound(q);
     if unsound {
-        return 34;
+        return header::OUT_OF_RANGE;
     }
     let odd = abi::regions_malformed(regions, number::usize_to_u64(q.setup.memory));
     if odd {
-        return 34;
+        return header::OUT_OF_RANGE;
     }
     let status = host_calls::remove_region(regions, key);
     status.number()
@@ -194,7 +194,7 @@ pub extern "C" fn udalopek_post_entry(
     let own = abi::pair_words(q);
     let said = abi::same(pair, &own);
     if !said {
-        return 34;
+        return header::OUT_OF_RANGE;
     }
     let entry = Entry {
         number,

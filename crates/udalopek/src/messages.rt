@@ -11,6 +11,21 @@ use sequence::Psn;
 ghost use mathlib.Core.Path.{_≡_};
 ghost use Rattle.udalopek_spec.specs.Cutting.{requestOf, followingPsn, cutReport, cutNumber, cutOutput, cutWords};
 
+// The kinds of request that a caller names.
+const SEND: u8 = 0;
+
+const SEND_IMMEDIATE: u8 = 1;
+
+const WRITE: u8 = 2;
+
+const WRITE_IMMEDIATE: u8 = 3;
+
+const READ: u8 = 4;
+
+const CMP_SWAP: u8 = 5;
+
+const FETCH_ADD: u8 = 6;
+
 // The request of a kind, from the numbers that it has.
 fn request_of(
     kind: u8,
@@ -24,19 +39,19 @@ fn request_of(
     ensures { λ r. ⌜ r ≡ requestOf kind address key length swap compare immediate ⌝ }
 {
     let target = Target { address, key };
-    if kind == 0 {
+    if kind == SEND {
         return Request::Send;
     }
-    if kind == 1 {
+    if kind == SEND_IMMEDIATE {
         return Request::SendImmediate(immediate);
     }
-    if kind == 2 {
+    if kind == WRITE {
         return Request::Write(target);
     }
-    if kind == 3 {
+    if kind == WRITE_IMMEDIATE {
         return Request::WriteImmediate(target, immediate);
     }
-    if kind == 4 {
+    if kind == READ {
         let reth = Reth {
             address,
             key,
@@ -44,7 +59,7 @@ fn request_of(
         };
         return Request::Read(reth);
     }
-    if kind == 5 {
+    if kind == CMP_SWAP {
         let atomic = AtomicEth {
             address,
             key,
@@ -99,9 +114,9 @@ pub extern "C" fn udalopek_cut(
     ensures { λ r. ⌜ now (out .exit) ≡ cutOutput kind (record { service = service; pmtu = pmtu; pkey = pkey; dest = dest }) (requestOf kind address key length swap compare immediate) (now (message .entry)) (record { 0 = psn }) index (now (out .entry)) ⌝ }
     ensures { λ r. ⌜ now (report .exit) ≡ cutWords kind (record { service = service; pmtu = pmtu; pkey = pkey; dest = dest }) (requestOf kind address key length swap compare immediate) (now (message .entry)) (record { 0 = psn }) index (now (out .entry)) ⌝ }
 {
-    if 6 < kind {
+    if FETCH_ADD < kind {
         *report = [0; 2];
-        return 39;
+        return header::BAD_NUMBER;
     }
     let request = request_of(kind, address, key, length, swap, compare, immediate);
     let connection = Connection {

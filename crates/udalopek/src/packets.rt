@@ -11,7 +11,7 @@ fn names(packet: &[u8]) -> bool
     if packet.len() == 0 {
         return false;
     }
-    6 <= packet[0] % 32
+    opcode::WRITE <= packet[0] % opcode::PER_SERVICE
 }
 
 // Whether a packet may name a region, and the table has a row that no call wrote.
@@ -63,12 +63,12 @@ pub extern "C" fn udalopek_inbound(
     let said = abi::same(pair, &own);
     if !said {
         *report = [0; 6];
-        return 34;
+        return header::OUT_OF_RANGE;
     }
     let odd = malformed_for(regions, number::usize_to_u64(q.setup.memory), packet);
     if odd {
         *report = [0; 6];
-        return 34;
+        return header::OUT_OF_RANGE;
     }
     let got = responder::inbound(q, regions, entries, saved, mem, packet, out);
     let completion = got.completion;
@@ -99,7 +99,7 @@ pub extern "C" fn udalopek_next_response(
     let said = abi::same(pair, &own);
     if !said {
         *report = [0; 1];
-        return 34;
+        return header::OUT_OF_RANGE;
     }
     let got = responder::next_response(q, mem, out);
     *report = [number::usize_to_u64(got.outgoing)];

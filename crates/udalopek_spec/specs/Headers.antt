@@ -6,6 +6,7 @@ use lib.ListN.{length}
 use Rattle.header.specs.declared.Header.{Header}
 use Rattle.header.specs.declared.HeaderRead.{HeaderRead}
 use Rattle.header.specs.declared.HeaderRead.the-variants.{Accepted, Dropped}
+use Rattle.header.specs.Refusal as Refusal
 use Rattle.header.specs.Read.{readHeader}
 use Rattle.header.specs.Write.{written, writtenOut, answerNumber, doneBytes}
 use Rattle.abi_spec.specs.Words.{eqWords}
@@ -40,9 +41,9 @@ ownWords b e = cond (eqWords b (bthWords (bthFrom b))) (eqWords e (extensionWord
 abbrev pub headerFrom : List ℕ → List ℕ → Header
 headerFrom b e = record { bth = bthFrom b; extension = extensionFrom e }
 
--- other words are a bad number, 39
+-- other words are a bad number
 unfoldable pub writeNumber : List ℕ → List ℕ → List ℕ → ℕ
-writeNumber b e out = cond (ownWords b e) (answerNumber (written (headerFrom b e) (length out))) 39
+writeNumber b e out = cond (ownWords b e) (answerNumber (written (headerFrom b e) (length out))) Refusal.badNumber
 
 unfoldable pub writeOutput : List ℕ → List ℕ → List ℕ → List ℕ
 writeOutput b e out = cond (ownWords b e) (writtenOut (headerFrom b e) out) out

@@ -1,24 +1,25 @@
--- The calls of a host on lent words: those of the pair that the words say, and 34 for words that say none.
+-- The calls of a host on lent words: those of the pair that the words say, and a refusal for words that say none.
 use Prim.Native.Nat.{ℕ}
 use mathlib.Core.Bool.{Bool, cond, not}
 use mathlib.Core.List.{List}
 use lib.Dec.{eqb}
 use lib.ListN.{length}
+use Rattle.header.specs.Refusal as Refusal
 use Rattle.table.specs.declared.Region.{Region}
 use Rattle.table.specs.declared.Entry.{Entry}
 use Rattle.pair.specs.declared.Setup.{Setup}
 use Rattle.pair.specs.Answer.{statusNumber, executed}
 use Rattle.pair.specs.Host.{setUp, setUpRegions, resetTo, resetRegions, madeReady, addStatus, addRegions, removeStatus, removeRegions, posted, postEntries}
 use Rattle.pair.specs.Sound.{pairUnsound}
-use Rattle.abi_spec.specs.Pair.{pairOf, pairWords, malformed}
+use Rattle.abi_spec.specs.Pair.{pairLength, pairOf, pairWords, malformed}
 use Rattle.abi_spec.specs.Rows.{malformedFrom}
 
 -- words of another length are refused; what they are does not matter to a set-up
 unfoldable pub otherLength : List ℕ → Bool
-otherLength w = not (eqb (length w) 30)
+otherLength w = not (eqb (length w) pairLength)
 
 unfoldable pub setUpNumber : List ℕ → Setup → ℕ
-setUpNumber w s = cond (otherLength w) 34 (statusNumber (setUp s .status))
+setUpNumber w s = cond (otherLength w) Refusal.outOfRange (statusNumber (setUp s .status))
 
 unfoldable pub setUpWords : List ℕ → Setup → List ℕ
 setUpWords w s = cond (otherLength w) w (cond (executed (setUp s .status)) (pairWords (setUp s .pair)) w)
@@ -31,7 +32,7 @@ unfoldable pub unmade : List ℕ → Bool
 unmade w = pairUnsound (pairOf w)
 
 unfoldable pub resetNumber : List ℕ → ℕ
-resetNumber w = cond (malformed w) 34 (cond (unmade w) 34 (statusNumber (resetTo (pairOf w) .status)))
+resetNumber w = cond (malformed w) Refusal.outOfRange (cond (unmade w) Refusal.outOfRange (statusNumber (resetTo (pairOf w) .status)))
 
 unfoldable pub resetWords : List ℕ → List ℕ
 resetWords w = cond (malformed w) w (cond (unmade w) w (pairWords (resetTo (pairOf w) .pair)))
@@ -40,7 +41,7 @@ unfoldable pub resetTable : List ℕ → List (List ℕ) → List (List ℕ)
 resetTable w rows = cond (malformed w) rows (cond (unmade w) rows (resetRegions (pairOf w) rows))
 
 unfoldable pub readyNumber : List ℕ → ℕ
-readyNumber w = cond (malformed w) 34 (statusNumber (madeReady (pairOf w) .status))
+readyNumber w = cond (malformed w) Refusal.outOfRange (statusNumber (madeReady (pairOf w) .status))
 
 unfoldable pub readyWords : List ℕ → List ℕ
 readyWords w = cond (malformed w) w (pairWords (madeReady (pairOf w) .pair))
@@ -50,21 +51,21 @@ unfoldable pub oddRegions : List ℕ → List (List ℕ) → Bool
 oddRegions w rows = malformedFrom rows (pairOf w .setup .memory) 0 16
 
 unfoldable pub addNumber : List ℕ → List (List ℕ) → Region → ℕ
-addNumber w rows r = cond (malformed w) 34 (cond (oddRegions w rows) 34 (statusNumber (addStatus (pairOf w) rows r)))
+addNumber w rows r = cond (malformed w) Refusal.outOfRange (cond (oddRegions w rows) Refusal.outOfRange (statusNumber (addStatus (pairOf w) rows r)))
 
 unfoldable pub addTable : List ℕ → List (List ℕ) → Region → List (List ℕ)
 addTable w rows r = cond (malformed w) rows (cond (oddRegions w rows) rows (addRegions (pairOf w) rows r))
 
 unfoldable pub removeNumber : List ℕ → List (List ℕ) → ℕ → ℕ
 removeNumber w rows key =
-    cond (malformed w) 34 (cond (unmade w) 34 (cond (oddRegions w rows) 34 (statusNumber (removeStatus rows key))))
+    cond (malformed w) Refusal.outOfRange (cond (unmade w) Refusal.outOfRange (cond (oddRegions w rows) Refusal.outOfRange (statusNumber (removeStatus rows key))))
 
 unfoldable pub removeTable : List ℕ → List (List ℕ) → ℕ → List (List ℕ)
 removeTable w rows key =
     cond (malformed w) rows (cond (unmade w) rows (cond (oddRegions w rows) rows (removeRegions rows key)))
 
 unfoldable pub postNumber : List ℕ → Entry → ℕ
-postNumber w e = cond (malformed w) 34 (statusNumber (posted (pairOf w) e .status))
+postNumber w e = cond (malformed w) Refusal.outOfRange (statusNumber (posted (pairOf w) e .status))
 
 unfoldable pub postWords : List ℕ → Entry → List ℕ
 postWords w e = cond (malformed w) w (pairWords (posted (pairOf w) e .pair))

@@ -1,3 +1,4 @@
+pub mod RequestKind
 pub mod Host
 pub mod Packets
 pub mod Headers

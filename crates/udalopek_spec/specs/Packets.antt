@@ -1,9 +1,13 @@
--- The calls of a responder on lent words: those of the pair that the words say, and 34 for words or rows that no call wrote.
-use Prim.Native.Nat.{ℕ, _%_}
+-- The calls of a responder on lent words: those of the pair that the words say, and a refusal for words or rows that no call
+-- wrote.
+use Prim.Native.Nat.{ℕ}
 use mathlib.Core.Bool.{Bool, false, cond, _||_}
 use mathlib.Core.List.{List, [], _∷_}
 use lib.Dec.{leb}
 use lib.ListN.{getD, replicate}
+use Rattle.opcode.specs.Opcode.{lowOf}
+use Rattle.opcode.specs.Kind as Kind
+use Rattle.header.specs.Refusal as Refusal
 use Rattle.pair.specs.Answer.{statusNumber}
 use Rattle.responder_spec.specs.declared.Completion.{Completion}
 use Rattle.responder_spec.specs.Inbound.{inbound, inboundMemory, inboundSaved, inboundOut}
@@ -11,9 +15,9 @@ use Rattle.responder_spec.specs.Response.{nextResponse, nextOut}
 use Rattle.abi_spec.specs.Pair.{pairOf, pairWords, malformed}
 use Rattle.abi_spec.specs.Rows.{malformedFrom}
 
--- a packet may name a region unless its opcode is one of SEND's, 0 to 5
+-- a packet may name a region unless its opcode is one of SEND's, which come first
 unfoldable pub names : List ℕ → Bool
-names p = leb 6 (getD p 0 0 % 32)
+names p = leb Kind.write (lowOf (getD p 0 0))
 
 -- then a row that no call wrote is refused
 unfoldable pub malformedFor : List (List ℕ) → ℕ → List ℕ → Bool
@@ -29,7 +33,7 @@ refused w regions p = malformed w || malformedFor regions (pairOf w .setup .memo
 
 module _ (w : List ℕ) (regions entries saved : List (List ℕ)) (m p out : List ℕ) where
   unfoldable pub inboundNumber : ℕ
-  inboundNumber = cond (refused w regions p) 34 (statusNumber (inbound (pairOf w) regions entries saved m p out .status))
+  inboundNumber = cond (refused w regions p) Refusal.outOfRange (statusNumber (inbound (pairOf w) regions entries saved m p out .status))
 
   unfoldable pub inboundWords : List ℕ
   inboundWords = cond (refused w regions p) w (pairWords (inbound (pairOf w) regions entries saved m p out .pair))
@@ -50,7 +54,7 @@ module _ (w : List ℕ) (regions entries saved : List (List ℕ)) (m p out : Lis
 
 module _ (w : List ℕ) (m out : List ℕ) where
   unfoldable pub nextNumber : ℕ
-  nextNumber = cond (malformed w) 34 (statusNumber (nextResponse (pairOf w) m out .status))
+  nextNumber = cond (malformed w) Refusal.outOfRange (statusNumber (nextResponse (pairOf w) m out .status))
 
   unfoldable pub nextWords : List ℕ
   nextWords = cond (malformed w) w (pairWords (nextResponse (pairOf w) m out .pair))
