@@ -5,7 +5,7 @@ use mathlib.Core.Bool.{Bool, true, false}
 use mathlib.Core.List.{List, _++_, append-assoc}
 use native.Mathlib.Omega.{arith}
 use lib.Dec.{leb}
-use lib.ListN.{length, take, drop, length-append, length-drop}
+use lib.ListN.{length, take, drop, length-append, length-drop, drop-of-length-le}
 use lib.Seq.{take-all}
 use Rattle.lemmas.proofs.Auto.{tests}
 use Rattle.memory.specs.Memory.{store}
@@ -27,19 +27,19 @@ take-cut n l = go (leb n (length l)) refl
     go false e = take-all (min n (length l)) l (omega (arith, tests)) ∙ sym (take-all n l (omega (arith, tests)))
 
 -- a part of a packet, cut off at the packet's end
-pub part-cut : (p : List ℕ) (start end stop from : ℕ) → stop ≡ min end (length p) → from ≡ min start stop
-    → take (stop - from) (drop from p) ≡ take (end - start) (drop start p)
-part-cut p start end stop from es ef =
-    let n : stop - from ≡ min (end - start) (length (drop start p)) = omega (arith, length-drop start p) in
-    go (leb start stop) refl ∙ (ap (λ k. take k (drop start p)) n ∙ take-cut (end - start) (drop start p))
+pub part-cut : (p : List ℕ) (start size from n : ℕ) → from ≡ min start (length p) → n ≡ min size (length p - from)
+    → take (from + n - from) (drop from p) ≡ take size (drop start p)
+part-cut p start size from n ef en =
+    let k : from + n - from ≡ min size (length (drop from p)) = omega (arith, length-drop from p) in
+    ap (λ k. take k (drop from p)) k ∙ (take-cut size (drop from p) ∙ ap (take size) (go (leb start (length p)) refl))
   where
-    go : (b : Bool) → leb start stop ≡ b → take (stop - from) (drop from p) ≡ take (stop - from) (drop start p)
+    go : (b : Bool) → leb start (length p) ≡ b → drop from p ≡ drop start p
     go true e =
         let f : from ≡ start = omega (arith, tests) in
-        ap (λ k. take (stop - from) (drop k p)) f
+        ap (λ k. drop k p) f
     go false e =
-        let z : stop - from ≡ 0 = omega (arith, tests) in
-        ap (λ k. take k (drop from p)) z ∙ sym (ap (λ k. take k (drop start p)) z)
+        let f : from ≡ length p = omega (arith, tests) in
+        ap (λ k. drop k p) f ∙ (drop-of-length-le p {i = length p} (omega arith) ∙ sym (drop-of-length-le p {i = start} (omega (arith, tests))))
 
 -- bytes at the start of an output, and more behind them
 behind : (out d e : List ℕ) (n : ℕ) → length d ≡ n → n + length e ≤ length out

@@ -12,20 +12,19 @@ pub use state::psn_after;
 use table::Ring;
 ghost use mathlib.Core.Path.{_≡_};
 ghost use mathlib.Core.Bool.{cond};
-ghost use Prim.Native.Nat.{_-_, min};
 ghost use lib.ListN.{take, drop};
 ghost use Rattle.memory.specs.Memory.{store};
 ghost use Rattle.table.specs.View.{savedRows};
 ghost use Rattle.responder_spec.specs.Apply.{memoryBy, actsAtomic};
 ghost use Rattle.responder_spec.specs.Reply.{valueBy};
 
-// Places the packet's bytes from start to end, as far as it has them, in memory from at on.
-fn store_part(mem: &mut [u8], at: usize, packet: &[u8], start: usize, end: usize)
-    ensures { λ _. ⌜ now (mem .exit) ≡ store (now (mem .entry)) at (take (end - start) (drop start (now (packet .entry)))) ⌝ }
+// Stores size bytes of the packet from start on, as far as it has them, in memory from at on.
+fn store_part(mem: &mut [u8], at: usize, packet: &[u8], start: usize, size: usize)
+    ensures { λ _. ⌜ now (mem .exit) ≡ store (now (mem .entry)) at (take size (drop start (now (packet .entry)))) ⌝ }
 {
-    let stop = number::min(end, packet.len());
-    let from = number::min(start, stop);
-    memory::store(mem, at, &packet[from..stop]);
+    let from = number::min(start, packet.len());
+    let n = number::min(size, packet.len() - from);
+    memory::store(mem, at, &packet[from..from + n]);
 }
 
 // Changes memory, and answers the value that an atomic sends.
@@ -33,14 +32,14 @@ pub fn change(mem: &mut [u8], packet: &[u8], d: Decision) -> u64
     ensures { λ r. ⌜ r ≡ valueBy d (now (mem .entry)) ⌝ }
     ensures { λ r. ⌜ now (mem .exit) ≡ memoryBy d (now (mem .entry)) (now (packet .entry)) ⌝ }
 {
-    if d.act == 1 {
-        store_part(mem, d.at, packet, d.start, d.end);
+    if d.act == responder_spec::STORE {
+        store_part(mem, d.at, packet, d.start, d.size);
         return d.value;
     }
-    if d.act == 2 {
+    if d.act == responder_spec::FETCH_ADD {
         return memory::fetch_add(mem, d.at, d.swap);
     }
-    if d.act == 3 {
+    if d.act == responder_spec::CMP_SWAP {
         return memory::cmp_swap(mem, d.at, d.compare, d.swap);
     }
     d.value
@@ -49,10 +48,10 @@ pub fn change(mem: &mut [u8], packet: &[u8], d: Decision) -> u64
 fn acts_atomic(act: u8) -> bool
     ensures { λ r. ⌜ r ≡ actsAtomic act ⌝ }
 {
-    if act == 2 {
+    if act == responder_spec::FETCH_ADD {
         return true;
     }
-    act == 3
+    act == responder_spec::CMP_SWAP
 }
 
 // Saves the value that an atomic answered.

@@ -2,14 +2,17 @@
 use crate::acts_atomic;
 use pair::Pair;
 use pair::ReadAnswer;
+use pair::Status;
 use responder_spec::Decision;
 use sequence::Msn;
 use sequence::Psn;
 use table::Ring;
 ghost use mathlib.Core.Path.{_≡_};
-ghost use Prim.Native.Nat.{_-_};
+ghost use mathlib.Core.Bool.{_||_};
+ghost use lib.Dec.{eqb, leb};
 ghost use Rattle.sequence.specs.Sequence.{psnAfter};
-ghost use Rattle.responder_spec.specs.Apply.{ringTaken, entriesBy, savedRingBy, msnBy, readBy, executedPair, closing, after, pairBy};
+ghost use Rattle.responder_spec.specs.Apply.{ringTaken, entriesBy, savedRingBy, msnBy, readBy, executedPair, closing, pairBy};
+ghost use Rattle.pair.specs.Answer.{statusNumber};
 
 // The ring without its first entry, where a message completes.
 fn entries_by(completes: bool, ring: Ring) -> Ring
@@ -63,7 +66,7 @@ fn read_by(d: Decision, old: ReadAnswer, msn: Msn) -> ReadAnswer
 pub fn psn_after(psn: Psn, n: usize) -> Psn
     ensures { λ r. ⌜ r ≡ psnAfter psn n ⌝ }
 {
-    psn.after((n % 16777216) as u32)
+    psn.after((n % Psn::SPACE as usize) as u32)
 }
 
 fn executed_pair(pair: Pair, d: Decision) -> Pair
@@ -114,46 +117,66 @@ fn closing(pair: Pair) -> Pair
     }
 }
 
-fn after(pair: Pair, d: Decision, number: u8) -> Pair
-    ensures { λ r. ⌜ r ≡ after pair d number ⌝ }
+// Whether the packet was executed: the answers up to the atomic's.
+fn executes(status: Status) -> bool
+    ensures { λ r. ⌜ r ≡ leb (statusNumber status) 3 ⌝ }
 {
-    if number <= 3 {
+    let last = Status::AtomicExecuted;
+    status.number() <= last.number()
+}
+
+// Whether the answer sets the NAK mark.
+fn marks(status: Status) -> bool
+    ensures { λ r. ⌜ r ≡ (eqb (statusNumber status) 16 || eqb (statusNumber status) 19) ⌝ }
+{
+    let sequence = status.is(Status::SequenceNak);
+    if sequence {
+        return true;
+    }
+    status.is(Status::NotReadyNak)
+}
+
+// Whether it is the Error state's.
+fn breaks(status: Status) -> bool
+    ensures { λ r. ⌜ r ≡ (eqb (statusNumber status) 17 || eqb (statusNumber status) 18) ⌝ }
+{
+    let invalid = status.is(Status::InvalidRequestNak);
+    if invalid {
+        return true;
+    }
+    status.is(Status::AccessNak)
+}
+
+// By the answer.
+pub fn pair_after(pair: Pair, d: Decision) -> Pair
+    ensures { λ r. ⌜ r ≡ pairBy pair d ⌝ }
+{
+    let status = d.status;
+    let executed = executes(status);
+    if executed {
         return executed_pair(pair, d);
     }
     let mut next = pair;
-    if number == 4 {
+    let duplicate = status.is(Status::DuplicateAnswered);
+    if duplicate {
         let old = pair.read;
         let read = read_by(d, old, pair.msn);
         next.read = read;
         return next;
     }
-    if number == 16 {
+    let marked = marks(status);
+    if marked {
         next.nakmark = true;
         return next;
     }
-    if number == 19 {
-        next.nakmark = true;
-        return next;
-    }
-    if number == 17 {
+    let broken = breaks(status);
+    if broken {
         next.state = pair::ERROR;
         return next;
     }
-    if number == 18 {
-        next.state = pair::ERROR;
-        return next;
-    }
-    if number == 6 {
+    let abandoned = status.is(Status::Abandoned);
+    if abandoned {
         return closing(pair);
     }
     next
-}
-
-// By the number of the answer.
-pub fn pair_after(pair: Pair, d: Decision) -> Pair
-    ensures { λ r. ⌜ r ≡ pairBy pair d ⌝ }
-{
-    let status = d.status;
-    let number = status.number();
-    after(pair, d, number)
 }

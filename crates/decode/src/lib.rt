@@ -5,6 +5,7 @@ use field::be16;
 use field::be24;
 use field::be32;
 use field::be64;
+use header::Admission;
 use header::Aeth;
 use header::AtomicEth;
 use header::Bth;
@@ -21,7 +22,7 @@ ghost use lib.ListN.{length};
 ghost use Rattle.opcode.specs.Opcode.{lengthOf};
 ghost use Rattle.opcode.specs.Length as Length;
 ghost use Rattle.header.specs.Read.{bthOf, rethOf, atomicOf, aethOf, extensionOf, badLength, readHeader};
-ghost use Rattle.header.specs.Check.{wrongService, isResponse, beyondService, admitted};
+ghost use Rattle.header.specs.Check.{wrongService, isResponse, beyondService, admitted, withClass};
 
 fn read_bth(p: &[u8]) -> Bth
     requires { ⌜ Length.bth ≤ length (now p) ⌝ }
@@ -158,45 +159,46 @@ fn beyond_service(service: u8, low: u8) -> bool
 
 // The header of a packet that passes all header checks of a queue pair with these numbers, or the
 // check that failed first.
-pub fn admit(p: &[u8], service: u8, ours: u32, pkey: u16, ready: bool) -> HeaderRead
-    ensures { λ r. ⌜ r ≡ admitted service ours pkey ready (now (p .entry)) ⌝ }
+pub fn admit(p: &[u8], service: u8, ours: u32, pkey: u16, ready: bool) -> Admission
+    ensures { λ r. ⌜ r ≡ withClass (admitted service ours pkey ready (now (p .entry))) ⌝ }
 {
     let bad = bad_length(p.len());
     if bad {
-        return HeaderRead::Dropped(reason::LENGTH);
+        return Admission::Dropped(reason::LENGTH);
     }
     let b = read_bth(p);
     if b.tver != 0 {
-        return HeaderRead::Dropped(reason::VERSION);
+        return Admission::Dropped(reason::VERSION);
     }
     if b.dest != ours {
-        return HeaderRead::Dropped(reason::NUMBER);
+        return Admission::Dropped(reason::NUMBER);
     }
     let matched = header::pkeys_match(b.pkey, pkey);
     if !matched {
-        return HeaderRead::Dropped(reason::KEY);
+        return Admission::Dropped(reason::KEY);
     }
     let wrong = wrong_service(b.opcode / opcode::PER_SERVICE, service);
     if wrong {
-        return HeaderRead::Dropped(reason::SERVICE);
+        return Admission::Dropped(reason::SERVICE);
     }
     let response = is_response(b.opcode % opcode::PER_SERVICE);
     if response {
-        return HeaderRead::Dropped(reason::RESPONSE);
+        return Admission::Dropped(reason::RESPONSE);
     }
     let beyond = beyond_service(service, b.opcode % opcode::PER_SERVICE);
     if beyond {
-        return HeaderRead::Dropped(reason::UNSERVED);
+        return Admission::Dropped(reason::UNSERVED);
     }
     let class = opcode::class(b.opcode);
     if p.len() < class.length {
-        return HeaderRead::Dropped(reason::SHORT);
+        return Admission::Dropped(reason::SHORT);
     }
     if !ready {
-        return HeaderRead::Dropped(reason::NOT_READY);
+        return Admission::Dropped(reason::NOT_READY);
     }
     let extension = read_extension(p, class.follows);
-    HeaderRead::Accepted(Header { bth: b, extension })
+    let h = Header { bth: b, extension };
+    Admission::Admitted(h, class)
 }
 
 // The header of a packet of any bytes, or the check that failed first.

@@ -1,7 +1,7 @@
 -- A duplicate READ that is answered has a good key, so its bytes lie in memory.
 use Prim.Native.Nat.{ℕ, _%_, _^_, _<_}
 use mathlib.Core.Path.{_≡_, refl, sym, ap, _∙_}
-use mathlib.Core.Bool.{Bool, true, false, cond, not, _&&_, true≢false}
+use mathlib.Core.Bool.{Bool, true, false, cond, not, _&&_, _||_, true≢false}
 use mathlib.Core.List.{List}
 use native.Mathlib.Omega.{arith}
 use lib.Dec.{eqb}
@@ -11,7 +11,7 @@ use Rattle.pmtu.specs.Pieces.{starts}
 use Rattle.table.specs.Table.{memoryOffset}
 use Rattle.pair.specs.declared.OpenMessage.{OpenMessage}
 use Rattle.pair.specs.declared.Setup.{Setup}
-use Rattle.request_spec.specs.Verdict.{carrying, fragment, notEnabled, overLimit, keyFails, current}
+use Rattle.request_spec.specs.Verdict.{single, fragment, notEnabled, overLimit, keyFails, current}
 use Rattle.request_spec.specs.declared.Packet.{Packet}
 use Rattle.responder_spec.specs.Decide.{duplicateReadFails}
 use Rattle.responder_spec.proofs.Inside.{own-inside}
@@ -35,15 +35,12 @@ pub answered-offset : (p : Packet) (s : Setup) (m : OpenMessage) (expected : Psn
 answered-offset p s m expected region t e f memory z =
     omega (arith, own-inside 12 (s .memory) m region refl (answered-key p s m expected region t e f) z)
 
--- what is no fragment and carries nothing begins its message
-pub begun : (opened : OpenMessage) (p : Packet) → fragment p ≡ false → carrying (p .kind) ≡ false → current opened p .stored ≡ 0
-unfolding fragment current
-begun opened p h c = go (starts (p .place)) (rw c at h)
+-- a READ that is no fragment begins its message
+pub begun : (opened : OpenMessage) (p : Packet) → fragment p ≡ false → p .kind ≡ 12 → current opened p .stored ≡ 0
+unfolding fragment single current
+begun opened p h k = go (starts (p .place)) (ap (λ x. (eqb x 12 || (eqb x 19 || eqb x 20)) && not (starts (p .place))) (sym k) ∙ h)
   where
-    go : (b : Bool) → not b ≡ false → cond b (record { kind = p .kind; stored = 0; address = p .operands .address; key = p .operands .key; length = p .operands .length }) opened .stored ≡ 0
+    go : (b : Bool) → not b ≡ false
+        → cond b (record { kind = p .kind; stored = 0; address = p .operands .address; key = p .operands .key; length = p .operands .length }) opened .stored ≡ 0
     go true x = refl
     go false x = absurd (true≢false x)
-
-pub bare : (kind : ℕ) → kind ≡ 12 → carrying kind ≡ false
-unfolding carrying
-bare kind e = ap carrying e

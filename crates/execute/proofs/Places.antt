@@ -12,7 +12,7 @@ use Rattle.pmtu.specs.Pieces.{starts}
 use Rattle.table.specs.Table.{outside, pastTop, addresses, memoryOffset}
 use Rattle.pair.specs.declared.OpenMessage.{OpenMessage}
 use Rattle.pair.specs.declared.Setup.{Setup}
-use Rattle.request_spec.specs.Verdict.{carrying, fragment, bytesToCome, keyFails, keyLacking, lacks, payloadSize, current}
+use Rattle.request_spec.specs.Verdict.{carrying, single, fragment, notEnabled, bytesToCome, keyFails, keyLacking, lacks, payloadSize, current}
 use Rattle.request_spec.specs.declared.Packet.{Packet}
 use Rattle.responder_spec.specs.Decide.{targetOffset}
 use Rattle.responder_spec.proofs.Codes.{Passed}
@@ -64,8 +64,8 @@ key-below memory kind m region k some h =
     let z : eqb (bytesToCome (m .length) (m .stored)) 0 ≡ false = ne-eqb (bytesToCome (m .length) (m .stored)) 0 (λ x. omega arith) in
     omega (arith, held-below region _ memory (m .address + m .stored) (bytesToCome (m .length) (m .stored)) (rw (ne-eqb kind 0 k, z) at h))
 
--- what is no fragment and carries nothing begins its message
-begun : (opened : OpenMessage) (p : Packet) → fragment p ≡ false → carrying (p .kind) ≡ false → current opened p .stored ≡ 0
+-- what is no fragment of a single packet's message begins it
+begun : (opened : OpenMessage) (p : Packet) → fragment p ≡ false → single (p .kind) ≡ true → current opened p .stored ≡ 0
 unfolding fragment current
 begun opened p h c = go (starts (p .place)) (rw c at h)
   where
@@ -73,6 +73,24 @@ begun opened p h c = go (starts (p .place)) (rw c at h)
         → cond b (record { kind = p .kind; stored = 0; address = p .operands .address; key = p .operands .key; length = p .operands .length }) opened .stored ≡ 0
     go true x = refl
     go false x = absurd (true≢false x)
+
+-- of the kinds that carry no bytes the single ones are enabled
+served : (s : Setup) (kind : ℕ) → notEnabled s kind ≡ false → carrying kind ≡ false → single kind ≡ true
+unfolding notEnabled single carrying
+served s kind h c = go (eqb kind 0) (eqb kind 6) (eqb kind 12) (eqb kind 19) (eqb kind 20) refl refl h
+  where
+    high : 12 ≤ kind
+    high = ltb-false kind 12 c
+
+    go : (a b r x f : Bool) → eqb kind 0 ≡ a → eqb kind 6 ≡ b
+        → cond a (not (s .send)) (cond b (not (s .write)) (cond r (not (s .read)) (cond x (not (s .atomic)) (cond f (not (s .atomic)) true)))) ≡ false
+        → (r || (x || f)) ≡ true
+    go true b r x f v w t = absurd (omega (arith, high, eqb-true kind 0 v))
+    go false true r x f v w t = absurd (omega (arith, high, eqb-true kind 6 w))
+    go false false true x f v w t = refl
+    go false false false true f v w t = refl
+    go false false false false true v w t = refl
+    go false false false false false v w t = absurd (true≢false t)
 
 bare-kind : (kind : ℕ) → carrying kind ≡ false → eqb kind 0 ≡ false
 unfolding carrying
@@ -112,7 +130,7 @@ module _ (s : Setup) (opened : OpenMessage) (p : Packet) (entry region : List �
 
   -- READs and atomics begin their message
   alone : fragment p ≡ false → carrying (p .kind) ≡ false → OffsetFits region (m .address) (m .length)
-  alone F c = omega (arith, own-inside (p .kind) (s .memory) m region (bare-kind (p .kind) c) (P .key) (begun opened p F c))
+  alone F c = omega (arith, own-inside (p .kind) (s .memory) m region (bare-kind (p .kind) c) (P .key) (begun opened p F (served s (p .kind) (P .enabled) c)))
 
   pub executable : fragment p ≡ false → Executable p m entry region
   executable F = record { stores = storable; own = alone F }

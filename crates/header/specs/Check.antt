@@ -10,6 +10,9 @@ use Rattle.opcode.specs.Service as Service
 use Rattle.header.specs.Reason as Reason
 use Rattle.header.specs.Read.{bthOf, badLength, otherService, readBy}
 use Rattle.header.specs.declared.HeaderRead.{HeaderRead}
+use Rattle.header.specs.declared.HeaderRead.the-variants as read
+use Rattle.header.specs.declared.Admission.{Admission}
+use Rattle.header.specs.declared.Admission.the-variants as admission
 
 -- the top bit of a P_Key
 abbrev pub pkeyTop : ℕ
@@ -53,3 +56,8 @@ headerReason service ours pkey ready p =
 -- the header, or the check that failed
 unfoldable pub admitted : ℕ → ℕ → ℕ → Bool → List ℕ → HeaderRead
 admitted service ours pkey ready p = readBy (headerReason service ours pkey ready p) p
+
+-- the same with the class of its opcode, for what comes after
+abbrev pub withClass : HeaderRead → Admission
+withClass (read.Accepted h) = admission.Admitted h (classOf (h .bth .opcode))
+withClass (read.Dropped reason) = admission.Dropped reason

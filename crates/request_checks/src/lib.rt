@@ -14,7 +14,7 @@ pub use place::uses_entry;
 use request_spec::Packet;
 ghost use mathlib.Core.Path.{_≡_};
 ghost use Rattle.pair.specs.Answer.{statusNumber};
-ghost use Rattle.request_spec.specs.Verdict.{carrying, fragment, notEnabled, overLimit, current, requestCodeOf, expectedCodeOf};
+ghost use Rattle.request_spec.specs.Verdict.{carrying, single, fragment, notEnabled, overLimit, current, requestCodeOf, expectedCodeOf};
 
 // Whether the kind is one of the two that carry bytes.
 pub fn carrying(kind: u8) -> bool
@@ -68,16 +68,29 @@ pub fn current(opened: OpenMessage, p: Packet) -> OpenMessage
     opened
 }
 
-// Whether the packet is a Middle or Last of a kind that has none, as no header says.
+// Whether a message of this kind is one packet.
+fn single(kind: u8) -> bool
+    ensures { λ r. ⌜ r ≡ single kind ⌝ }
+{
+    if kind == opcode::READ {
+        return true;
+    }
+    if kind == opcode::CMP_SWAP {
+        return true;
+    }
+    kind == opcode::FETCH_ADD
+}
+
+// Whether the packet is a Middle or Last of such a message, as no header says.
 pub fn fragment(p: Packet) -> bool
     ensures { λ r. ⌜ r ≡ fragment p ⌝ }
 {
-    let carries = carrying(p.kind);
-    if carries {
-        return false;
+    let one = single(p.kind);
+    if one {
+        let begins = pmtu::starts(p.place);
+        return !begins;
     }
-    let begins = pmtu::starts(p.place);
-    !begins
+    false
 }
 
 // The checks but that of the sequence, for a packet of the message m: the answer of the first that fails, or that none

@@ -4,6 +4,7 @@ use mathlib.Core.Bool.{Bool, false, true, cond, not, _&&_, _||_}
 use mathlib.Core.List.{List}
 use lib.Dec.{eqb, ltb}
 use lib.ListN.{getD}
+use Rattle.opcode.specs.Kind as Kind
 use Rattle.pmtu.specs.Pieces.{starts, ends}
 use Rattle.table.specs.Table.{outside, pastTop}
 use Rattle.pair.specs.Number as Number
@@ -16,9 +17,13 @@ use Rattle.request_spec.specs.declared.Packet.{Packet}
 unfoldable pub carrying : ℕ → Bool
 carrying kind = ltb kind 12
 
--- READs and atomics are messages of one packet: no opcode is a Middle or Last of theirs
+-- READs and atomics are messages of one packet
+unfoldable pub single : ℕ → Bool
+single kind = eqb kind Kind.read || (eqb kind Kind.cmpSwap || eqb kind Kind.fetchAdd)
+
+-- so no opcode is a Middle or Last of theirs
 unfoldable pub fragment : Packet → Bool
-fragment p = not (carrying (p .kind)) && not (starts (p .place))
+fragment p = single (p .kind) && not (starts (p .place))
 
 -- Sequence: what begins a message comes while none is open, which is 255; a Middle or Last goes on with one of its kind
 unfoldable pub outOfSequence : ℕ → ℕ → ℕ → Bool

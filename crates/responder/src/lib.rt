@@ -3,7 +3,7 @@
 mod refuse;
 mod response;
 
-use header::HeaderRead;
+use header::Admission;
 use pair::Pair;
 use pair::Status;
 use responder_spec::Decision;
@@ -18,7 +18,7 @@ ghost use Rattle.responder.specs.Unchanged.{unchanged, outcomeWith};
 pub(crate) fn unchanged(status: Status, pair: Pair) -> Outcome
     ensures { λ r. ⌜ r ≡ unchanged status pair ⌝ }
 {
-    let completion = idle::no_completion();
+    let completion = reply::no_completion();
     Outcome {
         status,
         pair,
@@ -68,11 +68,12 @@ pub fn inbound(
         pair.setup.pkey,
         pair.state == pair::READY,
     );
-    let HeaderRead::Accepted(h) = found else {
+    let Admission::Admitted(h, class) = found else {
         let dropped = Status::Dropped;
         return unchanged(dropped, pair);
     };
-    let d = decide::decision(pair, regions, entries, saved, h, packet.len());
+    let p = request_checks::packet_of(h, class, packet.len());
+    let d = decide::decision(pair, regions, entries, saved, p);
     let value = apply::change(mem, packet, d);
     apply::keep(saved, pair.saved, d.act, d.psn, value);
     let next = apply::pair_after(pair, d);

@@ -76,7 +76,7 @@ fn response_extension(place: u8, a: ReadAnswer) -> Extension
     }
     let msn = a.msn;
     let aeth = Aeth {
-        syndrome: 0x1f,
+        syndrome: reply::ACK,
         msn,
     };
     Extension::Acknowledge(aeth)

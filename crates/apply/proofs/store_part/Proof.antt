@@ -4,12 +4,22 @@ use Rattle.apply.proofs.Steps.{part-cut}
 use borrow.Author.Needs.{needs}
 use Rattle.apply.proofs.store_part.Statement.{statement}
 use Rattle.apply.proofs.store_part.Tie as tie
+use Rattle.apply.proofs.store_part.Reads as reads
+use Rattle.apply.proofs.store_part.Lts as lts
+use Rattle.memory.proofs.store.Reads as store-reads
+use Rattle.number.proofs.min.Reads as min-reads
 
 min-requires : tie.Need-min-requires
 min-requires c κs = search needs
 
+sub-min : tie.Need-sub-min
+sub-min c = search needs
+
 min-requires-2 : tie.Need-min-requires-2
 min-requires-2 c κs = search needs
+
+add-store : tie.Need-add-store
+add-store c = search needs
 
 sub-store : tie.Need-sub-store
 sub-store c = search needs
@@ -28,15 +38,18 @@ same-length c = search needs
 
 returns : tie.Need-returns
 returns c =
-    let A = c .before .before .before .before .before .before .before .before .before .args in
-    c .before .before .store .ensures ∙ ap (store (A .mem .now) (A .at)) (part-cut (A .packet .now) (A .start) (A .end) _ _ (c .before .before .before .before .before .before .min .ensures) (c .before .before .before .before .before .min2 .ensures))
+    let c5 = c .before .before .before .before .before in
+    let A = c5 .before .before .before .before .args in
+    c .before .before .store .ensures ∙ ap (store (A .mem .now) (A .at)) (part-cut (A .packet .now) (A .start) (A .size) _ _ (c5 .before .min .ensures) (c5 .min2 .ensures))
 
 pub store-part-spec : {M : Type 1} → statement M
 store-part-spec =
     tie.close
     (tie.spec
     min-requires
+    sub-min
     min-requires-2
+    add-store
     sub-store
     part-store-start
     part-store-end

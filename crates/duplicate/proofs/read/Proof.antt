@@ -1,6 +1,6 @@
 use mathlib.Core.Path.{_≡_, sym, ap, subst}
 use lib.Dec.{eqb}
-use Rattle.duplicate.proofs.Keys.{begun, bare}
+use Rattle.duplicate.proofs.Keys.{begun}
 use Rattle.responder_spec.specs.Decide.{regionFor}
 use borrow.Author.Needs.{needs}
 use Rattle.duplicate.proofs.read.Statement.{statement}
@@ -19,7 +19,7 @@ duplicate-read-requires : tie.Need-duplicate-read-requires
 duplicate-read-requires c κs =
     let c2 = c .before .before in
     let S = c2 .before .before in
-    subst (λ x. x .stored ≡ 0) (sym (c2 .current .ensures)) (begun (S .args .pair .message) (S .args .p) (S .pre .0) (bare (S .args .p .kind) (S .pre .1)))
+    subst (λ x. x .stored ≡ 0) (sym (c2 .current .ensures)) (begun (S .args .pair .message) (S .args .p) (S .pre .0) (S .pre .1))
 
 returns : tie.Need-returns
 unfolding regionFor

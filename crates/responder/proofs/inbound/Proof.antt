@@ -2,6 +2,19 @@ use Rattle.responder.proofs.Steps.{refused, left-at-once, whole}
 use borrow.Author.Needs.{needs}
 use Rattle.responder.proofs.inbound.Statement.{statement}
 use Rattle.responder.proofs.inbound.Tie as tie
+use Rattle.responder.proofs.inbound.Reads as reads
+use Rattle.responder.proofs.inbound.Lts as lts
+use Rattle.apply.proofs.reply.Reads as reply-reads
+use Rattle.apply.proofs.change.Reads as change-reads
+use Rattle.apply.proofs.keep.Reads as keep-reads
+use Rattle.apply.proofs.pair_after.Reads as pair-after-reads
+use Rattle.decide.proofs.decision.Reads as decision-reads
+use Rattle.decode.proofs.admit.Reads as admit-reads
+use Rattle.pair.proofs.Status.number.Reads as number-reads
+use Rattle.request_checks.proofs.packet_of.Reads as packet-of-reads
+use Rattle.responder.proofs.outcome_with.Reads as outcome-with-reads
+use Rattle.responder.proofs.refuse.refusal.Reads as refusal-reads
+use Rattle.responder.proofs.unchanged.Reads as unchanged-reads
 
 refusal-requires : tie.Need-refusal-requires
 refusal-requires c κs = search needs
@@ -34,6 +47,9 @@ returns-2 c =
     let A = c .before .before .before .before .before .before .before .before .before .before .before .args in
     left-at-once (A .pair) (A .regions .now) (A .entries .now) (A .saved .now) (A .mem .now) (A .packet .now) (A .out .now) (c .before .before .before .before .before .before .before .refusal .result) (c .before .before .before .before .before .before .before .refusal .ensures) (c .before .before .before .before .before .before .number .result) (c .before .before .before .before .before .before .number .ensures) (c .before .before .before .before .before .if1 .left) (c .before .before .before .admit .result) (c .before .before .before .admit .ensures) _ (c .before .enum-told .given .1) (c .unchanged2 .result) (c .unchanged2 .ensures)
 
+packet-of-requires : tie.Need-packet-of-requires
+packet-of-requires c κs = search needs
+
 decision-requires : tie.Need-decision-requires
 decision-requires c κs = search needs
 
@@ -60,8 +76,19 @@ same-length-2 c = search needs
 
 returns-3 : tie.Need-returns-3
 returns-3 c =
-    let A = c .before .before .before .before .before .before .before .before .before .before .before .before .before .before .before .before .before .before .before .before .before .before .before .before .before .args in
-    whole (A .pair) (A .regions .now) (A .entries .now) (A .saved .now) (A .mem .now) (A .packet .now) (A .out .now) (c .before .before .before .before .before .before .before .before .before .before .before .before .before .before .before .before .before .before .before .before .before .refusal .result) (c .before .before .before .before .before .before .before .before .before .before .before .before .before .before .before .before .before .before .before .before .before .refusal .ensures) (c .before .before .before .before .before .before .before .before .before .before .before .before .before .before .before .before .before .before .before .before .number .result) (c .before .before .before .before .before .before .before .before .before .before .before .before .before .before .before .before .before .before .before .before .number .ensures) (c .before .before .before .before .before .before .before .before .before .before .before .before .before .before .before .before .before .before .before .if1 .left) (c .before .before .before .before .before .before .before .before .before .before .before .before .before .before .before .before .before .admit .result) (c .before .before .before .before .before .before .before .before .before .before .before .before .before .before .before .before .before .admit .ensures) _ (c .before .before .before .before .before .before .before .before .before .before .before .before .before .before .before .found .given .1) (c .before .before .before .before .before .before .before .before .before .before .before .before .decision .result) (c .before .before .before .before .before .before .before .before .before .before .before .before .decision .ensures) _ (c .before .before .before .before .before .before .before .before .before .before .change .ensures .1) (c .before .before .before .before .before .before .before .before .before .before .change .result) (c .before .before .before .before .before .before .before .before .before .before .change .ensures .0) _ (c .before .before .before .before .before .before .keep .ensures) (c .before .before .before .before .before .pair-after .result) (c .before .before .before .before .before .pair-after .ensures) _ (c .before .before .before .reply .ensures) (c .outcome-with .result) (c .outcome-with .ensures)
+    let c3 = c .before .before .before in
+    let c6 = c3 .before .before .before in
+    let c10 = c6 .before .before .before .before in
+    let c14 = c10 .before .before .before .before in
+    let c18 = c14 .before .before .before .before in
+    let c22 = c18 .before .before .before .before in
+    let A = c22 .before .before .before .before .args in
+    whole (A .pair) (A .regions .now) (A .entries .now) (A .saved .now) (A .mem .now) (A .packet .now) (A .out .now)
+    (c22 .refusal .result) (c22 .refusal .ensures) (c18 .before .before .before .number .result) (c18 .before .before .before .number .ensures) (c18 .before .before .if1 .left)
+    (c18 .admit .result) (c18 .admit .ensures) _ _ (c14 .before .before .found .given .1)
+    (c14 .packet-of .result) (c14 .packet-of .ensures) (c10 .before .before .decision .result) (c10 .before .before .decision .ensures)
+    _ (c10 .change .ensures .1) (c10 .change .result) (c10 .change .ensures .0) _ (c6 .keep .ensures)
+    (c3 .before .before .pair-after .result) (c3 .before .before .pair-after .ensures) _ (c3 .reply .ensures) (c .outcome-with .result) (c .outcome-with .ensures)
 
 pub inbound-spec : {M : Type 1} → statement M
 inbound-spec =
@@ -76,6 +103,7 @@ inbound-spec =
     enum-told
     unchanged-requires-2
     returns-2
+    packet-of-requires
     decision-requires
     change-requires
     keep-requires

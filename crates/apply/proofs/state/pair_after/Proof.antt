@@ -1,17 +1,79 @@
-use Rattle.responder_spec.specs.Apply.{pairBy}
+use Rattle.pair.specs.Answer.{statusNumber}
+use Rattle.responder_spec.specs.Apply.{after, pairBy}
 use borrow.Author.Needs.{needs}
 use Rattle.apply.proofs.state.pair_after.Statement.{statement}
 use Rattle.apply.proofs.state.pair_after.Tie as tie
+use Rattle.apply.proofs.state.breaks.Reads as breaks-reads
+use Rattle.apply.proofs.state.closing.Reads as closing-reads
+use Rattle.apply.proofs.state.executed_pair.Reads as executed-pair-reads
+use Rattle.apply.proofs.state.executes.Reads as executes-reads
+use Rattle.apply.proofs.state.marks.Reads as marks-reads
+use Rattle.apply.proofs.state.read_by.Reads as read-by-reads
+use Rattle.pair.proofs.Status.is.Reads as is-reads
 
-number-requires : tie.Need-number-requires
-number-requires c κs = search needs
+executes-requires : tie.Need-executes-requires
+executes-requires c κs = search needs
 
-after-requires : tie.Need-after-requires
-after-requires c κs = search needs
+executed-pair-requires : tie.Need-executed-pair-requires
+executed-pair-requires c κs = search needs
 
 returns : tie.Need-returns
-unfolding pairBy
-returns c = simp (← c .before .number .ensures, ← c .after .ensures)
+unfolding statusNumber after pairBy
+returns c = simp (← c .before .before .executes .ensures, c .before .if1 .taken, ← c .executed-pair .ensures)
+
+is-requires : tie.Need-is-requires
+is-requires c κs = search needs
+
+read-by-requires : tie.Need-read-by-requires
+read-by-requires c κs = search needs
+
+returns-2 : tie.Need-returns-2
+unfolding statusNumber after pairBy
+returns-2 c = simp (← c .before .before .before .before .before .executes .ensures, c .before .before .before .before .if1 .left, ← c .before .before .before .is .ensures, c .before .before .if2 .taken, ← c .read-by .ensures)
+
+marks-requires : tie.Need-marks-requires
+marks-requires c κs = search needs
+
+returns-3 : tie.Need-returns-3
+unfolding statusNumber after pairBy
+returns-3 c = simp (← c .before .before .before .before .before .executes .ensures, c .before .before .before .before .if1 .left, ← c .before .before .before .is .ensures, c .before .before .if2 .left, ← c .before .marks .ensures, c .if3 .taken)
+
+breaks-requires : tie.Need-breaks-requires
+breaks-requires c κs = search needs
+
+returns-4 : tie.Need-returns-4
+unfolding statusNumber after pairBy
+returns-4 c = simp (← c .before .before .before .before .before .before .before .executes .ensures, c .before .before .before .before .before .before .if1 .left, ← c .before .before .before .before .before .is .ensures, c .before .before .before .before .if2 .left, ← c .before .before .before .marks .ensures, c .before .before .if3 .left, ← c .before .breaks .ensures, c .if4 .taken)
+
+is-requires-2 : tie.Need-is-requires-2
+is-requires-2 c κs = search needs
+
+closing-requires : tie.Need-closing-requires
+closing-requires c κs = search needs
+
+returns-5 : tie.Need-returns-5
+unfolding statusNumber after pairBy
+returns-5 c = simp (← c .before .before .before .before .before .before .before .before .before .before .executes .ensures, c .before .before .before .before .before .before .before .before .before .if1 .left, ← c .before .before .before .before .before .before .before .before .is .ensures, c .before .before .before .before .before .before .before .if2 .left, ← c .before .before .before .before .before .before .marks .ensures, c .before .before .before .before .before .if3 .left, ← c .before .before .before .before .breaks .ensures, c .before .before .before .if4 .left, ← c .before .before .is2 .ensures, c .before .if5 .taken, ← c .closing .ensures)
+
+returns-6 : tie.Need-returns-6
+unfolding statusNumber after pairBy
+returns-6 c = simp (← c .before .before .before .before .before .before .before .before .before .executes .ensures, c .before .before .before .before .before .before .before .before .if1 .left, ← c .before .before .before .before .before .before .before .is .ensures, c .before .before .before .before .before .before .if2 .left, ← c .before .before .before .before .before .marks .ensures, c .before .before .before .before .if3 .left, ← c .before .before .before .breaks .ensures, c .before .before .if4 .left, ← c .before .is2 .ensures, c .if5 .left)
 
 pub pair-after-spec : {M : Type 1} → statement M
-pair-after-spec = tie.close (tie.spec number-requires after-requires returns)
+pair-after-spec =
+    tie.close
+    (tie.spec
+    executes-requires
+    executed-pair-requires
+    returns
+    is-requires
+    read-by-requires
+    returns-2
+    marks-requires
+    returns-3
+    breaks-requires
+    returns-4
+    is-requires-2
+    closing-requires
+    returns-5
+    returns-6)
