@@ -5,10 +5,30 @@ use pair::Status;
 use request_spec::Packet;
 use responder_spec::Decision;
 use sequence::Class;
+use sequence::Psn;
 ghost use mathlib.Core.Path.{_≡_};
 ghost use mathlib.Core.Bool.{cond};
+ghost use lib.Dec.{eqb};
+ghost use Rattle.sequence.specs.Sequence.{psnClass};
+ghost use Rattle.opcode.specs.Service as Service;
 ghost use Rattle.execute.specs.Fits.{unformed};
 ghost use Rattle.responder_spec.specs.Decide.{noReply, packetDecision};
+
+fn unreliable(service: u8) -> bool
+    ensures { λ r. ⌜ r ≡ eqb service Service.uc ⌝ }
+{
+    service == opcode::UC
+}
+
+// The class of a packet's number; UC takes every number as the expected one.
+fn class_of(uc: bool, psn: Psn, expected: Psn) -> Class
+    ensures { λ r. ⌜ r ≡ cond uc Class.Expected (psnClass (psn .0) (expected .0)) ⌝ }
+{
+    if uc {
+        return Class::Expected;
+    }
+    psn.class(expected)
+}
 
 // The decision on a packet whose header passes the header checks; what no header and no set-up says is the caller's
 // mistake.
@@ -25,13 +45,10 @@ pub fn decision(
     if none {
         return reply::no_reply(Status::OutOfRange);
     }
-    if pair.setup.service == opcode::UC {
-        return execute::unreliable(pair, regions, entries, p);
-    }
-    let psn = p.psn;
-    let class = psn.class(pair.expected);
+    let uc = unreliable(pair.setup.service);
+    let class = class_of(uc, p.psn, pair.expected);
     match class {
-        Class::Expected => execute::reliable(pair, regions, entries, p),
+        Class::Expected => execute::decision(uc, pair, regions, entries, p),
         Class::Ahead => reply::ahead(pair.nakmark, pair.expected),
         Class::Duplicate => duplicate::answer(pair, regions, saved, p),
     }

@@ -1,82 +1,126 @@
 -- The steps of a decision, over plain values: what the checks answered, and that the rest is the definition.
-use Prim.Native.Nat.{ℕ}
-use mathlib.Core.Path.{_≡_, sym, ap, _∙_}
-use mathlib.Core.Bool.{Bool, true, false, cond}
+use Prim.Native.Nat.{ℕ, _+_}
+use mathlib.Core.Path.{_≡_, refl, sym, ap, _∙_}
+use mathlib.Core.Bool.{Bool, true, false, cond, true≢false}
 use mathlib.Core.List.{List}
 use lib.Dec.{eqb}
 use borrow.Author.Tests.{eqb-true}
+use Rattle.sequence.specs.Sequence.{distance}
 use Rattle.sequence.specs.declared.Psn.{Psn}
 use Rattle.pair.specs.Answer.{statusNumber}
 use Rattle.pair.specs.declared.OpenMessage.{OpenMessage}
 use Rattle.pair.specs.declared.Setup.{Setup}
 use Rattle.pair.specs.declared.Status.{Status}
 use Rattle.pair.specs.declared.Status.the-variants as status
-use Rattle.request_spec.specs.Verdict.{current, requestCode, requestCodeOf, expectedCode, expectedCodeOf}
+use Rattle.request_spec.specs.Verdict.{carrying, current, requestCode, expectedCode, expectedCodeOf}
 use Rattle.request_spec.specs.declared.Packet.{Packet}
-use Rattle.responder_spec.specs.Decide.{noReply, failed, execute, checkedDecision, expectedDecision, orphaned, strays, closedBy, abandoning, ucExecute, ucCheckedDecision, ucDecision}
+use Rattle.responder_spec.specs.Decide.{noReply, failed, storePayload, execute, checkedDecision, expectedDecision, orphaned, strays, closedBy, abandoning, ucExecute, ucCheckedDecision, ucDecision}
 use Rattle.responder_spec.specs.declared.Decision.{Decision}
-use Rattle.responder_spec.proofs.Codes.{Passed, passes, request-passes}
-use Rattle.responder_spec.proofs.Views.{current-closed}
+use Rattle.responder_spec.proofs.Codes.{Passed, passes}
+use Rattle.responder_spec.proofs.Views.{current-closed, same-code}
+use Rattle.execute.specs.Either.{either, answered}
 
--- RC
-module _ (p : Packet) (s : Setup) (opened m : OpenMessage) (count : ℕ) (entry region : List ℕ) (e : m ≡ current opened p)
-    (a : Status) (c : statusNumber a ≡ expectedCodeOf s (opened .kind) m p count entry region) where
-  code : statusNumber a ≡ expectedCode s opened p count entry region
-  unfolding expectedCode requestCode
-  code = c ∙ ap (λ x. expectedCodeOf s (opened .kind) x p count entry region) e
+-- a SEND or WRITE that is stored, on either service
+pub stored : (uc asked : Bool) (psns : ℕ) (p : Packet) (expected : Psn) (m opened : OpenMessage) (entry region : List ℕ) (pmtu : ℕ)
+    → asked ≡ cond uc false (p .ackreq)
+    → psns ≡ cond uc (1 + distance (p .psn .0) (expected .0)) 1
+    → carrying (p .kind) ≡ true
+    → answered asked psns (storePayload p m entry region) ≡ cond uc (ucExecute p expected m entry region) (execute p m opened entry region pmtu)
+unfolding ucExecute execute answered storePayload
+stored true asked psns p expected m opened entry region pmtu a n c = rw c (λ i. answered (a i) (n i) (storePayload p m entry region))
+stored false asked psns p expected m opened entry region pmtu a n c = rw c (λ i. answered (a i) (n i) (storePayload p m entry region))
 
-  pub passed : eqb (statusNumber a) 0 ≡ true → Passed s opened p entry region
-  passed z = passes s opened p count entry region (sym code ∙ eqb-true (statusNumber a) 0 z)
+-- what carries nothing
+pub bare : (uc : Bool) (p : Packet) (expected : Psn) (m opened : OpenMessage) (entry region : List ℕ) (pmtu : ℕ) (d : Decision)
+    → uc ≡ false → d ≡ execute p m opened entry region pmtu
+    → d ≡ cond uc (ucExecute p expected m entry region) (execute p m opened entry region pmtu)
+bare true p expected m opened entry region pmtu d u e = absurd (true≢false u)
+bare false p expected m opened entry region pmtu d u e = e
 
-  abbrev by-code : ℕ → Bool → Decision
-  by-code n b = cond b (execute p (current opened p) opened entry region (s .pmtu)) (failed n (p .psn) (s .timer))
+pub none : (uc : Bool) (p : Packet) (expected : Psn) (m opened : OpenMessage) (entry region : List ℕ) (pmtu : ℕ)
+    → uc ≡ true → carrying (p .kind) ≡ false
+    → noReply status.Dropped ≡ cond uc (ucExecute p expected m entry region) (execute p m opened entry region pmtu)
+unfolding ucExecute
+none true p expected m opened entry region pmtu u c = rw c
+none false p expected m opened entry region pmtu u c = absurd (true≢false (sym u))
 
-  settled : (b : Bool) → eqb (statusNumber a) 0 ≡ b → by-code (statusNumber a) b ≡ expectedDecision p s opened count entry region
-  unfolding expectedDecision checkedDecision
-  settled b z = ap (by-code (statusNumber a)) (sym z) ∙ ap (λ n. by-code n (eqb n 0)) code
+module _ (p : Packet) (s : Setup) (expected : Psn) (opened : OpenMessage) (count : ℕ) (entry region : List ℕ) where
+  abbrev lostTo : Bool → Status
+  lostTo uc = cond uc (cond (orphaned (p .place) (opened .kind)) status.Dropped (cond (strays p expected (opened .kind)) status.Abandoned status.Executed)) status.Executed
 
-  pub refuses : eqb (statusNumber a) 0 ≡ false → failed (statusNumber a) (p .psn) (s .timer) ≡ expectedDecision p s opened count entry region
-  refuses z = settled false z
+  -- a Middle or Last without its message
+  pub loses : (uc : Bool) (a : Status) → a ≡ lostTo uc → eqb (statusNumber a) 0 ≡ false → noReply a ≡ either uc p s expected opened count entry region
+  unfolding either ucDecision statusNumber
+  loses true a e z = go (orphaned (p .place) (opened .kind)) (strays p expected (opened .kind)) e
+    where
+      go : (x y : Bool) → a ≡ cond x status.Dropped (cond y status.Abandoned status.Executed)
+          → noReply a
+          ≡ cond x (noReply status.Dropped) (cond y (noReply status.Abandoned) (ucCheckedDecision (requestCode s (closedBy (p .place) opened) p count entry region) p expected opened entry region))
+      go true y i = ap noReply i
+      go false true i = ap noReply i
+      go false false i = absurd (true≢false (ap (λ t. eqb (statusNumber t) 0) (sym i) ∙ z))
+  loses false a e z = absurd (true≢false (ap (λ t. eqb (statusNumber t) 0) (sym e) ∙ z))
 
-  pub executes : eqb (statusNumber a) 0 ≡ true → execute p m opened entry region (s .pmtu) ≡ expectedDecision p s opened count entry region
-  executes z = ap (λ x. execute p x opened entry region (s .pmtu)) e ∙ settled true z
+  -- all others have it
+  founds : (a : Status) → a ≡ lostTo true → eqb (statusNumber a) 0 ≡ true
+      → (orphaned (p .place) (opened .kind) ≡ false) × (strays p expected (opened .kind) ≡ false)
+  unfolding statusNumber
+  founds a e z = go (orphaned (p .place) (opened .kind)) (strays p expected (opened .kind)) e
+    where
+      go : (x y : Bool) → a ≡ cond x status.Dropped (cond y status.Abandoned status.Executed) → (x ≡ false) × (y ≡ false)
+      go true y i = absurd (true≢false (sym (ap (λ t. eqb (statusNumber t) 0) (sym i) ∙ z)))
+      go false true i = absurd (true≢false (sym (ap (λ t. eqb (statusNumber t) 0) (sym i) ∙ z)))
+      go false false i = (refl, refl)
 
--- UC
-module _ (p : Packet) (s : Setup) (expected : Psn) (opened m closed : OpenMessage) (count : ℕ) (entry region : List ℕ) (e : m ≡ current opened p)
-    (k : closed ≡ closedBy (p .place) opened) where
-  pub orphan : orphaned (p .place) (opened .kind) ≡ true → noReply status.Dropped ≡ ucDecision p s expected opened count entry region
-  unfolding ucDecision
-  orphan h = rw h
+  -- the message that is open when the packet is checked, and the packet's own
+  abbrev pub met : Bool → OpenMessage
+  met uc = cond uc (closedBy (p .place) opened) opened
 
-  pub stray : orphaned (p .place) (opened .kind) ≡ false → strays p expected (opened .kind) ≡ true
-      → noReply status.Abandoned ≡ ucDecision p s expected opened count entry region
-  unfolding ucDecision
-  stray h g = rw (h, g)
+  pub current-met : (uc : Bool) → current (met uc) p ≡ current opened p
+  current-met true = current-closed opened p
+  current-met false = refl
 
-  module _ (a : Status) (c : statusNumber a ≡ requestCodeOf s (closed .kind) m p count entry region) where
-    uc-code : statusNumber a ≡ requestCode s (closedBy (p .place) opened) p count entry region
-    unfolding requestCode
-    uc-code =
+  met-kind : (uc : Bool) → cond uc (closedBy (p .place) opened .kind) (opened .kind) ≡ met uc .kind
+  met-kind true = refl
+  met-kind false = refl
+
+  module _ (uc : Bool) (a : Status) (f : a ≡ lostTo uc) (z : eqb (statusNumber a) 0 ≡ true) (m : OpenMessage) (e : m ≡ current opened p) (k : ℕ)
+      (g : k ≡ cond uc (closedBy (p .place) opened .kind) (opened .kind)) (b : Status) (c : statusNumber b ≡ expectedCodeOf s k m p count entry region) where
+    code : statusNumber b ≡ expectedCode s (met uc) p count entry region
+    unfolding expectedCode requestCode
+    code =
         c
-        ∙ (ap (λ x. requestCodeOf s (x .kind) m p count entry region) k
-        ∙ ap (λ x. requestCodeOf s (closedBy (p .place) opened .kind) x p count entry region) (e ∙ sym (current-closed opened p)))
+        ∙ (ap (λ x. expectedCodeOf s x m p count entry region) (g ∙ met-kind uc)
+        ∙ ap (λ x. expectedCodeOf s (met uc .kind) x p count entry region) (e ∙ sym (current-met uc)))
 
-    pub uc-passed : eqb (statusNumber a) 0 ≡ true → Passed s (closedBy (p .place) opened) p entry region
-    uc-passed z = request-passes s (closedBy (p .place) opened) p count entry region (sym uc-code ∙ eqb-true (statusNumber a) 0 z)
+    pub passed : eqb (statusNumber b) 0 ≡ true → Passed s (met uc) p entry region
+    passed y = passes s (met uc) p count entry region (sym code ∙ eqb-true (statusNumber b) 0 y)
 
-    abbrev uc-by : ℕ → Bool → Decision
-    uc-by n b = cond b (ucExecute p expected (current opened p) entry region) (abandoning n (opened .kind))
+  -- by what the checks answered
+  abbrev settledBy : Bool → ℕ → Bool → Decision
+  settledBy uc n t =
+      cond uc (cond t (ucExecute p expected (current opened p) entry region) (abandoning n (opened .kind)))
+      (cond t (execute p (current opened p) opened entry region (s .pmtu)) (failed n (p .psn) (s .timer)))
 
-    uc-settled : orphaned (p .place) (opened .kind) ≡ false → strays p expected (opened .kind) ≡ false
-        → (b : Bool) → eqb (statusNumber a) 0 ≡ b
-        → uc-by (statusNumber a) b ≡ ucDecision p s expected opened count entry region
-    unfolding ucDecision ucCheckedDecision
-    uc-settled h g b z = rw (h, g) (ap (uc-by (statusNumber a)) (sym z) ∙ ap (λ n. uc-by n (eqb n 0)) uc-code)
+  settled : (uc : Bool) (a : Status) → a ≡ lostTo uc → eqb (statusNumber a) 0 ≡ true → (b : Status)
+      → statusNumber b ≡ expectedCode s (met uc) p count entry region
+      → settledBy uc (statusNumber b) (eqb (statusNumber b) 0) ≡ either uc p s expected opened count entry region
+  unfolding either ucDecision ucCheckedDecision expectedDecision checkedDecision
+  settled true a f z b c =
+      let F = founds a f z in
+      let d = c ∙ same-code s opened p expected count entry region (F .1) in
+      rw (F .0, F .1) (ap (λ n. settledBy true n (eqb n 0)) d)
+  settled false a f z b c = ap (λ n. settledBy false n (eqb n 0)) c
 
-    pub abandons : orphaned (p .place) (opened .kind) ≡ false → strays p expected (opened .kind) ≡ false → eqb (statusNumber a) 0 ≡ false
-        → abandoning (statusNumber a) (opened .kind) ≡ ucDecision p s expected opened count entry region
-    abandons h g z = uc-settled h g false z
+  module _ (uc : Bool) (a : Status) (f : a ≡ lostTo uc) (z : eqb (statusNumber a) 0 ≡ true) (m : OpenMessage) (e : m ≡ current opened p) (k : ℕ)
+      (g : k ≡ cond uc (closedBy (p .place) opened .kind) (opened .kind)) (b : Status) (c : statusNumber b ≡ expectedCodeOf s k m p count entry region) where
+    is : (t : Bool) → eqb (statusNumber b) 0 ≡ t → settledBy uc (statusNumber b) t ≡ either uc p s expected opened count entry region
+    is t y = ap (settledBy uc (statusNumber b)) (sym y) ∙ settled uc a f z b (code uc a f z m e k g b c)
 
-    pub uc-executes : orphaned (p .place) (opened .kind) ≡ false → strays p expected (opened .kind) ≡ false → eqb (statusNumber a) 0 ≡ true
-        → ucExecute p expected m entry region ≡ ucDecision p s expected opened count entry region
-    uc-executes h g z = ap (λ x. ucExecute p expected x entry region) e ∙ uc-settled h g true z
+    pub refuses : eqb (statusNumber b) 0 ≡ false
+        → cond uc (abandoning (statusNumber b) (opened .kind)) (failed (statusNumber b) (p .psn) (s .timer)) ≡ either uc p s expected opened count entry region
+    refuses y = is false y
+
+    pub executes : eqb (statusNumber b) 0 ≡ true
+        → cond uc (ucExecute p expected m entry region) (execute p m opened entry region (s .pmtu)) ≡ either uc p s expected opened count entry region
+    executes y = ap (λ x. cond uc (ucExecute p expected x entry region) (execute p x opened entry region (s .pmtu))) e ∙ is true y

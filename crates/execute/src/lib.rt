@@ -10,14 +10,15 @@ use pair::Status;
 use request_spec::Packet;
 use responder_spec::Decision;
 use sequence::Psn;
-pub use uc::unreliable;
 ghost use mathlib.Core.Path.{_≡_};
-ghost use mathlib.Core.Bool.{cond};
-ghost use Prim.Native.Nat.{_≤_};
+ghost use mathlib.Core.Bool.{false, cond};
+ghost use Prim.Native.Nat.{_+_, _≤_};
+ghost use Rattle.sequence.specs.Sequence.{distance};
 ghost use Rattle.pair.specs.Answer.{statusNumber};
 ghost use Rattle.request_spec.specs.Verdict.{current};
-ghost use Rattle.responder_spec.specs.Decide.{noReply, failed, execute, expectedDecision, regionFor, headEntry};
+ghost use Rattle.responder_spec.specs.Decide.{noReply, failed, execute, orphaned, strays, closedBy, abandoning, ucExecute, regionFor, headEntry};
 ghost use Rattle.execute.specs.Fits.{Executable, unformed};
+ghost use Rattle.execute.specs.Either.{either};
 
 // Refused by a check: a NAK, or the caller's mistake.
 fn failed(status: Status, psn: Psn, timer: u8) -> Decision
@@ -39,9 +40,43 @@ fn failed(status: Status, psn: Psn, timer: u8) -> Decision
     reply::no_reply(Status::OutOfRange)
 }
 
-// By the kind of a packet that passed every check, of the message m.
+// Refused by a check: a NAK on RC, the message abandoned on UC.
+fn refused(uc: bool, status: Status, opened: u8, psn: Psn, timer: u8) -> Decision
+    requires { ⌜ timer ≤ 31 ⌝ }
+    ensures { λ r. ⌜ r ≡ cond uc (abandoning (statusNumber status) opened) (failed (statusNumber status) psn timer) ⌝ }
+{
+    if uc {
+        return uc::abandoning(status, opened);
+    }
+    failed(status, psn, timer)
+}
+
+// Whether an executed packet is acknowledged: on UC none is.
+fn asks(uc: bool, ackreq: bool) -> bool
+    ensures { λ r. ⌜ r ≡ cond uc false ackreq ⌝ }
+{
+    if uc {
+        return false;
+    }
+    ackreq
+}
+
+// How many PSNs a packet takes: on UC those passed over, too.
+fn psns(uc: bool, psn: Psn, expected: Psn) -> usize
+    ensures { λ r. ⌜ r ≡ cond uc (1 + distance (psn .0) (expected .0)) 1 ⌝ }
+{
+    if uc {
+        let skipped = psn.distance(expected);
+        return 1 + number::u32_to_usize(skipped);
+    }
+    1
+}
+
+// By the kind of a packet that passed every check, of the message m. UC has no READs and atomics: none comes so far.
 fn execute(
+    uc: bool,
     p: Packet,
+    expected: Psn,
     m: OpenMessage,
     opened: OpenMessage,
     entry: [u64; 3],
@@ -49,11 +84,16 @@ fn execute(
     pmtu: usize,
 ) -> Decision
     requires { ⌜ Executable p m entry region ⌝ }
-    ensures { λ r. ⌜ r ≡ execute p m opened entry region pmtu ⌝ }
+    ensures { λ r. ⌜ r ≡ cond uc (ucExecute p expected m entry region) (execute p m opened entry region pmtu) ⌝ }
 {
     let carries = request_checks::carrying(p.kind);
     if carries {
-        return message::store_payload(p, m, entry, region);
+        let asked = asks(uc, p.ackreq);
+        let taken = psns(uc, p.psn, expected);
+        return message::store_payload(p, asked, taken, m, entry, region);
+    }
+    if uc {
+        return reply::no_reply(Status::Dropped);
     }
     if p.kind == opcode::READ {
         return single::accept_read(p, m, opened, region, pmtu);
@@ -82,14 +122,37 @@ pub fn unformed(p: Packet, timer: u8) -> bool
     31 < timer
 }
 
-// A packet with the expected PSN, on RC: the request checks, then it is executed.
-pub fn reliable(
+// What a Middle or Last of UC is answered that has lost its message; Executed for every other packet.
+fn lost(uc: bool, p: Packet, expected: Psn, opened: u8) -> Status
+    ensures { λ r. ⌜ r ≡ cond uc (cond (orphaned (p .place) opened) Status.Dropped (cond (strays p expected opened) Status.Abandoned Status.Executed)) Status.Executed ⌝ }
+{
+    if uc {
+        return uc::lost(p, expected, opened);
+    }
+    Status::Executed
+}
+
+// The kind of the message that is open when a packet is checked.
+fn open_kind(uc: bool, place: u8, opened: OpenMessage) -> u8
+    ensures { λ r. ⌜ r ≡ cond uc (closedBy place opened .kind) (opened .kind) ⌝ }
+{
+    if uc {
+        let closed = uc::closed_by(place, opened);
+        return closed.kind;
+    }
+    opened.kind
+}
+
+// A packet whose PSN is the expected one, as on UC every PSN is: the request checks, then it is executed. Both services
+// pass here, so that the checks and the executing stand once in the compiled code; apart, a SEND takes some 15 ns longer.
+pub fn decision(
+    uc: bool,
     pair: Pair,
     regions: &[[u64; 7]; 16],
     entries: &[[u64; 3]; 16],
     p: Packet,
 ) -> Decision
-    ensures { λ r. ⌜ r ≡ cond (unformed p (pair .setup .timer)) (noReply Status.OutOfRange) (expectedDecision p (pair .setup) (pair .message) (pair .entries .count) (headEntry pair (now (entries .entry))) (regionFor (p .kind) (current (pair .message) p .key) (now (regions .entry)))) ⌝ }
+    ensures { λ r. ⌜ r ≡ cond (unformed p (pair .setup .timer)) (noReply Status.OutOfRange) (either uc p (pair .setup) (pair .expected) (pair .message) (pair .entries .count) (headEntry pair (now (entries .entry))) (regionFor (p .kind) (current (pair .message) p .key) (now (regions .entry)))) ⌝ }
 {
     let setup = pair.setup;
     let none = unformed(p, setup.timer);
@@ -97,14 +160,20 @@ pub fn reliable(
         return reply::no_reply(Status::OutOfRange);
     }
     let opened = pair.message;
-    let m = request_checks::current(opened, p);
-    let entry = table::entry_at(entries, pair.entries.head);
-    let region = key_region(regions, p.kind, m.key);
-    let count = pair.entries.count;
-    let status = request_checks::expected_status(setup, opened.kind, m, p, count, entry, region);
-    let passed = status.is(Status::Executed);
-    if passed {
-        return execute(p, m, opened, entry, region, setup.pmtu);
+    let early = lost(uc, p, pair.expected, opened.kind);
+    let found = early.is(Status::Executed);
+    if found {
+        let m = request_checks::current(opened, p);
+        let entry = table::entry_at(entries, pair.entries.head);
+        let region = key_region(regions, p.kind, m.key);
+        let kind = open_kind(uc, p.place, opened);
+        let count = pair.entries.count;
+        let status = request_checks::expected_status(setup, kind, m, p, count, entry, region);
+        let passed = status.is(Status::Executed);
+        if passed {
+            return execute(uc, p, pair.expected, m, opened, entry, region, setup.pmtu);
+        }
+        return refused(uc, status, opened.kind, p.psn, setup.timer);
     }
-    failed(status, p.psn, setup.timer)
+    reply::no_reply(early)
 }

@@ -11,6 +11,7 @@ ghost use lib.Dec.{eqb};
 ghost use Rattle.request_spec.specs.Verdict.{payloadSize};
 ghost use Rattle.responder_spec.specs.Decide.{completes, completionOf, messageAfter, targetOffset, storePayload};
 ghost use Rattle.execute.specs.Fits.{TargetFits};
+ghost use Rattle.execute.specs.Either.{answered};
 
 fn completes(kind: u8, place: u8, immediate: bool) -> bool
     ensures { λ r. ⌜ r ≡ completes kind place immediate ⌝ }
@@ -82,42 +83,44 @@ fn target_offset(kind: u8, m: OpenMessage, entry: [u64; 3], region: [u64; 7]) ->
     table::memory_offset(region, m.address + stored, needed)
 }
 
-fn status_of(ackreq: bool) -> Status
-    ensures { λ r. ⌜ r ≡ cond ackreq Status.Acknowledged Status.Executed ⌝ }
+fn status_of(asked: bool) -> Status
+    ensures { λ r. ⌜ r ≡ cond asked Status.Acknowledged Status.Executed ⌝ }
 {
-    if ackreq {
+    if asked {
         return Status::Acknowledged;
     }
     Status::Executed
 }
 
-fn ack_length(ackreq: bool) -> usize
-    ensures { λ r. ⌜ r ≡ cond ackreq 16 0 ⌝ }
+fn ack_length(asked: bool) -> usize
+    ensures { λ r. ⌜ r ≡ cond asked 16 0 ⌝ }
 {
-    if ackreq {
+    if asked {
         return reply::ACK_LENGTH;
     }
     0
 }
 
-// The payload is stored.
+// The payload is stored; whether it is acknowledged and how many PSNs are taken, the service says.
 pub(crate) fn store_payload(
     p: Packet,
+    asked: bool,
+    psns: usize,
     m: OpenMessage,
     entry: [u64; 3],
     region: [u64; 7],
 ) -> Decision
     requires { ⌜ m .stored + payloadSize p < 2 ^ 64 ⌝ }
     requires { ⌜ TargetFits (p .kind) m entry region ⌝ }
-    ensures { λ r. ⌜ r ≡ storePayload p m entry region ⌝ }
+    ensures { λ r. ⌜ r ≡ answered asked psns (storePayload p m entry region) ⌝ }
 {
     let size = number::saturating_sub(p.padded, p.pad);
     let at = target_offset(p.kind, m, entry, region);
     let message = message_after(p.place, m, size);
     let completion = completion_of(p, m, entry[0]);
     let ends = pmtu::ends(p.place);
-    let status = status_of(p.ackreq);
-    let outgoing = ack_length(p.ackreq);
+    let status = status_of(asked);
+    let outgoing = ack_length(asked);
     let psn = p.psn;
     Decision {
         status,
@@ -128,7 +131,7 @@ pub(crate) fn store_payload(
         swap: 0,
         compare: 0,
         message,
-        psns: 1,
+        psns,
         ends,
         completion,
         responses: 0,

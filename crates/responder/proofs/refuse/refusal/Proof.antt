@@ -1,10 +1,8 @@
-use Rattle.responder_spec.specs.Decide.{inboundRefusal}
 use borrow.Author.Tests.{eq-eqb, le-leb, le-ltb, lt-leb, lt-ltb, ne-eqb}
+use Rattle.responder_spec.specs.Decide.{inboundRefusal}
 use borrow.Author.Needs.{needs}
 use Rattle.responder.proofs.refuse.refusal.Statement.{statement}
 use Rattle.responder.proofs.refuse.refusal.Tie as tie
-use Rattle.host_calls.proofs.sound.unsound.Reads as unsound-reads
-use Rattle.responder.proofs.refuse.reads_full.Reads as reads-full-reads
 
 returns : tie.Need-returns
 unfolding inboundRefusal

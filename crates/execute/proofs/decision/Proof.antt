@@ -1,0 +1,167 @@
+use Prim.Native.Nat.{_<_, _^_}
+use mathlib.Core.Path.{sym, ap, subst, _∙_}
+use mathlib.Core.Bool.{cond}
+use native.Mathlib.Omega.{arith}
+use Rattle.pair.specs.Answer.{statusNumber}
+use Rattle.responder_spec.specs.Decide.{closedBy, regionFor}
+use Rattle.execute.specs.Fits.{Executable}
+use Rattle.execute.specs.Either.{either}
+use Rattle.execute.proofs.Places.{executable, whole, timed}
+use Rattle.execute.proofs.Steps.{loses, passed, current-met, refuses, executes}
+use borrow.Author.Needs.{needs}
+use Rattle.execute.proofs.decision.Statement.{statement}
+use Rattle.execute.proofs.decision.Tie as tie
+use Rattle.execute.proofs.decision.Reads as reads
+use Rattle.execute.proofs.decision.Lts as lts
+use Rattle.execute.proofs.execute.Reads as execute-reads
+use Rattle.execute.proofs.key_region.Reads as key-region-reads
+use Rattle.execute.proofs.lost.Reads as lost-reads
+use Rattle.execute.proofs.open_kind.Reads as open-kind-reads
+use Rattle.execute.proofs.refused.Reads as refused-reads
+use Rattle.execute.proofs.unformed.Reads as unformed-reads
+use Rattle.pair.proofs.Status.is.Reads as is-reads
+use Rattle.reply.proofs.no_reply.Reads as no-reply-reads
+use Rattle.request_checks.proofs.current.Reads as current-reads
+use Rattle.request_checks.proofs.expected_status.Reads as expected-status-reads
+use Rattle.table.proofs.entry_at.Reads as entry-at-reads
+
+unformed-requires : tie.Need-unformed-requires
+unformed-requires c κs = search needs
+
+no-reply-requires : tie.Need-no-reply-requires
+no-reply-requires c κs = search needs
+
+returns : tie.Need-returns
+returns c = simp (← c .before .before .unformed .ensures, c .before .if1 .taken, ← c .no-reply .ensures)
+
+lost-requires : tie.Need-lost-requires
+lost-requires c κs = search needs
+
+is-requires : tie.Need-is-requires
+is-requires c κs = search needs
+
+current-requires : tie.Need-current-requires
+current-requires c κs = search needs
+
+entry-at-requires : tie.Need-entry-at-requires
+entry-at-requires c κs = search needs
+
+key-region-requires : tie.Need-key-region-requires
+key-region-requires c κs = search needs
+
+open-kind-requires : tie.Need-open-kind-requires
+open-kind-requires c κs = search needs
+
+expected-status-requires : tie.Need-expected-status-requires
+expected-status-requires c κs = search needs
+
+is-requires-2 : tie.Need-is-requires-2
+is-requires-2 c κs = search needs
+
+execute-requires : tie.Need-execute-requires
+unfolding statusNumber
+execute-requires c κs =
+    let c3 = c .before .before in
+    let c7 = c3 .before .before .before .before in
+    let c10 = c7 .before .before .before in
+    let c12 = c10 .before .before in
+    let S = c12 .before .before .before in
+    let A = S .args in
+    let s = A .pair .setup in
+    let opened = A .pair .message in
+    let entry = c3 .before .before .before .entry-at in
+    let region = c3 .before .before .key-region in
+    let kind = c3 .before .open-kind in
+    let found = sym (c7 .before .before .is .ensures) ∙ c7 .before .if2 .taken in
+    let P = passed (A .p) s (A .pair .expected) opened (A .pair .entries .count) (entry .result) (region .result) (A .uc) (c10 .lost .result) (c10 .lost .ensures) found (c7 .current .result) (c7 .current .ensures) (kind .result) (kind .ensures) (c3 .expected-status .result) (c3 .expected-status .ensures) (sym (c .before .is2 .ensures) ∙ c .if3 .taken) in
+    let memory : s .memory < 2 ^ 64 = omega (arith, S .good .1 .0) in
+    let stored : c7 .current .result .stored < 2 ^ 64 = omega (arith, c7 .current .ok) in
+    let length : c7 .current .result .length < 2 ^ 64 = omega (arith, c7 .current .ok) in
+    let same = c7 .current .ensures ∙ sym (current-met (A .p) s (A .pair .expected) opened (A .pair .entries .count) (entry .result) (region .result) (A .uc)) in
+    let full = whole (A .p) (s .timer) (c12 .before .unformed .result) (c12 .before .unformed .ensures) (c12 .if1 .left) in
+    subst (λ x. Executable (A .p) x (entry .result) (region .result)) (sym same)
+    (executable s (cond (A .uc) (closedBy (A .p .place) opened) opened) (A .p) (entry .result) (region .result) P memory (subst (λ x. x .stored < 2 ^ 64) same stored) (subst (λ x. x .length < 2 ^ 64) same length) full)
+
+returns-2 : tie.Need-returns-2
+unfolding statusNumber
+returns-2 c =
+    let c3 = c .before .before .before in
+    let c7 = c3 .before .before .before .before in
+    let c10 = c7 .before .before .before in
+    let c12 = c10 .before .before in
+    let S = c12 .before .before .before in
+    let A = S .args in
+    let s = A .pair .setup in
+    let opened = A .pair .message in
+    let entry = c3 .before .before .before .entry-at in
+    let region = c3 .before .before .key-region in
+    let kind = c3 .before .open-kind in
+    let found = sym (c7 .before .before .is .ensures) ∙ c7 .before .if2 .taken in
+    let passed = sym (c .before .before .is2 .ensures) ∙ c .before .if3 .taken in
+    simp (← c12 .before .unformed .ensures, c12 .if1 .left)
+    (c .execute .ensures
+    ∙ (executes (A .p) s (A .pair .expected) opened (A .pair .entries .count) (entry .result) (region .result) (A .uc) (c10 .lost .result) (c10 .lost .ensures) found (c7 .current .result) (c7 .current .ensures) (kind .result) (kind .ensures) (c3 .expected-status .result) (c3 .expected-status .ensures) passed
+    ∙ (λ i. either (A .uc) (A .p) s (A .pair .expected) opened (A .pair .entries .count) (entry .ensures i) ((region .ensures ∙ ap (λ x. regionFor (A .p .kind) (x .key) (A .regions .now)) (c7 .current .ensures)) i))))
+
+refused-requires : tie.Need-refused-requires
+refused-requires c κs =
+    let c11 = c .before .before .before .before .before .before .before .before .before .before .before in
+    let A = c11 .before .before .before .args in
+    timed (A .p) (A .pair .setup .timer) (c11 .before .unformed .result) (c11 .before .unformed .ensures) (c11 .if1 .left)
+
+returns-3 : tie.Need-returns-3
+unfolding statusNumber
+returns-3 c =
+    let c3 = c .before .before .before in
+    let c7 = c3 .before .before .before .before in
+    let c10 = c7 .before .before .before in
+    let c12 = c10 .before .before in
+    let S = c12 .before .before .before in
+    let A = S .args in
+    let s = A .pair .setup in
+    let opened = A .pair .message in
+    let entry = c3 .before .before .before .entry-at in
+    let region = c3 .before .before .key-region in
+    let kind = c3 .before .open-kind in
+    let found = sym (c7 .before .before .is .ensures) ∙ c7 .before .if2 .taken in
+    let passed = sym (c .before .before .is2 .ensures) ∙ c .before .if3 .left in
+    simp (← c12 .before .unformed .ensures, c12 .if1 .left)
+    (c .refused .ensures
+    ∙ (refuses (A .p) s (A .pair .expected) opened (A .pair .entries .count) (entry .result) (region .result) (A .uc) (c10 .lost .result) (c10 .lost .ensures) found (c7 .current .result) (c7 .current .ensures) (kind .result) (kind .ensures) (c3 .expected-status .result) (c3 .expected-status .ensures) passed
+    ∙ (λ i. either (A .uc) (A .p) s (A .pair .expected) opened (A .pair .entries .count) (entry .ensures i) ((region .ensures ∙ ap (λ x. regionFor (A .p .kind) (x .key) (A .regions .now)) (c7 .current .ensures)) i))))
+
+no-reply-requires-2 : tie.Need-no-reply-requires-2
+no-reply-requires-2 c κs = search needs
+
+returns-4 : tie.Need-returns-4
+unfolding statusNumber
+returns-4 c =
+    let c3 = c .before .before .before in
+    let c5 = c3 .before .before in
+    let A = c5 .before .before .before .args in
+    let found = sym (c .before .before .is .ensures) ∙ c .before .if2 .left in
+    simp (← c5 .before .unformed .ensures, c5 .if1 .left)
+    (c .no-reply2 .ensures
+    ∙ loses (A .p) (A .pair .setup) (A .pair .expected) (A .pair .message) (A .pair .entries .count) _ _ (A .uc) (c3 .lost .result) (c3 .lost .ensures) found)
+
+pub decision-spec : {M : Type 1} → statement M
+decision-spec =
+    tie.close
+    (tie.spec
+    unformed-requires
+    no-reply-requires
+    returns
+    lost-requires
+    is-requires
+    current-requires
+    entry-at-requires
+    key-region-requires
+    open-kind-requires
+    expected-status-requires
+    is-requires-2
+    execute-requires
+    returns-2
+    refused-requires
+    returns-3
+    no-reply-requires-2
+    returns-4)
