@@ -112,7 +112,7 @@ module _ (s : Setup) (f : SetupFit s) (t : Slot) (h : Sent s t) where
       omega (arith, l)
 
   pub is-packet : packetOf (headerFor t) (length (packetAt t)) ≡ cutPacket t
-  unfolding packetOf headerAt
+  unfolding packetOf headerAt headerLength
   is-packet =
       let m = cut-marked (t .message .connection) (t .message .request) (length (t .message .bytes)) (t .first) (t .index) fit (h .inside) in
       λ k.

@@ -70,9 +70,8 @@ module _ (s : Setup) (regions : List (List ℕ)) (f : SetupFit s) (t : Slot) (h 
       ≡ store m (targetOffset (kindNumber (t .message .request)) M entry region) (pieceAt (t .message .bytes) (t .message .connection .pmtu) (t .index))
   unfolding storePayload memoryBy
   placing-bytes m =
-      let n : headerLength (headerFor t) + payloadSize (cutPacket t) - headerLength (headerFor t) ≡ netFor t = omega (arith, net-is) in
       ap (store m (targetOffset (kindNumber (t .message .request)) M entry region))
-      (ap (λ k. take k (drop (headerLength (headerFor t)) (packetAt t))) n ∙ (carried-is s f t (h .outgoing) ∙ C .payload (t .message .connection) (t .message .bytes) (t .index)))
+      (ap (λ k. take k (drop (headerLength (headerFor t)) (packetAt t))) net-is ∙ (carried-is s f t (h .outgoing) ∙ C .payload (t .message .connection) (t .message .bytes) (t .index)))
 
   pub length-piece : length (pieceAt (t .message .bytes) (t .message .connection .pmtu) (t .index)) ≡ netFor t
   length-piece = sym (ap length (C .payload (t .message .connection) (t .message .bytes) (t .index)))
