@@ -124,8 +124,8 @@ current opened p =
     (record { kind = p .kind; stored = 0; address = p .operands .address; key = p .operands .key; length = p .operands .length })
     opened
 
--- The checks but the first: the number of the answer, 0 where none fails. By the set-up, the kind of the open message, the
--- message m that the packet is of, the packet, the count of entries, the entry's row and the region's
+-- The checks but the first: the number of the answer, that of executed where none fails. By the set-up, the kind of the
+-- open message, the message m that the packet is of, the packet, the count of entries, the entry's row and the region's
 abbrev pub requestCodeOf : Setup → ℕ → OpenMessage → Packet → ℕ → List ℕ → List ℕ → ℕ
 requestCodeOf s opened m p count entry region =
     cond (notEnabled s (p .kind)) Number.invalidRequestNak

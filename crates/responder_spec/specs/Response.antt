@@ -30,7 +30,7 @@ use Rattle.responder_spec.specs.Reply.{replyHeader, over}
 unfoldable pub indexOf : ReadAnswer → ℕ → ℕ
 indexOf a pmtu = pieces (a .length) pmtu - a .remaining
 
--- opcodes: First, Middle, Last and Only one after the other
+-- the opcodes of First, Middle, Last and Only follow each other, so an Only's is the third behind a First's
 unfoldable pub responseOpcode : ℕ → ℕ
 responseOpcode place = Kind.readResponse + cond (eqb place Place.only) 3 place
 
