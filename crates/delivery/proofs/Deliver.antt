@@ -31,7 +31,8 @@ use Rattle.cut_spec.proofs.Fits.{none-carried}
 use Rattle.cut_spec.proofs.Shapes.{cut-one}
 use Rattle.request_spec.specs.Verdict.{carrying, notEnabled, overLimit, keyFails, current}
 use Rattle.responder_spec.specs.Kept.{Steady}
-use Rattle.responder_spec.specs.Decide.{ackSyndrome, noReply, acknowledging, beginRead, psnBefore, aheadDecision, duplicateReadFails, duplicateRead, duplicateAtomic, isAtomic, duplicateDecision, headEntry, regionFor, expectedDecision, decisionByClass, rcDecision, packetDecision}
+use Rattle.responder_spec.specs.Syndrome as Syndrome
+use Rattle.responder_spec.specs.Decide.{noReply, acknowledging, beginRead, psnBefore, aheadDecision, duplicateReadFails, duplicateRead, duplicateAtomic, isAtomic, duplicateDecision, headEntry, regionFor, expectedDecision, decisionByClass, rcDecision, packetDecision}
 use Rattle.responder_spec.specs.Apply.{memoryBy, actsAtomic, savedBy, pairBy, readBy}
 use Rattle.responder_spec.specs.Apply as apply
 use Rattle.responder_spec.specs.declared.Decision.{Decision}
@@ -170,7 +171,7 @@ module _ (ms : List Message) (S : List Slot) (p : Plain) (x : Run) (L : Link ms 
 
     late-carried : (v : Saved) (b : List ℕ) → carrying (kindNumber (t .message .request)) ≡ true → isRead (t .message .request) ≡ false → Late v b
     unfolding duplicateDecision
-    late-carried v b c r = rw (c, r) (acked (psnBefore (x .whole .pair .expected)) ackSyndrome b)
+    late-carried v b c r = rw (c, r) (acked (psnBefore (x .whole .pair .expected)) Syndrome.ack b)
 
     late-atomic : (v : Saved) (b : List ℕ) → carrying (kindNumber (t .message .request)) ≡ false → eqb (kindNumber (t .message .request)) 12 ≡ false
         → isAtomic (kindNumber (t .message .request)) ≡ true → isRead (t .message .request) ≡ false → Late v b

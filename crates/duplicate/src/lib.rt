@@ -9,6 +9,7 @@ use sequence::Psn;
 use table::Saved;
 ghost use mathlib.Core.Path.{_≡_};
 ghost use mathlib.Core.Bool.{false, cond};
+ghost use Rattle.opcode.specs.Kind as Kind;
 ghost use Rattle.table.specs.View.{newestSaved};
 ghost use Rattle.request_spec.specs.Verdict.{current, fragment};
 ghost use Rattle.responder_spec.specs.Decide.{noReply, psnBefore, duplicateReadFails, duplicateRead, duplicateAtomic, isAtomic, duplicateDecision, regionFor};
@@ -96,7 +97,7 @@ fn is_atomic(kind: u8) -> bool
 // A READ, by the region of its key.
 fn read(p: Packet, pair: Pair, regions: &[[u64; 7]; 16]) -> Decision
     requires { ⌜ fragment p ≡ false ⌝ }
-    requires { ⌜ p .kind ≡ 12 ⌝ }
+    requires { ⌜ p .kind ≡ Kind.read ⌝ }
     ensures { λ r. ⌜ r ≡ duplicateRead p (pair .setup) (current (pair .message) p) (pair .expected) (regionFor (p .kind) (current (pair .message) p .key) (now (regions .entry))) ⌝ }
 {
     let opened = pair.message;

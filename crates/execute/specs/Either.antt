@@ -8,7 +8,7 @@ use Rattle.pair.specs.declared.Setup.{Setup}
 use Rattle.pair.specs.declared.OpenMessage.{OpenMessage}
 use Rattle.pair.specs.declared.Status.the-variants as status
 use Rattle.request_spec.specs.declared.Packet.{Packet}
-use Rattle.responder_spec.specs.Decide.{expectedDecision, ucDecision}
+use Rattle.responder_spec.specs.Decide.{ackLength, expectedDecision, ucDecision}
 use Rattle.responder_spec.specs.declared.Decision.{Decision}
 
 unfoldable pub either : Bool → Packet → Setup → Psn → OpenMessage → ℕ → List ℕ → List ℕ → Decision
@@ -32,7 +32,7 @@ answered asked psns d =
       completion = d .completion;
       responses = d .responses;
       length = d .length;
-      outgoing = cond asked 16 0;
+      outgoing = cond asked ackLength 0;
       psn = d .psn;
       syndrome = d .syndrome;
       value = d .value;

@@ -4,8 +4,9 @@ use mathlib.Core.Path.{_≡_}
 use mathlib.Core.Bool.{Bool, true, false, _||_}
 use mathlib.Core.List.{List}
 use lib.Dec.{ltb}
-use lib.ListN.{getD}
+use Rattle.opcode.specs.Kind as Kind
 use Rattle.table.specs.Table.{memoryOffset}
+use Rattle.table.specs.EntryRow as EntryRow
 use Rattle.pair.specs.declared.OpenMessage.{OpenMessage}
 use Rattle.request_spec.specs.Verdict.{carrying, fragment, bytesToCome, payloadSize}
 use Rattle.request_spec.specs.declared.Packet.{Packet}
@@ -16,9 +17,9 @@ OffsetFits region address needed = memoryOffset region address needed < 2 ^ 64
 
 -- where the next bytes of a message go
 pub record TargetFits (kind : ℕ) (m : OpenMessage) (entry region : List ℕ) : Type 0 where
-  pub send : kind ≡ 0 → getD entry 1 0 + m .stored < 2 ^ 64
-  pub address : (kind ≡ 0 → ⊥) → 0 < bytesToCome (m .length) (m .stored) → m .address + m .stored < 2 ^ 64
-  pub offset : (kind ≡ 0 → ⊥) → OffsetFits region (m .address + m .stored) (bytesToCome (m .length) (m .stored))
+  pub send : kind ≡ Kind.send → EntryRow.offset entry + m .stored < 2 ^ 64
+  pub address : (kind ≡ Kind.send → ⊥) → 0 < bytesToCome (m .length) (m .stored) → m .address + m .stored < 2 ^ 64
+  pub offset : (kind ≡ Kind.send → ⊥) → OffsetFits region (m .address + m .stored) (bytesToCome (m .length) (m .stored))
 
 -- a SEND or WRITE that passed the checks
 pub record Storable (p : Packet) (m : OpenMessage) (entry region : List ℕ) : Type 0 where

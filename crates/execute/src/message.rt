@@ -8,8 +8,9 @@ ghost use mathlib.Core.Path.{_≡_};
 ghost use mathlib.Core.Bool.{cond};
 ghost use Prim.Native.Nat.{_+_, _<_, _^_};
 ghost use lib.Dec.{eqb};
+ghost use Rattle.opcode.specs.Kind as Kind;
 ghost use Rattle.request_spec.specs.Verdict.{payloadSize};
-ghost use Rattle.responder_spec.specs.Decide.{completes, completionOf, messageAfter, targetOffset, storePayload};
+ghost use Rattle.responder_spec.specs.Decide.{ackLength, completes, completionOf, messageAfter, targetOffset, storePayload};
 ghost use Rattle.execute.specs.Fits.{TargetFits};
 ghost use Rattle.execute.specs.Either.{answered};
 
@@ -26,7 +27,7 @@ fn completes(kind: u8, place: u8, immediate: bool) -> bool
 // The bytes of a message that ends: a SEND's are counted, a WRITE names its DMA length.
 fn counted(kind: u8, stored: usize, size: usize, length: usize) -> usize
     requires { ⌜ stored + size < 2 ^ 64 ⌝ }
-    ensures { λ r. ⌜ r ≡ cond (eqb kind 0) (stored + size) length ⌝ }
+    ensures { λ r. ⌜ r ≡ cond (eqb kind Kind.send) (stored + size) length ⌝ }
 {
     if kind == opcode::SEND {
         return stored + size;
@@ -74,7 +75,7 @@ fn target_offset(kind: u8, m: OpenMessage, entry: [u64; 3], region: [u64; 7]) ->
 {
     let stored = number::usize_to_u64(m.stored);
     if kind == opcode::SEND {
-        return (entry[1] + stored) as usize;
+        return (entry[table::ENTRY_OFFSET] + stored) as usize;
     }
     let needed = number::saturating_sub(m.length, m.stored);
     if needed == 0 {
@@ -93,7 +94,7 @@ fn status_of(asked: bool) -> Status
 }
 
 fn ack_length(asked: bool) -> usize
-    ensures { λ r. ⌜ r ≡ cond asked 16 0 ⌝ }
+    ensures { λ r. ⌜ r ≡ cond asked ackLength 0 ⌝ }
 {
     if asked {
         return reply::ACK_LENGTH;
@@ -117,7 +118,7 @@ pub(crate) fn store_payload(
     let size = number::saturating_sub(p.padded, p.pad);
     let at = target_offset(p.kind, m, entry, region);
     let message = message_after(p.place, m, size);
-    let completion = completion_of(p, m, entry[0]);
+    let completion = completion_of(p, m, entry[table::ENTRY_NUMBER]);
     let ends = pmtu::ends(p.place);
     let status = status_of(asked);
     let outgoing = ack_length(asked);

@@ -6,11 +6,13 @@ use responder_spec::Decision;
 ghost use mathlib.Core.Path.{_≡_};
 ghost use mathlib.Core.Bool.{cond};
 ghost use lib.Dec.{eqb};
+ghost use Rattle.opcode.specs.Kind as Kind;
+ghost use Rattle.responder_spec.specs.Act as Act;
 ghost use Rattle.responder_spec.specs.Decide.{runAtomic, acceptRead};
 ghost use Rattle.execute.specs.Fits.{OffsetFits};
 
 fn atomic_act(kind: u8) -> u8
-    ensures { λ r. ⌜ r ≡ cond (eqb kind 20) 2 3 ⌝ }
+    ensures { λ r. ⌜ r ≡ cond (eqb kind Kind.fetchAdd) Act.fetchAdd Act.cmpSwap ⌝ }
 {
     if kind == opcode::FETCH_ADD {
         return responder_spec::FETCH_ADD;

@@ -9,12 +9,12 @@ fn right_of(kind: u8, region: [u64; 7]) -> u64
     ensures { λ r. ⌜ r ≡ rightOf kind region ⌝ }
 {
     if kind == opcode::WRITE {
-        return region[4];
+        return region[table::REGION_WRITE];
     }
     if kind == opcode::READ {
-        return region[5];
+        return region[table::REGION_READ];
     }
-    region[6]
+    region[table::REGION_ATOMIC]
 }
 
 // Whether n bytes at an address go past the end of a region; no sum is made, so that none wraps.
@@ -35,18 +35,27 @@ fn lacks(region: [u64; 7], right: u64, memory: usize, address: u64, n: u64) -> b
     if right == 0 {
         return true;
     }
-    let off = table::outside(region[3], region[2], number::usize_to_u64(memory));
+    let off = table::outside(
+        region[table::REGION_OFFSET],
+        region[table::REGION_LENGTH],
+        number::usize_to_u64(memory),
+    );
     if off {
         return true;
     }
-    let top = table::past_top(region[1], region[2]);
+    let top = table::past_top(region[table::REGION_ADDRESS], region[table::REGION_LENGTH]);
     if top {
         return true;
     }
-    if address < region[1] {
+    if address < region[table::REGION_ADDRESS] {
         return true;
     }
-    past_end(region[1], region[2], address, n)
+    past_end(
+        region[table::REGION_ADDRESS],
+        region[table::REGION_LENGTH],
+        address,
+        n,
+    )
 }
 
 // A SEND has no key, and no bytes need none. Bytes from an address past the top lie in no region.

@@ -6,10 +6,11 @@ ghost use mathlib.Core.Path.{_≡_};
 ghost use mathlib.Core.Bool.{not, _&&_};
 ghost use Prim.Native.Nat.{_+_};
 ghost use lib.Dec.{eqb, ltb};
+ghost use Rattle.opcode.specs.Place as Place;
 ghost use Rattle.request_spec.specs.Verdict.{sizeOff, totalOff, bareOff, lengthsOff};
 
 fn empty_last(place: u8, size: usize) -> bool
-    ensures { λ r. ⌜ r ≡ (eqb place 2 && eqb size 0) ⌝ }
+    ensures { λ r. ⌜ r ≡ (eqb place Place.last && eqb size 0) ⌝ }
 {
     if place == opcode::LAST {
         return size == 0;

@@ -130,7 +130,7 @@ pub fn request_status(
     if lacking {
         return Status::AccessNak;
     }
-    let bad = lengths::lengths_off(p, s.pmtu, m, entry[2]);
+    let bad = lengths::lengths_off(p, s.pmtu, m, entry[table::ENTRY_LENGTH]);
     if bad {
         return Status::InvalidRequestNak;
     }

@@ -66,7 +66,11 @@ pub(crate) fn entry_outside(kind: u8, immediate: bool, entry: [u64; 3], memory: 
 {
     let uses = uses_entry(kind, immediate);
     if uses {
-        return table::outside(entry[1], entry[2], number::usize_to_u64(memory));
+        return table::outside(
+            entry[table::ENTRY_OFFSET],
+            entry[table::ENTRY_LENGTH],
+            number::usize_to_u64(memory),
+        );
     }
     false
 }

@@ -3,19 +3,22 @@ use Prim.Native.Nat.{ℕ, _+_, _-_, _%_}
 use mathlib.Core.Bool.{Bool, false, true, cond, not, _&&_, _||_}
 use mathlib.Core.List.{List}
 use lib.Dec.{eqb, ltb}
-use lib.ListN.{getD}
 use Rattle.opcode.specs.Kind as Kind
+use Rattle.opcode.specs.Place as Place
 use Rattle.pmtu.specs.Pieces.{starts, ends}
 use Rattle.table.specs.Table.{outside, pastTop}
+use Rattle.table.specs.RegionRow as RegionRow
+use Rattle.table.specs.EntryRow as EntryRow
 use Rattle.pair.specs.Number as Number
+use Rattle.pair.specs.Pair.{closed}
 use Rattle.pair.specs.Sound.{memoryLimit}
 use Rattle.pair.specs.declared.Setup.{Setup}
 use Rattle.pair.specs.declared.OpenMessage.{OpenMessage}
 use Rattle.request_spec.specs.declared.Packet.{Packet}
 
--- kinds: 0 SEND, 6 WRITE, 12 READ, 19 CmpSwap, 20 FetchAdd, 21 reserved; those below 12 carry bytes
+-- SEND and WRITE, whose numbers are the lowest, carry bytes
 unfoldable pub carrying : ℕ → Bool
-carrying kind = ltb kind 12
+carrying kind = ltb kind Kind.read
 
 -- READs and atomics are messages of one packet
 unfoldable pub single : ℕ → Bool
@@ -25,18 +28,18 @@ single kind = eqb kind Kind.read || (eqb kind Kind.cmpSwap || eqb kind Kind.fetc
 unfoldable pub fragment : Packet → Bool
 fragment p = single (p .kind) && not (starts (p .place))
 
--- Sequence: what begins a message comes while none is open, which is 255; a Middle or Last goes on with one of its kind
+-- Sequence: what begins a message comes while none is open; a Middle or Last goes on with one of its kind
 unfoldable pub outOfSequence : ℕ → ℕ → ℕ → Bool
-outOfSequence opened kind place = cond (starts place) (not (eqb opened 255)) (not (eqb opened kind))
+outOfSequence opened kind place = cond (starts place) (not (eqb opened closed)) (not (eqb opened kind))
 
 -- Function: one of the four, and switched on; a reserved opcode has none
 unfoldable pub notEnabled : Setup → ℕ → Bool
 notEnabled s kind =
-    cond (eqb kind 0) (not (s .send))
-    (cond (eqb kind 6) (not (s .write))
-    (cond (eqb kind 12) (not (s .read))
-    (cond (eqb kind 19) (not (s .atomic))
-    (cond (eqb kind 20) (not (s .atomic)) true))))
+    cond (eqb kind Kind.send) (not (s .send))
+    (cond (eqb kind Kind.write) (not (s .write))
+    (cond (eqb kind Kind.read) (not (s .read))
+    (cond (eqb kind Kind.cmpSwap) (not (s .atomic))
+    (cond (eqb kind Kind.fetchAdd) (not (s .atomic)) true))))
 
 -- Pad: only where a message ends
 unfoldable pub padEarly : ℕ → ℕ → Bool
@@ -48,34 +51,37 @@ overLimit length = ltb memoryLimit length
 
 -- Entry: wanted where a SEND begins, and by a WRITE's immediate
 unfoldable pub needsEntry : ℕ → ℕ → Bool → Bool
-needsEntry kind place immediate = cond (eqb kind 0) (starts place) immediate
+needsEntry kind place immediate = cond (eqb kind Kind.send) (starts place) immediate
 
 -- of the entries, those that wait: an open SEND holds one
 unfoldable pub entriesWaiting : ℕ → ℕ → ℕ
-entriesWaiting opened count = cond (eqb opened 0) (count - 1) count
+entriesWaiting opened count = cond (eqb opened Kind.send) (count - 1) count
 
 unfoldable pub noneWaiting : ℕ → ℕ → Bool → ℕ → ℕ → Bool
 noneWaiting kind place immediate opened count = needsEntry kind place immediate && eqb (entriesWaiting opened count) 0
 
--- The entry that a packet uses does not lie in memory: a row that no call made. A row is number, offset, length
+-- The entry that a packet uses does not lie in memory: a row that no call made
 unfoldable pub usesEntry : ℕ → Bool → Bool
-usesEntry kind immediate = eqb kind 0 || immediate
+usesEntry kind immediate = eqb kind Kind.send || immediate
 
 unfoldable pub entryOutside : ℕ → Bool → List ℕ → ℕ → Bool
-entryOutside kind immediate entry memory = usesEntry kind immediate && outside (getD entry 1 0) (getD entry 2 0) memory
+entryOutside kind immediate entry memory =
+    usesEntry kind immediate && outside (EntryRow.offset entry) (EntryRow.length entry) memory
 
--- R_Key. A region's row is key, address, length, offset and the rights to write, read and atomics
+-- R_Key: each kind has its right
 unfoldable pub rightOf : ℕ → List ℕ → ℕ
-rightOf kind region = cond (eqb kind 6) (getD region 4 0) (cond (eqb kind 12) (getD region 5 0) (getD region 6 0))
+rightOf kind region =
+    cond (eqb kind Kind.write) (RegionRow.write region)
+    (cond (eqb kind Kind.read) (RegionRow.read region) (RegionRow.atomic region))
 
 -- the region does not hold n bytes at an address: no right, or it is no region that the host could add, in memory and
 -- below 2^64, or they do not lie in it
 unfoldable pub lacks : List ℕ → ℕ → ℕ → ℕ → ℕ → Bool
 lacks region right memory address n =
     eqb right 0
-    || (outside (getD region 3 0) (getD region 2 0) memory
-    || (pastTop (getD region 1 0) (getD region 2 0)
-    || (ltb address (getD region 1 0) || ltb (getD region 1 0 + getD region 2 0) (address + n))))
+    || (outside (RegionRow.offset region) (RegionRow.length region) memory
+    || (pastTop (RegionRow.address region) (RegionRow.length region)
+    || (ltb address (RegionRow.address region) || ltb (RegionRow.address region + RegionRow.length region) (address + n))))
 
 -- what the key must hold: the bytes still to come
 unfoldable pub bytesToCome : ℕ → ℕ → ℕ
@@ -84,7 +90,7 @@ bytesToCome length stored = length - stored
 -- a SEND has no key, and no bytes need none
 unfoldable pub keyLacking : ℕ → List ℕ → ℕ → ℕ → ℕ → Bool
 keyLacking kind region memory address needed =
-    cond (eqb kind 0) false (cond (eqb needed 0) false (lacks region (rightOf kind region) memory address needed))
+    cond (eqb kind Kind.send) false (cond (eqb needed 0) false (lacks region (rightOf kind region) memory address needed))
 
 unfoldable pub keyFails : ℕ → ℕ → OpenMessage → List ℕ → Bool
 keyFails memory kind m region =
@@ -92,17 +98,17 @@ keyFails memory kind m region =
 
 -- Lengths. Before the end of a message the PMTU is filled; at its end there is no more than that, and in a Last something
 unfoldable pub sizeOff : ℕ → ℕ → ℕ → Bool
-sizeOff place pmtu size = cond (ends place) ((eqb place 2 && eqb size 0) || ltb pmtu size) (not (eqb size pmtu))
+sizeOff place pmtu size = cond (ends place) ((eqb place Place.last && eqb size 0) || ltb pmtu size) (not (eqb size pmtu))
 
 -- a SEND stays within its entry; a WRITE reaches its DMA length with its last packet, and not before
 unfoldable pub totalOff : ℕ → ℕ → ℕ → ℕ → ℕ → ℕ → Bool
 totalOff kind place stored size length most =
-    cond (eqb kind 0) (ltb most (stored + size))
+    cond (eqb kind Kind.send) (ltb most (stored + size))
     (cond (ends place) (not (eqb (stored + size) length)) (not (ltb (stored + size) length)))
 
 -- all other kinds are bare, and atomics aligned to 8 bytes
 unfoldable pub bareOff : ℕ → ℕ → ℕ → Bool
-bareOff kind padded address = not (eqb padded 0) || (not (eqb kind 12) && not (eqb (address % 8) 0))
+bareOff kind padded address = not (eqb padded 0) || (not (eqb kind Kind.read) && not (eqb (address % 8) 0))
 
 -- the bytes carried: those there are but the pad
 unfoldable pub payloadSize : Packet → ℕ
@@ -122,8 +128,8 @@ current opened p =
     (record { kind = p .kind; stored = 0; address = p .operands .address; key = p .operands .key; length = p .operands .length })
     opened
 
--- The checks but the first: the number of the answer, 0 where none fails. By the set-up, the kind of the open message, the
--- message m that the packet is of, the packet, the count of entries, the entry's row and the region's
+-- The checks but the first: the number of the answer, that of executed where none fails. By the set-up, the kind of the
+-- open message, the message m that the packet is of, the packet, the count of entries, the entry's row and the region's
 abbrev pub requestCodeOf : Setup → ℕ → OpenMessage → Packet → ℕ → List ℕ → List ℕ → ℕ
 requestCodeOf s opened m p count entry region =
     cond (notEnabled s (p .kind)) Number.invalidRequestNak
@@ -132,7 +138,7 @@ requestCodeOf s opened m p count entry region =
     (cond (noneWaiting (p .kind) (p .place) (p .operands .immediate) opened count) Number.notReadyNak
     (cond (entryOutside (p .kind) (p .operands .immediate) entry (s .memory)) Number.outOfRange
     (cond (keyFails (s .memory) (p .kind) m region) Number.accessNak
-    (cond (lengthsOff p (s .pmtu) m (getD entry 2 0)) Number.invalidRequestNak Number.executed))))))
+    (cond (lengthsOff p (s .pmtu) m (EntryRow.length entry)) Number.invalidRequestNak Number.executed))))))
 
 -- All of them, on RC
 abbrev pub expectedCodeOf : Setup → ℕ → OpenMessage → Packet → ℕ → List ℕ → List ℕ → ℕ

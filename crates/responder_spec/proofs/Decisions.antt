@@ -29,7 +29,8 @@ use Rattle.pair.specs.declared.Status.the-variants as status
 use Rattle.request_spec.specs.Packet.{packetOf}
 use Rattle.request_spec.specs.declared.Packet.{Packet}
 use Rattle.request_spec.specs.Verdict.{carrying, notEnabled, overLimit, keyFails, current, requestCode, expectedCode}
-use Rattle.responder_spec.specs.Decide.{aheadDecision, failed, checkedDecision, expectedDecision, psnBefore, duplicateReadFails, duplicateRead, duplicateAtomic, isAtomic, duplicateDecision, regionFor, headEntry, ackSyndrome, decisionByClass, rcDecision, orphaned, strays, closedBy, abandoning, unanswered, storePayload, ucExecute, ucCheckedDecision, ucDecision, packetDecision, orDrop, readsFull, inboundRefusal, decided}
+use Rattle.responder_spec.specs.Syndrome as Syndrome
+use Rattle.responder_spec.specs.Decide.{aheadDecision, failed, checkedDecision, expectedDecision, psnBefore, duplicateReadFails, duplicateRead, duplicateAtomic, isAtomic, duplicateDecision, regionFor, headEntry, decisionByClass, rcDecision, orphaned, strays, closedBy, abandoning, unanswered, storePayload, ucExecute, ucCheckedDecision, ucDecision, packetDecision, orDrop, readsFull, inboundRefusal, decided}
 use Rattle.responder_spec.specs.Kept.{Steady}
 use Rattle.responder_spec.proofs.Checked.{Checked, checked, begins}
 use Rattle.responder_spec.proofs.Leads.{beside, Leads, branch, Does, does-leads, still-leads, quiet-leads, ack-leads, again-leads}
@@ -119,7 +120,7 @@ module _ (w : Whole) (W : Steady w) where
 
   atomic-leads : (s : Saved) (psn : Psn) → Leads w (duplicateAtomic s psn)
   unfolding statusNumber
-  atomic-leads (Value v) psn = still-leads w W status.DuplicateAnswered 24 psn ackSyndrome v refl
+  atomic-leads (Value v) psn = still-leads w W status.DuplicateAnswered 24 psn Syndrome.ack v refl
   atomic-leads Nothing psn = quiet-leads w W status.Dropped refl
 
   module _ (p : Packet) (n : p .psn .0 < 2 ^ 24) (s : p .kind ≡ 12 → starts (p .place) ≡ true) where
@@ -154,7 +155,7 @@ module _ (w : Whole) (W : Steady w) where
     duplicate-leads : (v : Saved) → Leads w (duplicateDecision p (w .pair .setup) (w .pair .expected) message region v)
     unfolding duplicateDecision statusNumber
     duplicate-leads v =
-        branch w (carrying (p .kind)) _ _ (λ e. ack-leads w W status.DuplicateAnswered (psnBefore (w .pair .expected)) ackSyndrome refl)
+        branch w (carrying (p .kind)) _ _ (λ e. ack-leads w W status.DuplicateAnswered (psnBefore (w .pair .expected)) Syndrome.ack refl)
         (λ e. branch w (eqb (p .kind) 12) _ _ (λ f. again (eqb-true (p .kind) 12 f))
         (λ f. branch w (isAtomic (p .kind)) _ _ (λ g. atomic-leads v (p .psn)) (λ g. quiet-leads w W status.Dropped refl)))
 

@@ -12,20 +12,23 @@ use Rattle.table.specs.Table.{slotAt}
 use Rattle.table.specs.View.{savedRing, savedRows}
 use Rattle.table.specs.declared.Ring.{Ring}
 use Rattle.pair.specs.Answer.{statusNumber}
+use Rattle.pair.specs.Number as Number
+use Rattle.pair.specs.State as State
 use Rattle.pair.specs.Pair.{noMessage}
 use Rattle.pair.specs.declared.ReadAnswer.{ReadAnswer}
 use Rattle.pair.specs.declared.Pair.{Pair}
 use Rattle.responder_spec.specs.declared.Decision.{Decision}
+use Rattle.responder_spec.specs.Act as Act
 
--- The acts: 1 the packet's bytes are placed, 2 FetchAdd, 3 CmpSwap
+-- memory after the packet p, by the act
 unfoldable pub memoryBy : Decision → List ℕ → List ℕ → List ℕ
 memoryBy d m p =
-    cond (eqb (d .act) 1) (store m (d .at) (take (d .size) (drop (d .start) p)))
-    (cond (eqb (d .act) 2) (fetchAdded m (d .at) (d .swap))
-    (cond (eqb (d .act) 3) (swapped m (d .at) (d .compare) (d .swap)) m))
+    cond (eqb (d .act) Act.store) (store m (d .at) (take (d .size) (drop (d .start) p)))
+    (cond (eqb (d .act) Act.fetchAdd) (fetchAdded m (d .at) (d .swap))
+    (cond (eqb (d .act) Act.cmpSwap) (swapped m (d .at) (d .compare) (d .swap)) m))
 
 unfoldable pub actsAtomic : ℕ → Bool
-actsAtomic act = eqb act 2 || eqb act 3
+actsAtomic act = eqb act Act.fetchAdd || eqb act Act.cmpSwap
 
 -- an atomic's old value is saved with its PSN
 unfoldable pub savedBy : Ring → Decision → List (List ℕ) → List ℕ → List (List ℕ)
@@ -96,15 +99,16 @@ closing q =
       saved = q .saved;
     }
 
--- What each answer leaves: 0 to 3 as executed; 4 may begin a READ's answer; 6 closes the message; 16 and 19 set the mark;
--- 17 and 18 are the Error state; all others nothing
+-- What each answer leaves: the first four as executed; a duplicate may begin a READ's answer; two NAKs set the mark, two
+-- are the Error state; abandoning closes the message; all others leave nothing
 unfoldable pub after : Pair → Decision → ℕ → Pair
 after q d number =
-    cond (leb number 3) (executedPair q d)
-    (cond (eqb number 4) (with q (q .state) (q .nakmark) (readBy d (q .read) (q .msn)))
-    (cond (eqb number 16 || eqb number 19) (with q (q .state) true (q .read))
-    (cond (eqb number 17 || eqb number 18) (with q 2 (q .nakmark) (q .read))
-    (cond (eqb number 6) (closing q) q))))
+    cond (leb number Number.atomicExecuted) (executedPair q d)
+    (cond (eqb number Number.duplicateAnswered) (with q (q .state) (q .nakmark) (readBy d (q .read) (q .msn)))
+    (cond (eqb number Number.sequenceNak || eqb number Number.notReadyNak) (with q (q .state) true (q .read))
+    (cond (eqb number Number.invalidRequestNak || eqb number Number.accessNak)
+    (with q State.error (q .nakmark) (q .read))
+    (cond (eqb number Number.abandoned) (closing q) q))))
 
 unfoldable pub pairBy : Pair → Decision → Pair
 pairBy q d = after q d (statusNumber (d .status))

@@ -1,13 +1,16 @@
 -- What a packet leads to: one decision, by the rules of the reliable connection and by those of the unreliable one.
-use Prim.Native.Nat.{ℕ, _+_}
+use Prim.Native.Nat.{ℕ, _+_, _-_}
 use mathlib.Core.Bool.{Bool, true, false, cond, not, _&&_, _||_}
 use mathlib.Core.List.{List, []}
 use lib.Dec.{eqb, ltb}
 use lib.ListN.{length, getD}
-use Rattle.sequence.specs.Sequence.{distance, psnAfter, psnClass}
+use Rattle.sequence.specs.Sequence.{space, distance, psnAfter, psnClass}
 use Rattle.sequence.specs.declared.Psn.{Psn}
 use Rattle.sequence.specs.declared.Class.{Class}
 use Rattle.sequence.specs.declared.Class.the-variants as class
+use Rattle.opcode.specs.Kind as Kind
+use Rattle.opcode.specs.Service as Service
+use Rattle.opcode.specs.Length as Length
 use Rattle.header.specs.Check.{admitted}
 use Rattle.header.specs.declared.Header.{Header}
 use Rattle.header.specs.declared.HeaderRead.{HeaderRead}
@@ -15,10 +18,13 @@ use Rattle.header.specs.declared.HeaderRead.the-variants as read
 use Rattle.pmtu.specs.Pieces.{pieces, starts, ends}
 use Rattle.table.specs.Table.{slotAt, noRegion, memoryOffset}
 use Rattle.table.specs.View.{regionOf, newestSaved}
+use Rattle.table.specs.EntryRow as EntryRow
 use Rattle.table.specs.declared.Saved.{Saved}
 use Rattle.table.specs.declared.Saved.the-variants.{Value, Nothing}
 use Rattle.pair.specs.Answer.{executed}
-use Rattle.pair.specs.Pair.{noMessage}
+use Rattle.pair.specs.Number as Number
+use Rattle.pair.specs.State as State
+use Rattle.pair.specs.Pair.{closed, noMessage}
 use Rattle.pair.specs.Sound.{pairUnsound}
 use Rattle.pair.specs.declared.Setup.{Setup}
 use Rattle.pair.specs.declared.OpenMessage.{OpenMessage}
@@ -30,6 +36,8 @@ use Rattle.request_spec.specs.Verdict.{carrying, notEnabled, overLimit, keyFail
 use Rattle.request_spec.specs.declared.Packet.{Packet}
 use Rattle.responder_spec.specs.declared.Completion.{Completion}
 use Rattle.responder_spec.specs.declared.Decision.{Decision}
+use Rattle.responder_spec.specs.Act as Act
+use Rattle.responder_spec.specs.Syndrome as Syndrome
 
 abbrev pub noCompletion : Completion
 noCompletion = record { some = false; number = 0; length = 0; immediate = false; value = 0 }
@@ -42,7 +50,7 @@ abbrev pub replyOnly : Status → ℕ → Psn → ℕ → ℕ → Decision
 replyOnly answer outgoing psn syndrome value =
     record {
       status = answer;
-      act = 0;
+      act = Act.nothing;
       at = 0;
       start = 0;
       size = 0;
@@ -64,28 +72,33 @@ replyOnly answer outgoing psn syndrome value =
 unfoldable pub noReply : Status → Decision
 noReply answer = replyOnly answer 0 noPsn 0 0
 
--- a packet of 16 bytes is sent: an ACK or a NAK
-unfoldable pub acknowledging : Status → Psn → ℕ → Decision
-acknowledging answer psn syndrome = replyOnly answer 16 psn syndrome 0
+-- the lengths of an Acknowledge and of an Atomic Acknowledge
+abbrev pub ackLength : ℕ
+ackLength = Length.bth + Length.aeth
 
--- syndromes: an ACK's; a sequence NAK's 0x60, invalid request 0x61, access 0x62, not ready 0x20 and the timer code
-abbrev pub ackSyndrome : ℕ
-ackSyndrome = 31
+abbrev pub atomicAckLength : ℕ
+atomicAckLength = ackLength + Length.atomicAckEth
+
+-- an ACK or a NAK is sent
+unfoldable pub acknowledging : Status → Psn → ℕ → Decision
+acknowledging answer psn syndrome = replyOnly answer ackLength psn syndrome 0
 
 -- Ahead: the first time a sequence NAK with the expected PSN, while the mark stands nothing
 unfoldable pub aheadDecision : Bool → Psn → Decision
-aheadDecision nakmark expected = cond nakmark (noReply status.Dropped) (acknowledging status.SequenceNak expected 96)
+aheadDecision nakmark expected =
+    cond nakmark (noReply status.Dropped) (acknowledging status.SequenceNak expected Syndrome.sequence)
 
--- Expected, but refused by the request checks; 34 for an entry that no call made
+-- Expected, but refused by the request checks; out of range for an entry that no call made
 unfoldable pub failed : ℕ → Psn → ℕ → Decision
 failed code psn timer =
-    cond (eqb code 17) (acknowledging status.InvalidRequestNak psn 97)
-    (cond (eqb code 18) (acknowledging status.AccessNak psn 98)
-    (cond (eqb code 19) (acknowledging status.NotReadyNak psn (32 + timer)) (noReply status.OutOfRange)))
+    cond (eqb code Number.invalidRequestNak) (acknowledging status.InvalidRequestNak psn Syndrome.invalidRequest)
+    (cond (eqb code Number.accessNak) (acknowledging status.AccessNak psn Syndrome.access)
+    (cond (eqb code Number.notReadyNak) (acknowledging status.NotReadyNak psn (Syndrome.notReady + timer))
+    (noReply status.OutOfRange)))
 
 -- A completion comes with the packet that ends a SEND, or a WRITE that has an immediate; a WRITE counts its DMA length
 unfoldable pub completes : ℕ → ℕ → Bool → Bool
-completes kind place immediate = ends place && (eqb kind 0 || immediate)
+completes kind place immediate = ends place && (eqb kind Kind.send || immediate)
 
 unfoldable pub completionOf : Packet → OpenMessage → ℕ → Completion
 completionOf p m number =
@@ -93,7 +106,7 @@ completionOf p m number =
     (record {
       some = true;
       number = number;
-      length = cond (eqb (p .kind) 0) (m .stored + payloadSize p) (m .length);
+      length = cond (eqb (p .kind) Kind.send) (m .stored + payloadSize p) (m .length);
       immediate = p .operands .immediate;
       value = p .operands .value;
     })
@@ -108,14 +121,15 @@ messageAfter place m size =
 -- where the next bytes of a message go: behind those placed, in the entry or in the region
 unfoldable pub targetOffset : ℕ → OpenMessage → List ℕ → List ℕ → ℕ
 targetOffset kind m entry region =
-    cond (eqb kind 0) (getD entry 1 0 + m .stored) (memoryOffset region (m .address + m .stored) (bytesToCome (m .length) (m .stored)))
+    cond (eqb kind Kind.send) (EntryRow.offset entry + m .stored)
+    (memoryOffset region (m .address + m .stored) (bytesToCome (m .length) (m .stored)))
 
--- SEND and WRITE, of the message m: 1 if AckReq, else 0
+-- SEND and WRITE, of the message m: acknowledged if AckReq
 unfoldable pub storePayload : Packet → OpenMessage → List ℕ → List ℕ → Decision
 storePayload p m entry region =
     record {
       status = cond (p .ackreq) status.Acknowledged status.Executed;
-      act = 1;
+      act = Act.store;
       at = targetOffset (p .kind) m entry region;
       start = p .start;
       size = payloadSize p;
@@ -124,12 +138,12 @@ storePayload p m entry region =
       message = messageAfter (p .place) m (payloadSize p);
       psns = 1;
       ends = ends (p .place);
-      completion = completionOf p m (getD entry 0 0);
+      completion = completionOf p m (EntryRow.number entry);
       responses = 0;
       length = 0;
-      outgoing = cond (p .ackreq) 16 0;
+      outgoing = cond (p .ackreq) ackLength 0;
       psn = p .psn;
-      syndrome = ackSyndrome;
+      syndrome = Syndrome.ack;
       value = 0;
     }
 
@@ -138,7 +152,7 @@ unfoldable pub runAtomic : Packet → OpenMessage → OpenMessage → List ℕ �
 runAtomic p m opened region =
     record {
       status = status.AtomicExecuted;
-      act = cond (eqb (p .kind) 20) 2 3;
+      act = cond (eqb (p .kind) Kind.fetchAdd) Act.fetchAdd Act.cmpSwap;
       at = memoryOffset region (m .address) (m .length);
       start = 0;
       size = 0;
@@ -150,9 +164,9 @@ runAtomic p m opened region =
       completion = noCompletion;
       responses = 0;
       length = 0;
-      outgoing = 24;
+      outgoing = atomicAckLength;
       psn = p .psn;
-      syndrome = ackSyndrome;
+      syndrome = Syndrome.ack;
       value = 0;
     }
 
@@ -161,7 +175,7 @@ abbrev pub beginRead : Status → OpenMessage → ℕ → ℕ → ℕ → Bool �
 beginRead answer opened at length psns ends responses psn =
     record {
       status = answer;
-      act = 0;
+      act = Act.nothing;
       at = at;
       start = 0;
       size = 0;
@@ -187,11 +201,12 @@ acceptRead p m opened region pmtu =
 unfoldable pub execute : Packet → OpenMessage → OpenMessage → List ℕ → List ℕ → ℕ → Decision
 execute p m opened entry region pmtu =
     cond (carrying (p .kind)) (storePayload p m entry region)
-    (cond (eqb (p .kind) 12) (acceptRead p m opened region pmtu) (runAtomic p m opened region))
+    (cond (eqb (p .kind) Kind.read) (acceptRead p m opened region pmtu) (runAtomic p m opened region))
 
 unfoldable pub checkedDecision : ℕ → Packet → Setup → OpenMessage → List ℕ → List ℕ → Decision
 checkedDecision code p s opened entry region =
-    cond (eqb code 0) (execute p (current opened p) opened entry region (s .pmtu)) (failed code (p .psn) (s .timer))
+    cond (eqb code Number.executed) (execute p (current opened p) opened entry region (s .pmtu))
+    (failed code (p .psn) (s .timer))
 
 -- Expected, by the row of its entry and the region of its key
 unfoldable pub expectedDecision : Packet → Setup → OpenMessage → ℕ → List ℕ → List ℕ → Decision
@@ -200,17 +215,18 @@ expectedDecision p s opened count entry region =
 
 -- A repeated SEND or WRITE is acknowledged up to the PSN before the expected one
 unfoldable pub psnBefore : Psn → Psn
-psnBefore psn = psnAfter psn 16777215
+psnBefore psn = psnAfter psn (space - 1)
 
 -- A repeated READ is not answered if reading is off, if it names too many bytes or carries any, if its key does not hold
 -- them, or if a response would have the expected PSN or a later one
 unfoldable pub duplicateReadFails : Packet → Setup → OpenMessage → Psn → List ℕ → Bool
 duplicateReadFails p s m expected region =
-    notEnabled s 12
+    notEnabled s Kind.read
     || (overLimit (m .length)
     || (not (eqb (p .padded) 0)
     || (not (eqb (p .pad) 0)
-    || (keyFails (s .memory) 12 m region || ltb (distance (expected .0) (p .psn .0)) (pieces (m .length) (s .pmtu))))))
+    || (keyFails (s .memory) Kind.read m region
+    || ltb (distance (expected .0) (p .psn .0)) (pieces (m .length) (s .pmtu))))))
 
 unfoldable pub duplicateRead : Packet → Setup → OpenMessage → Psn → List ℕ → Decision
 duplicateRead p s m expected region =
@@ -219,22 +235,22 @@ duplicateRead p s m expected region =
 
 -- A repeated atomic is answered from what was saved, or not at all
 abbrev pub duplicateAtomic : Saved → Psn → Decision
-duplicateAtomic (Value v) psn = replyOnly status.DuplicateAnswered 24 psn ackSyndrome v
+duplicateAtomic (Value v) psn = replyOnly status.DuplicateAnswered atomicAckLength psn Syndrome.ack v
 duplicateAtomic Nothing psn = noReply status.Dropped
 
 -- an atomic's kind
 unfoldable pub isAtomic : ℕ → Bool
-isAtomic kind = eqb kind 19 || eqb kind 20
+isAtomic kind = eqb kind Kind.cmpSwap || eqb kind Kind.fetchAdd
 
 unfoldable pub duplicateDecision : Packet → Setup → Psn → OpenMessage → List ℕ → Saved → Decision
 duplicateDecision p s expected m region saved =
-    cond (carrying (p .kind)) (acknowledging status.DuplicateAnswered (psnBefore expected) ackSyndrome)
-    (cond (eqb (p .kind) 12) (duplicateRead p s m expected region)
+    cond (carrying (p .kind)) (acknowledging status.DuplicateAnswered (psnBefore expected) Syndrome.ack)
+    (cond (eqb (p .kind) Kind.read) (duplicateRead p s m expected region)
     (cond (isAtomic (p .kind)) (duplicateAtomic saved (p .psn)) (noReply status.Dropped)))
 
 -- the row of the key's region; a SEND has no key
 unfoldable pub regionFor : ℕ → ℕ → List (List ℕ) → List ℕ
-regionFor kind key regions = cond (eqb kind 0) noRegion (regionOf key regions)
+regionFor kind key regions = cond (eqb kind Kind.send) noRegion (regionOf key regions)
 
 -- the entry at the head of the ring: the one that an open SEND holds, else the first that waits
 abbrev pub headEntry : Pair → List (List ℕ) → List ℕ
@@ -257,7 +273,7 @@ rcDecision q regions entries saved p =
 
 -- a Middle or Last while no message is open
 unfoldable pub orphaned : ℕ → ℕ → Bool
-orphaned place opened = not (starts place) && eqb opened 255
+orphaned place opened = not (starts place) && eqb opened closed
 
 -- a Middle or Last that does not go on with the open message, by its PSN or by its kind
 unfoldable pub strays : Packet → Psn → ℕ → Bool
@@ -269,12 +285,12 @@ strays p expected opened =
 unfoldable pub closedBy : ℕ → OpenMessage → OpenMessage
 closedBy place opened = cond (starts place) noMessage opened
 
--- A check failed: no NAK, but 6 where there is a message to abandon, by what was open when the packet came, and 5 where
--- there is none. 34, for an entry that no call made, is the caller's mistake and abandons nothing
+-- A check failed: no NAK. A message that was open when the packet came is abandoned; if none was, the packet is dropped.
+-- Out of range, for an entry that no call made, is the caller's mistake and abandons nothing
 unfoldable pub abandoning : ℕ → ℕ → Decision
 abandoning code opened =
-    cond (eqb code 34) (noReply status.OutOfRange)
-    (cond (eqb opened 255) (noReply status.Dropped) (noReply status.Abandoned))
+    cond (eqb code Number.outOfRange) (noReply status.OutOfRange)
+    (cond (eqb opened closed) (noReply status.Dropped) (noReply status.Abandoned))
 
 -- the decision with no answer sent, whatever AckReq says, and with so many PSNs taken
 abbrev pub unanswered : ℕ → Decision → Decision
@@ -308,7 +324,8 @@ ucExecute p expected m entry region =
 
 unfoldable pub ucCheckedDecision : ℕ → Packet → Psn → OpenMessage → List ℕ → List ℕ → Decision
 ucCheckedDecision code p expected opened entry region =
-    cond (eqb code 0) (ucExecute p expected (current opened p) entry region) (abandoning code (opened .kind))
+    cond (eqb code Number.executed) (ucExecute p expected (current opened p) entry region)
+    (abandoning code (opened .kind))
 
 -- a Middle or Last without its message first, then the request checks
 unfoldable pub ucDecision : Packet → Setup → Psn → OpenMessage → ℕ → List ℕ → List ℕ → Decision
@@ -317,10 +334,10 @@ ucDecision p s expected opened count entry region =
     (cond (strays p expected (opened .kind)) (noReply status.Abandoned)
     (ucCheckedDecision (requestCode s (closedBy (p .place) opened) p count entry region) p expected opened entry region))
 
--- By the service of the pair: 1 is UC
+-- By the service of the pair
 unfoldable pub packetDecision : Pair → List (List ℕ) → List (List ℕ) → List (List ℕ) → Packet → Decision
 packetDecision q regions entries saved p =
-    cond (eqb (q .setup .service) 1)
+    cond (eqb (q .setup .service) Service.uc)
     (ucDecision p (q .setup) (q .expected) (q .message) (q .entries .count) (headEntry q entries)
     (regionFor (p .kind) (current (q .message) p .key) regions))
     (rcDecision q regions entries saved p)
@@ -334,11 +351,11 @@ orDrop (read.Dropped reason) f = noReply status.Dropped
 unfoldable pub readsFull : Pair → Bool
 readsFull q = not (eqb (q .read .remaining) 0)
 
--- Refused, before the packet is looked at: 35 for an output under 24 bytes, 34 for memory of another length than was set
--- up, or a pair that no call made, 32 while a READ is unfinished
+-- Refused, before the packet is looked at: an output with no room for an Atomic Acknowledge, memory of another length than
+-- was set up, or a pair that no call made, and any packet while a READ is unfinished
 unfoldable pub inboundRefusal : Pair → ℕ → ℕ → Status
 inboundRefusal q memory room =
-    cond (ltb room 24) status.OutputShort
+    cond (ltb room atomicAckLength) status.OutputShort
     (cond (not (eqb memory (q .setup .memory))) status.OutOfRange
     (cond (pairUnsound q) status.OutOfRange
     (cond (readsFull q) status.ReadUnfinished status.Executed)))
@@ -347,6 +364,6 @@ inboundRefusal q memory room =
 unfoldable pub decided : Pair → List (List ℕ) → List (List ℕ) → List (List ℕ) → ℕ → List ℕ → ℕ → Decision
 decided q regions entries saved memory p room =
     cond (executed (inboundRefusal q memory room))
-    (orDrop (admitted (q .setup .service) (q .setup .ours) (q .setup .pkey) (eqb (q .state) 1) p)
+    (orDrop (admitted (q .setup .service) (q .setup .ours) (q .setup .pkey) (eqb (q .state) State.ready) p)
     (λ h. packetDecision q regions entries saved (packetOf h (length p))))
     (noReply (inboundRefusal q memory room))

@@ -1,3 +1,5 @@
+pub mod Act
+pub mod Syndrome
 pub mod Decide
 pub mod Apply
 pub mod Reply

@@ -6,6 +6,7 @@ use lib.Dec.{eqb}
 use lib.ListN.{length, drop}
 use Rattle.sequence.specs.declared.Psn.{Psn}
 use Rattle.sequence.specs.declared.Msn.{Msn}
+use Rattle.opcode.specs.Kind as Kind
 use Rattle.header.specs.Write.{headerBytes}
 use Rattle.header.specs.declared.Bth.{Bth}
 use Rattle.header.specs.declared.Extension.{Extension}
@@ -14,6 +15,7 @@ use Rattle.header.specs.declared.Header.{Header}
 use Rattle.memory.specs.Word.{wordAt}
 use Rattle.pair.specs.declared.Setup.{Setup}
 use Rattle.responder_spec.specs.declared.Decision.{Decision}
+use Rattle.responder_spec.specs.Decide.{ackLength, atomicAckLength}
 use Rattle.responder_spec.specs.Apply.{actsAtomic}
 
 -- Our P_Key, their queue pair number; SE, MigReq, AckReq, TVer and reserved bits 0. RC's opcodes are the low five bits
@@ -36,19 +38,20 @@ replyBth s opcode pad psn =
 unfoldable pub replyHeader : Setup → ℕ → ℕ → Psn → Extension → Header
 replyHeader s opcode pad psn extension = record { bth = replyBth s opcode pad psn; extension = extension }
 
--- Acknowledge is opcode 17, Atomic Acknowledge 18
+-- the opcode of either is the number of its kind
 unfoldable pub ackHeader : Setup → Psn → ℕ → Msn → Header
-ackHeader s psn syndrome msn = replyHeader s 17 0 psn (Acknowledge (record { syndrome = syndrome; msn = msn }))
+ackHeader s psn syndrome msn =
+    replyHeader s Kind.acknowledge 0 psn (Acknowledge (record { syndrome = syndrome; msn = msn }))
 
 unfoldable pub atomicHeader : Setup → Psn → ℕ → Msn → ℕ → Header
 atomicHeader s psn syndrome msn value =
-    replyHeader s 18 0 psn (AtomicAcknowledge (record { syndrome = syndrome; msn = msn }) value)
+    replyHeader s Kind.atomicAcknowledge 0 psn (AtomicAcknowledge (record { syndrome = syndrome; msn = msn }) value)
 
--- the packet of an answer: of 16 bytes, of 24, or none; the MSN is that after the packet
+-- the packet of an answer, by its length, or none; the MSN is that after the packet
 unfoldable pub answerBytes : Setup → Decision → Msn → ℕ → List ℕ
 answerBytes s d msn value =
-    cond (eqb (d .outgoing) 16) (headerBytes (ackHeader s (d .psn) (d .syndrome) msn))
-    (cond (eqb (d .outgoing) 24) (headerBytes (atomicHeader s (d .psn) (d .syndrome) msn value)) [])
+    cond (eqb (d .outgoing) ackLength) (headerBytes (ackHeader s (d .psn) (d .syndrome) msn))
+    (cond (eqb (d .outgoing) atomicAckLength) (headerBytes (atomicHeader s (d .psn) (d .syndrome) msn value)) [])
 
 -- an atomic answers the old value, a repeated one the saved value
 unfoldable pub valueBy : Decision → List ℕ → ℕ

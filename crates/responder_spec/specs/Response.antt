@@ -5,6 +5,9 @@ use mathlib.Core.List.{List}
 use lib.Dec.{eqb, ltb}
 use lib.ListN.{length, take, drop}
 use Rattle.sequence.specs.Sequence.{psnAfter}
+use Rattle.opcode.specs.Kind as Kind
+use Rattle.opcode.specs.Place as Place
+use Rattle.opcode.specs.Length as Length
 use Rattle.header.specs.declared.Extension.{Extension}
 use Rattle.header.specs.declared.Extension.the-variants.{Bare, Acknowledge}
 use Rattle.header.specs.declared.Header.{Header}
@@ -18,7 +21,8 @@ use Rattle.pair.specs.declared.Pair.{Pair}
 use Rattle.pair.specs.declared.Status.{Status}
 use Rattle.pair.specs.declared.Status.the-variants as status
 use Rattle.responder_spec.specs.declared.Outcome.{Outcome}
-use Rattle.responder_spec.specs.Decide.{noCompletion, ackSyndrome}
+use Rattle.responder_spec.specs.Syndrome as Syndrome
+use Rattle.responder_spec.specs.Decide.{noCompletion}
 use Rattle.responder_spec.specs.Apply.{with}
 use Rattle.responder_spec.specs.Reply.{replyHeader, over}
 
@@ -26,13 +30,14 @@ use Rattle.responder_spec.specs.Reply.{replyHeader, over}
 unfoldable pub indexOf : ReadAnswer → ℕ → ℕ
 indexOf a pmtu = pieces (a .length) pmtu - a .remaining
 
--- opcodes: First 13, Middle 14, Last 15, Only 16. Places are 0, 1, 2 and 4
+-- the opcodes of First, Middle, Last and Only follow each other, so an Only's is the third behind a First's
 unfoldable pub responseOpcode : ℕ → ℕ
-responseOpcode place = 13 + cond (eqb place 4) 3 place
+responseOpcode place = Kind.readResponse + cond (eqb place Place.only) 3 place
 
 -- AETH on all but Middles, with the MSN as at acceptance
 unfoldable pub responseExtension : ℕ → ReadAnswer → Extension
-responseExtension place a = cond (eqb place 1) Bare (Acknowledge (record { syndrome = ackSyndrome; msn = a .msn }))
+responseExtension place a =
+    cond (eqb place Place.middle) Bare (Acknowledge (record { syndrome = Syndrome.ack; msn = a .msn }))
 
 -- the bytes that response i carries, out of memory as it is now
 unfoldable pub responsePayload : ReadAnswer → ℕ → List ℕ → ℕ → List ℕ
@@ -47,12 +52,16 @@ unfoldable pub responseBytes : Setup → ReadAnswer → List ℕ → ℕ → Lis
 responseBytes s a m i =
     packetBytes (responseHeader s a i (length (responsePayload a (s .pmtu) m i))) (responsePayload a (s .pmtu) m i)
 
--- 36 if none is pending, 35 for an output under 16 + PMTU, 34 for memory of another length than was set up, or a pair that
--- no call made
+-- the longest headers of a response
+abbrev pub responseHeaders : ℕ
+responseHeaders = Length.bth + Length.aeth
+
+-- Refused: none is pending, the output is too short for headers and a PMTU, memory has another length than was set up, or
+-- no call made the pair
 unfoldable pub nextStatus : Pair → ℕ → ℕ → Status
 nextStatus q memory room =
     cond (eqb (q .read .remaining) 0) status.WrongState
-    (cond (ltb room (16 + q .setup .pmtu)) status.OutputShort
+    (cond (ltb room (responseHeaders + q .setup .pmtu)) status.OutputShort
     (cond (not (eqb memory (q .setup .memory))) status.OutOfRange
     (cond (pairUnsound q) status.OutOfRange status.Executed)))
 
