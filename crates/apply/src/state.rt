@@ -125,26 +125,15 @@ fn executes(status: Status) -> bool
     status.number() <= last.number()
 }
 
-// Whether the answer sets the NAK mark.
-fn marks(status: Status) -> bool
-    ensures { λ r. ⌜ r ≡ (eqb (statusNumber status) 16 || eqb (statusNumber status) 19) ⌝ }
+// Whether it is one of two answers.
+fn either(status: Status, a: Status, b: Status) -> bool
+    ensures { λ r. ⌜ r ≡ (eqb (statusNumber status) (statusNumber a) || eqb (statusNumber status) (statusNumber b)) ⌝ }
 {
-    let sequence = status.is(Status::SequenceNak);
-    if sequence {
+    let first = status.is(a);
+    if first {
         return true;
     }
-    status.is(Status::NotReadyNak)
-}
-
-// Whether it is the Error state's.
-fn breaks(status: Status) -> bool
-    ensures { λ r. ⌜ r ≡ (eqb (statusNumber status) 17 || eqb (statusNumber status) 18) ⌝ }
-{
-    let invalid = status.is(Status::InvalidRequestNak);
-    if invalid {
-        return true;
-    }
-    status.is(Status::AccessNak)
+    status.is(b)
 }
 
 // By the answer.
@@ -164,12 +153,12 @@ pub fn pair_after(pair: Pair, d: Decision) -> Pair
         next.read = read;
         return next;
     }
-    let marked = marks(status);
+    let marked = either(status, Status::SequenceNak, Status::NotReadyNak);
     if marked {
         next.nakmark = true;
         return next;
     }
-    let broken = breaks(status);
+    let broken = either(status, Status::InvalidRequestNak, Status::AccessNak);
     if broken {
         next.state = pair::ERROR;
         return next;

@@ -83,7 +83,7 @@ pub refused : (c : Connection) (r : Request) (d out : List ℕ) (first : Psn) (i
     → code ≡ cutRefusal c r (length d) (first .0) i → (code ≡ 0 → ⊥)
     → (Refused code ≡ cutWritten c r d first i (length out)) × (out ≡ cutOut c r d first i out)
 unfolding cutWritten cutOut cutAnswer answerBy
-refused c r d out first i code e n = (simp (← e, ne-eqb code 0 n), simp (← e, ne-eqb code 0 n))
+refused c r d out first i code e n = simp (← e, ne-eqb code 0 n) (refl, refl)
 
 pub length-carried : (r : Request) (d : List ℕ) → length (carried r d) ≡ carriedLength r (length d)
 unfolding carried carriedLength

@@ -14,11 +14,11 @@ use Rattle.pair.specs.declared.Status.{Status}
 use Rattle.pair.specs.declared.Status.the-variants as status
 use Rattle.request_spec.specs.Verdict.{carrying, current, requestCode, expectedCode, expectedCodeOf}
 use Rattle.request_spec.specs.declared.Packet.{Packet}
-use Rattle.responder_spec.specs.Decide.{noReply, failed, storePayload, execute, checkedDecision, expectedDecision, orphaned, strays, closedBy, abandoning, ucExecute, ucCheckedDecision, ucDecision}
+use Rattle.responder_spec.specs.Decide.{noReply, failed, storePayload, answered, execute, checkedDecision, expectedDecision, orphaned, strays, closedBy, abandoning, ucExecute, ucCheckedDecision, ucDecision}
 use Rattle.responder_spec.specs.declared.Decision.{Decision}
 use Rattle.responder_spec.proofs.Codes.{Passed, passes}
 use Rattle.responder_spec.proofs.Views.{current-closed, same-code}
-use Rattle.execute.specs.Either.{either, answered}
+use Rattle.execute.specs.Either.{either}
 
 -- a SEND or WRITE that is stored, on either service
 pub stored : (uc asked : Bool) (psns : ℕ) (p : Packet) (expected : Psn) (m opened : OpenMessage) (entry region : List ℕ) (pmtu : ℕ)
@@ -26,7 +26,7 @@ pub stored : (uc asked : Bool) (psns : ℕ) (p : Packet) (expected : Psn) (m ope
     → psns ≡ cond uc (1 + distance (p .psn .0) (expected .0)) 1
     → carrying (p .kind) ≡ true
     → answered asked psns (storePayload p m entry region) ≡ cond uc (ucExecute p expected m entry region) (execute p m opened entry region pmtu)
-unfolding ucExecute execute answered storePayload
+unfolding ucExecute execute storePayload
 stored true asked psns p expected m opened entry region pmtu a n c = rw c (λ i. answered (a i) (n i) (storePayload p m entry region))
 stored false asked psns p expected m opened entry region pmtu a n c = rw c (λ i. answered (a i) (n i) (storePayload p m entry region))
 

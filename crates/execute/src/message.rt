@@ -10,9 +10,8 @@ ghost use Prim.Native.Nat.{_+_, _<_, _^_};
 ghost use lib.Dec.{eqb};
 ghost use Rattle.opcode.specs.Kind as Kind;
 ghost use Rattle.request_spec.specs.Verdict.{payloadSize};
-ghost use Rattle.responder_spec.specs.Decide.{ackLength, completes, completionOf, messageAfter, targetOffset, storePayload};
+ghost use Rattle.responder_spec.specs.Decide.{ackLength, completes, completionOf, messageAfter, targetOffset, storePayload, answered};
 ghost use Rattle.execute.specs.Fits.{TargetFits};
-ghost use Rattle.execute.specs.Either.{answered};
 
 fn completes(kind: u8, place: u8, immediate: bool) -> bool
     ensures { λ r. ⌜ r ≡ completes kind place immediate ⌝ }

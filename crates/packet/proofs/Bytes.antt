@@ -1,6 +1,6 @@
 -- What writing a packet answers and leaves.
 use Prim.Native.Nat.{ℕ, _+_, _≤_}
-use mathlib.Core.Path.{_≡_, sym, ap, subst, _∙_}
+use mathlib.Core.Path.{refl, _≡_, sym, ap, subst, _∙_}
 use mathlib.Core.Bool.{Bool, true, not}
 use mathlib.Core.List.{List, _++_, append-assoc}
 use native.Mathlib.Omega.{arith}
@@ -60,7 +60,7 @@ three-parts h d out good room =
 pub no : (h : Header) (d out : List ℕ) (r : ℕ) → r ≡ packetAnswer h (length d) (length out) → (r ≡ 0 → ⊥)
     → (Refused r ≡ packetWritten h (length d) (length out)) × (out ≡ packetOut h d out)
 unfolding packetWritten packetOut answerBy
-no h d out r e n = (simp (← e, ne-eqb r 0 n), simp (← e, ne-eqb r 0 n))
+no h d out r e n = simp (← e, ne-eqb r 0 n) (refl, refl)
 
 pub yes : (h : Header) (d out : List ℕ) → packetAnswer h (length d) (length out) ≡ 0
     → (packetWritten h (length d) (length out) ≡ Done (packetLength h (length d)))

@@ -292,11 +292,11 @@ abandoning code opened =
     cond (eqb code Number.outOfRange) (noReply status.OutOfRange)
     (cond (eqb opened closed) (noReply status.Dropped) (noReply status.Abandoned))
 
--- the decision with no answer sent, whatever AckReq says, and with so many PSNs taken
-abbrev pub unanswered : ℕ → Decision → Decision
-unanswered psns d =
+-- the decision acknowledged or not, and with so many PSNs taken
+abbrev pub answered : Bool → ℕ → Decision → Decision
+answered asked psns d =
     record {
-      status = status.Executed;
+      status = cond asked status.Acknowledged status.Executed;
       act = d .act;
       at = d .at;
       start = d .start;
@@ -309,11 +309,15 @@ unanswered psns d =
       completion = d .completion;
       responses = d .responses;
       length = d .length;
-      outgoing = 0;
+      outgoing = cond asked ackLength 0;
       psn = d .psn;
       syndrome = d .syndrome;
       value = d .value;
     }
+
+-- no reply is sent, whatever AckReq says
+abbrev pub unanswered : ℕ → Decision → Decision
+unanswered psns d = answered false psns d
 
 -- Executed: the PSNs from the expected one up to the packet's own count as taken, so that the one behind it is expected
 -- next. The header checks let no other kind than SEND and WRITE come so far

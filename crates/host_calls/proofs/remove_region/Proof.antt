@@ -1,3 +1,4 @@
+use mathlib.Core.Path.{refl}
 use borrow.Author.Tests.{le-leb, le-ltb, lt-leb, lt-ltb}
 use Rattle.pair.specs.Host.{removeStatus, removeRegions}
 use Rattle.pair.specs.Answer.{executed, statusNumber}
@@ -13,7 +14,7 @@ find-requires c κs = search needs
 
 returns : tie.Need-returns
 unfolding removeStatus removeRegions executed statusNumber
-returns c = (simp (← c .before .before .u32-to-u64 .ensures .0, ← c .before .find .ensures .0, le-ltb _ _ (c .if1 .taken), le-leb _ _ (c .if1 .taken)), simp (← c .before .before .u32-to-u64 .ensures .0, ← c .before .find .ensures .0, le-ltb _ _ (c .if1 .taken), le-leb _ _ (c .if1 .taken)))
+returns c = simp (← c .before .before .u32-to-u64 .ensures .0, ← c .before .find .ensures .0, le-ltb _ _ (c .if1 .taken), le-leb _ _ (c .if1 .taken)) (refl, refl)
 
 mul-row : tie.Need-mul-row
 mul-row c = search needs
@@ -23,7 +24,7 @@ element-set-from-row c = search needs
 
 returns-2 : tie.Need-returns-2
 unfolding removeStatus removeRegions executed statusNumber
-returns-2 c = (simp (← c .before .before .u32-to-u64 .ensures .0, ← c .before .find .ensures .0, lt-leb _ _ (c .if1 .left), lt-ltb _ _ (c .if1 .left)), simp (← c .before .before .u32-to-u64 .ensures .0, ← c .before .find .ensures .0, lt-leb _ _ (c .if1 .left), lt-ltb _ _ (c .if1 .left)))
+returns-2 c = simp (← c .before .before .u32-to-u64 .ensures .0, ← c .before .find .ensures .0, lt-leb _ _ (c .if1 .left), lt-ltb _ _ (c .if1 .left)) (refl, refl)
 
 pub remove-region-spec : {M : Type 1} → statement M
 remove-region-spec =

@@ -1,3 +1,4 @@
+use mathlib.Core.Path.{refl}
 use Rattle.pair.specs.Host.{resetTo, resetRegions, resetStatus}
 use Rattle.pair.specs.Answer.{executed, statusNumber}
 use borrow.Author.Needs.{needs}
@@ -12,7 +13,7 @@ outcome-requires c κs = search needs
 
 returns : tie.Need-returns
 unfolding resetTo resetRegions resetStatus executed statusNumber
-returns c = (simp (← c .before .before .setup-unsound .ensures, c .before .if1 .taken, ← c .outcome .ensures), simp (← c .before .before .setup-unsound .ensures, c .before .if1 .taken, ← c .outcome .ensures))
+returns c = simp (← c .before .before .setup-unsound .ensures, c .before .if1 .taken, ← c .outcome .ensures) (refl, refl)
 
 fresh-requires : tie.Need-fresh-requires
 fresh-requires c κs = search needs
@@ -22,7 +23,7 @@ outcome-requires-2 c κs = search needs
 
 returns-2 : tie.Need-returns-2
 unfolding resetTo resetRegions resetStatus executed statusNumber
-returns-2 c = (simp (← c .before .before .before .before .setup-unsound .ensures, c .before .before .before .if1 .left, ← c .before .fresh .ensures, ← c .outcome2 .ensures), simp (← c .before .before .before .before .setup-unsound .ensures, c .before .before .before .if1 .left, ← c .before .fresh .ensures, ← c .outcome2 .ensures))
+returns-2 c = simp (← c .before .before .before .before .setup-unsound .ensures, c .before .before .before .if1 .left, ← c .before .fresh .ensures, ← c .outcome2 .ensures) (refl, refl)
 
 pub reset-spec : {M : Type 1} → statement M
 reset-spec =

@@ -1,3 +1,4 @@
+use mathlib.Core.Path.{refl}
 use borrow.Author.Tests.{le-leb, le-ltb, lt-leb, lt-ltb}
 use Rattle.pair.specs.Host.{setUp, setUpRegions, setUpStatus}
 use Rattle.pair.specs.Answer.{executed, statusNumber}
@@ -16,7 +17,7 @@ outcome-requires c κs = search needs
 
 returns : tie.Need-returns
 unfolding setUp setUpRegions setUpStatus executed statusNumber
-returns c = (simp (← c .before .before .before .setup-unfit .ensures, c .before .before .if1 .taken, ← c .before .blank .ensures, ← c .outcome .ensures), simp (← c .before .before .before .setup-unfit .ensures, c .before .before .if1 .taken, ← c .before .blank .ensures, ← c .outcome .ensures))
+returns c = simp (← c .before .before .before .setup-unfit .ensures, c .before .before .if1 .taken, ← c .before .blank .ensures, ← c .outcome .ensures) (refl, refl)
 
 blank-requires-2 : tie.Need-blank-requires-2
 blank-requires-2 c κs = search needs
@@ -26,7 +27,7 @@ outcome-requires-2 c κs = search needs
 
 returns-2 : tie.Need-returns-2
 unfolding setUp setUpRegions setUpStatus executed statusNumber
-returns-2 c = (simp (← c .before .before .before .before .before .setup-unfit .ensures, c .before .before .before .before .if1 .left, lt-leb _ _ (c .before .before .if2 .taken), lt-ltb _ _ (c .before .before .if2 .taken), ← c .before .blank2 .ensures, ← c .outcome2 .ensures), simp (← c .before .before .before .before .before .setup-unfit .ensures, c .before .before .before .before .if1 .left, lt-leb _ _ (c .before .before .if2 .taken), lt-ltb _ _ (c .before .before .if2 .taken), ← c .before .blank2 .ensures, ← c .outcome2 .ensures))
+returns-2 c = simp (← c .before .before .before .before .before .setup-unfit .ensures, c .before .before .before .before .if1 .left, lt-leb _ _ (c .before .before .if2 .taken), lt-ltb _ _ (c .before .before .if2 .taken), ← c .before .blank2 .ensures, ← c .outcome2 .ensures) (refl, refl)
 
 fresh-requires : tie.Need-fresh-requires
 fresh-requires c κs = search needs
@@ -36,7 +37,7 @@ outcome-requires-3 c κs = search needs
 
 returns-3 : tie.Need-returns-3
 unfolding setUp setUpRegions setUpStatus executed statusNumber
-returns-3 c = (simp (← c .before .before .before .before .before .before .setup-unfit .ensures, c .before .before .before .before .before .if1 .left, le-ltb _ _ (c .before .before .before .if2 .left), le-leb _ _ (c .before .before .before .if2 .left), ← c .before .fresh .ensures, ← c .outcome3 .ensures), simp (← c .before .before .before .before .before .before .setup-unfit .ensures, c .before .before .before .before .before .if1 .left, le-ltb _ _ (c .before .before .before .if2 .left), le-leb _ _ (c .before .before .before .if2 .left), ← c .before .fresh .ensures, ← c .outcome3 .ensures))
+returns-3 c = simp (← c .before .before .before .before .before .before .setup-unfit .ensures, c .before .before .before .before .before .if1 .left, le-ltb _ _ (c .before .before .before .if2 .left), le-leb _ _ (c .before .before .before .if2 .left), ← c .before .fresh .ensures, ← c .outcome3 .ensures) (refl, refl)
 
 pub set-up-spec : {M : Type 1} → statement M
 set-up-spec =

@@ -3,11 +3,10 @@ use Rattle.responder_spec.specs.Apply.{after, pairBy}
 use borrow.Author.Needs.{needs}
 use Rattle.apply.proofs.state.pair_after.Statement.{statement}
 use Rattle.apply.proofs.state.pair_after.Tie as tie
-use Rattle.apply.proofs.state.breaks.Reads as breaks-reads
 use Rattle.apply.proofs.state.closing.Reads as closing-reads
+use Rattle.apply.proofs.state.either.Reads as either-reads
 use Rattle.apply.proofs.state.executed_pair.Reads as executed-pair-reads
 use Rattle.apply.proofs.state.executes.Reads as executes-reads
-use Rattle.apply.proofs.state.marks.Reads as marks-reads
 use Rattle.apply.proofs.state.read_by.Reads as read-by-reads
 use Rattle.pair.proofs.Status.is.Reads as is-reads
 
@@ -31,19 +30,19 @@ returns-2 : tie.Need-returns-2
 unfolding statusNumber after pairBy
 returns-2 c = simp (← c .before .before .before .before .before .executes .ensures, c .before .before .before .before .if1 .left, ← c .before .before .before .is .ensures, c .before .before .if2 .taken, ← c .read-by .ensures)
 
-marks-requires : tie.Need-marks-requires
-marks-requires c κs = search needs
+either-requires : tie.Need-either-requires
+either-requires c κs = search needs
 
 returns-3 : tie.Need-returns-3
 unfolding statusNumber after pairBy
-returns-3 c = simp (← c .before .before .before .before .before .executes .ensures, c .before .before .before .before .if1 .left, ← c .before .before .before .is .ensures, c .before .before .if2 .left, ← c .before .marks .ensures, c .if3 .taken)
+returns-3 c = simp (← c .before .before .before .before .before .executes .ensures, c .before .before .before .before .if1 .left, ← c .before .before .before .is .ensures, c .before .before .if2 .left, ← c .before .either .ensures, c .if3 .taken)
 
-breaks-requires : tie.Need-breaks-requires
-breaks-requires c κs = search needs
+either-requires-2 : tie.Need-either-requires-2
+either-requires-2 c κs = search needs
 
 returns-4 : tie.Need-returns-4
 unfolding statusNumber after pairBy
-returns-4 c = simp (← c .before .before .before .before .before .before .before .executes .ensures, c .before .before .before .before .before .before .if1 .left, ← c .before .before .before .before .before .is .ensures, c .before .before .before .before .if2 .left, ← c .before .before .before .marks .ensures, c .before .before .if3 .left, ← c .before .breaks .ensures, c .if4 .taken)
+returns-4 c = simp (← c .before .before .before .before .before .before .before .executes .ensures, c .before .before .before .before .before .before .if1 .left, ← c .before .before .before .before .before .is .ensures, c .before .before .before .before .if2 .left, ← c .before .before .before .either .ensures, c .before .before .if3 .left, ← c .before .either2 .ensures, c .if4 .taken)
 
 is-requires-2 : tie.Need-is-requires-2
 is-requires-2 c κs = search needs
@@ -53,11 +52,11 @@ closing-requires c κs = search needs
 
 returns-5 : tie.Need-returns-5
 unfolding statusNumber after pairBy
-returns-5 c = simp (← c .before .before .before .before .before .before .before .before .before .before .executes .ensures, c .before .before .before .before .before .before .before .before .before .if1 .left, ← c .before .before .before .before .before .before .before .before .is .ensures, c .before .before .before .before .before .before .before .if2 .left, ← c .before .before .before .before .before .before .marks .ensures, c .before .before .before .before .before .if3 .left, ← c .before .before .before .before .breaks .ensures, c .before .before .before .if4 .left, ← c .before .before .is2 .ensures, c .before .if5 .taken, ← c .closing .ensures)
+returns-5 c = simp (← c .before .before .before .before .before .before .before .before .before .before .executes .ensures, c .before .before .before .before .before .before .before .before .before .if1 .left, ← c .before .before .before .before .before .before .before .before .is .ensures, c .before .before .before .before .before .before .before .if2 .left, ← c .before .before .before .before .before .before .either .ensures, c .before .before .before .before .before .if3 .left, ← c .before .before .before .before .either2 .ensures, c .before .before .before .if4 .left, ← c .before .before .is2 .ensures, c .before .if5 .taken, ← c .closing .ensures)
 
 returns-6 : tie.Need-returns-6
 unfolding statusNumber after pairBy
-returns-6 c = simp (← c .before .before .before .before .before .before .before .before .before .executes .ensures, c .before .before .before .before .before .before .before .before .if1 .left, ← c .before .before .before .before .before .before .before .is .ensures, c .before .before .before .before .before .before .if2 .left, ← c .before .before .before .before .before .marks .ensures, c .before .before .before .before .if3 .left, ← c .before .before .before .breaks .ensures, c .before .before .if4 .left, ← c .before .is2 .ensures, c .if5 .left)
+returns-6 c = simp (← c .before .before .before .before .before .before .before .before .before .executes .ensures, c .before .before .before .before .before .before .before .before .if1 .left, ← c .before .before .before .before .before .before .before .is .ensures, c .before .before .before .before .before .before .if2 .left, ← c .before .before .before .before .before .either .ensures, c .before .before .before .before .if3 .left, ← c .before .before .before .either2 .ensures, c .before .before .if4 .left, ← c .before .is2 .ensures, c .if5 .left)
 
 pub pair-after-spec : {M : Type 1} → statement M
 pair-after-spec =
@@ -69,9 +68,9 @@ pair-after-spec =
     is-requires
     read-by-requires
     returns-2
-    marks-requires
+    either-requires
     returns-3
-    breaks-requires
+    either-requires-2
     returns-4
     is-requires-2
     closing-requires

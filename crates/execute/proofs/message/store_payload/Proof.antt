@@ -1,4 +1,3 @@
-use Rattle.execute.specs.Either.{answered}
 use Rattle.responder_spec.specs.Decide.{storePayload}
 use Rattle.request_spec.specs.Verdict.{payloadSize}
 use borrow.Author.Needs.{needs}
@@ -38,7 +37,7 @@ ack-length-requires : tie.Need-ack-length-requires
 ack-length-requires c κs = search needs
 
 returns : tie.Need-returns
-unfolding storePayload payloadSize answered
+unfolding storePayload payloadSize
 returns c = cc
 
 pub store-payload-spec : {M : Type 1} → statement M

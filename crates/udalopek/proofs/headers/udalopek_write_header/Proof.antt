@@ -1,3 +1,4 @@
+use mathlib.Core.Path.{refl}
 use Rattle.udalopek_spec.specs.Headers.{writeNumber, writeOutput, writeReport}
 use borrow.Author.Needs.{needs}
 use Rattle.udalopek.proofs.headers.udalopek_write_header.Statement.{statement}
@@ -26,11 +27,11 @@ same-length c = search needs
 
 returns : tie.Need-returns
 unfolding writeNumber writeOutput writeReport
-returns c = (simp (← c .before .before .before .before .before .before .before .before .before .before .own-words .ensures, c .before .before .before .before .before .before .before .before .before .if1 .taken, ← c .before .before .before .before .before .before .before .before .bth-from .ensures, ← c .before .before .before .before .before .before .before .extension-from .ensures, ← c .before .before .before .before .before .write .ensures .1, ← c .before .before .before .before .before .write .ensures .0, ← c .before .before .bytes-written .ensures, ← c .refusal-number .ensures), (simp (← c .before .before .before .before .before .before .before .before .before .before .own-words .ensures, c .before .before .before .before .before .before .before .before .before .if1 .taken, ← c .before .before .before .before .before .before .before .before .bth-from .ensures, ← c .before .before .before .before .before .before .before .extension-from .ensures, ← c .before .before .before .before .before .write .ensures .1, ← c .before .before .before .before .before .write .ensures .0, ← c .before .before .bytes-written .ensures, ← c .refusal-number .ensures), simp (← c .before .before .before .before .before .before .before .before .before .before .own-words .ensures, c .before .before .before .before .before .before .before .before .before .if1 .taken, ← c .before .before .before .before .before .before .before .before .bth-from .ensures, ← c .before .before .before .before .before .before .before .extension-from .ensures, ← c .before .before .before .before .before .write .ensures .1, ← c .before .before .before .before .before .write .ensures .0, ← c .before .before .bytes-written .ensures, ← c .refusal-number .ensures)))
+returns c = (simp (← c .before .before .before .before .before .before .before .before .before .before .own-words .ensures, c .before .before .before .before .before .before .before .before .before .if1 .taken, ← c .before .before .before .before .before .before .before .before .bth-from .ensures, ← c .before .before .before .before .before .before .before .extension-from .ensures, ← c .before .before .before .before .before .write .ensures .1, ← c .before .before .before .before .before .write .ensures .0, ← c .before .before .bytes-written .ensures, ← c .refusal-number .ensures), simp (← c .before .before .before .before .before .before .before .before .before .before .own-words .ensures, c .before .before .before .before .before .before .before .before .before .if1 .taken, ← c .before .before .before .before .before .before .before .before .bth-from .ensures, ← c .before .before .before .before .before .before .before .extension-from .ensures, ← c .before .before .before .before .before .write .ensures .1, ← c .before .before .before .before .before .write .ensures .0, ← c .before .before .bytes-written .ensures, ← c .refusal-number .ensures) (refl, refl))
 
 returns-2 : tie.Need-returns-2
 unfolding writeNumber writeOutput writeReport
-returns-2 c = (simp (← c .before .before .own-words .ensures, c .before .if1 .left), (simp (← c .before .before .own-words .ensures, c .before .if1 .left), simp (← c .before .before .own-words .ensures, c .before .if1 .left)))
+returns-2 c = (simp (← c .before .before .own-words .ensures, c .before .if1 .left), simp (← c .before .before .own-words .ensures, c .before .if1 .left) (refl, refl))
 
 pub udalopek-write-header-spec : {M : Type 1} → statement M
 udalopek-write-header-spec =

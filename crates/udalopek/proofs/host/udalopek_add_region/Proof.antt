@@ -1,3 +1,4 @@
+use mathlib.Core.Path.{refl}
 use Rattle.udalopek_spec.specs.Host.{addNumber, addTable, oddRegions}
 use borrow.Author.Needs.{needs}
 use Rattle.udalopek.proofs.host.udalopek_add_region.Statement.{statement}
@@ -8,7 +9,7 @@ malformed-requires c κs = search needs
 
 returns : tie.Need-returns
 unfolding addNumber addTable oddRegions
-returns c = (simp (← c .before .malformed .ensures, c .if1 .taken), simp (← c .before .malformed .ensures, c .if1 .taken))
+returns c = simp (← c .before .malformed .ensures, c .if1 .taken) (refl, refl)
 
 pair-of-requires : tie.Need-pair-of-requires
 pair-of-requires c κs = search needs
@@ -21,7 +22,7 @@ regions-malformed-requires c κs = search needs
 
 returns-2 : tie.Need-returns-2
 unfolding addNumber addTable oddRegions
-returns-2 c = (simp (← c .before .before .before .before .before .before .malformed .ensures, c .before .before .before .before .before .if1 .left, ← c .before .before .before .before .pair-of .ensures, ← c .before .before .usize-to-u64 .ensures, ← c .before .regions-malformed .ensures, c .if2 .taken), simp (← c .before .before .before .before .before .before .malformed .ensures, c .before .before .before .before .before .if1 .left, ← c .before .before .before .before .pair-of .ensures, ← c .before .before .usize-to-u64 .ensures, ← c .before .regions-malformed .ensures, c .if2 .taken))
+returns-2 c = simp (← c .before .before .before .before .before .before .malformed .ensures, c .before .before .before .before .before .if1 .left, ← c .before .before .before .before .pair-of .ensures, ← c .before .before .usize-to-u64 .ensures, ← c .before .regions-malformed .ensures, c .if2 .taken) (refl, refl)
 
 add-region-requires : tie.Need-add-region-requires
 add-region-requires c κs = search needs
@@ -31,7 +32,7 @@ number-requires c κs = search needs
 
 returns-3 : tie.Need-returns-3
 unfolding addNumber addTable oddRegions
-returns-3 c = (simp (← c .before .before .before .before .before .before .before .before .before .malformed .ensures, c .before .before .before .before .before .before .before .before .if1 .left, ← c .before .before .before .before .before .before .before .pair-of .ensures, ← c .before .before .before .before .before .usize-to-u64 .ensures, ← c .before .before .before .before .regions-malformed .ensures, c .before .before .before .if2 .left, ← c .before .add-region .ensures .1, ← c .before .add-region .ensures .0, ← c .number .ensures), simp (← c .before .before .before .before .before .before .before .before .before .malformed .ensures, c .before .before .before .before .before .before .before .before .if1 .left, ← c .before .before .before .before .before .before .before .pair-of .ensures, ← c .before .before .before .before .before .usize-to-u64 .ensures, ← c .before .before .before .before .regions-malformed .ensures, c .before .before .before .if2 .left, ← c .before .add-region .ensures .1, ← c .before .add-region .ensures .0, ← c .number .ensures))
+returns-3 c = simp (← c .before .before .before .before .before .before .before .before .before .malformed .ensures, c .before .before .before .before .before .before .before .before .if1 .left, ← c .before .before .before .before .before .before .before .pair-of .ensures, ← c .before .before .before .before .before .usize-to-u64 .ensures, ← c .before .before .before .before .regions-malformed .ensures, c .before .before .before .if2 .left, ← c .before .add-region .ensures .1, ← c .before .add-region .ensures .0, ← c .number .ensures) (refl, refl)
 
 pub udalopek-add-region-spec : {M : Type 1} → statement M
 udalopek-add-region-spec =

@@ -1,3 +1,4 @@
+use mathlib.Core.Path.{refl}
 use borrow.Author.Tests.{le-leb, le-ltb, lt-leb, lt-ltb}
 use Rattle.udalopek_spec.specs.Cutting.{cutNumber, cutOutput, cutWords}
 use borrow.Author.Needs.{needs}
@@ -6,7 +7,7 @@ use Rattle.udalopek.proofs.messages.udalopek_cut.Tie as tie
 
 returns : tie.Need-returns
 unfolding cutNumber cutOutput cutWords
-returns c = (simp (lt-leb _ _ (c .before .if1 .taken), lt-ltb _ _ (c .before .if1 .taken)), (simp (lt-leb _ _ (c .before .if1 .taken), lt-ltb _ _ (c .before .if1 .taken)), simp (lt-leb _ _ (c .before .if1 .taken), lt-ltb _ _ (c .before .if1 .taken))))
+returns c = (simp (lt-leb _ _ (c .before .if1 .taken), lt-ltb _ _ (c .before .if1 .taken)), simp (lt-leb _ _ (c .before .if1 .taken), lt-ltb _ _ (c .before .if1 .taken)) (refl, refl))
 
 request-of-requires : tie.Need-request-of-requires
 request-of-requires c κs = search needs
@@ -34,7 +35,7 @@ same-length c = search needs
 
 returns-2 : tie.Need-returns-2
 unfolding cutNumber cutOutput cutWords
-returns-2 c = (simp (le-ltb _ _ (c .before .before .before .before .before .before .before .before .before .before .if1 .left), le-leb _ _ (c .before .before .before .before .before .before .before .before .before .before .if1 .left), ← c .before .before .before .before .before .before .before .before .before .request-of .ensures, ← c .before .before .before .before .before .before .before .before .next-psn .ensures, ← c .before .before .before .before .before .before .cut .ensures .1, ← c .before .before .before .before .before .before .cut .ensures .0, ← c .before .before .before .refusal-number .ensures, ← c .before .before .bytes-written .ensures, ← c .before .following-psn .ensures, ← c .cut-report .ensures), (simp (le-ltb _ _ (c .before .before .before .before .before .before .before .before .before .before .if1 .left), le-leb _ _ (c .before .before .before .before .before .before .before .before .before .before .if1 .left), ← c .before .before .before .before .before .before .before .before .before .request-of .ensures, ← c .before .before .before .before .before .before .before .before .next-psn .ensures, ← c .before .before .before .before .before .before .cut .ensures .1, ← c .before .before .before .before .before .before .cut .ensures .0, ← c .before .before .before .refusal-number .ensures, ← c .before .before .bytes-written .ensures, ← c .before .following-psn .ensures, ← c .cut-report .ensures), simp (le-ltb _ _ (c .before .before .before .before .before .before .before .before .before .before .if1 .left), le-leb _ _ (c .before .before .before .before .before .before .before .before .before .before .if1 .left), ← c .before .before .before .before .before .before .before .before .before .request-of .ensures, ← c .before .before .before .before .before .before .before .before .next-psn .ensures, ← c .before .before .before .before .before .before .cut .ensures .1, ← c .before .before .before .before .before .before .cut .ensures .0, ← c .before .before .before .refusal-number .ensures, ← c .before .before .bytes-written .ensures, ← c .before .following-psn .ensures, ← c .cut-report .ensures)))
+returns-2 c = (simp (le-ltb _ _ (c .before .before .before .before .before .before .before .before .before .before .if1 .left), le-leb _ _ (c .before .before .before .before .before .before .before .before .before .before .if1 .left), ← c .before .before .before .before .before .before .before .before .before .request-of .ensures, ← c .before .before .before .before .before .before .before .before .next-psn .ensures, ← c .before .before .before .before .before .before .cut .ensures .1, ← c .before .before .before .before .before .before .cut .ensures .0, ← c .before .before .before .refusal-number .ensures, ← c .before .before .bytes-written .ensures, ← c .before .following-psn .ensures, ← c .cut-report .ensures), simp (le-ltb _ _ (c .before .before .before .before .before .before .before .before .before .before .if1 .left), le-leb _ _ (c .before .before .before .before .before .before .before .before .before .before .if1 .left), ← c .before .before .before .before .before .before .before .before .before .request-of .ensures, ← c .before .before .before .before .before .before .before .before .next-psn .ensures, ← c .before .before .before .before .before .before .cut .ensures .1, ← c .before .before .before .before .before .before .cut .ensures .0, ← c .before .before .before .refusal-number .ensures, ← c .before .before .bytes-written .ensures, ← c .before .following-psn .ensures, ← c .cut-report .ensures) (refl, refl))
 
 pub udalopek-cut-spec : {M : Type 1} → statement M
 udalopek-cut-spec =
