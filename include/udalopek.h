@@ -1,19 +1,20 @@
 /* The transport side of an InfiniBand queue pair, as a static library.
  *
  * Every function but udalopek_read_header answers a number of the rules; those from 32 on are refusals, and a refusal
- * changes nothing that was lent, but for told, which is then all 0. No function keeps anything between calls, allocates, or
- * calls out. Two calls may run at once unless they are lent the same bytes or words.
+ * changes nothing that was lent, but for report, which is then all 0. No function keeps anything between calls,
+ * allocates, or calls out. Two calls may run at once unless they are lent the same bytes or words.
  *
- * The state of a pair is 30 words and three tables, all lent by the caller. They are tested, so that no words can make a
- * call read or write outside what it is lent:
+ * The state of a pair is 30 words and three tables, all lent by the caller. They are tested, so that no words can make
+ * a call read or write outside what it is lent:
  * - not 30 words, or one that does not fit its field: 34, before all else, in every call that is lent the words;
- * - words out of range, so that they are no sound pair: 34, at its place in the call's order of checks; in reset and remove
- *   region at once;
- * - a row of the regions whose key, range or right is out of range: 34, next after the first test, by add and remove region
- *   and by a packet that may name a region, which is any whose opcode is not one of SEND's;
+ * - words out of range, so that they are no sound pair: 34, at its turn in the call's order of checks; in reset and
+ *   remove region at once;
+ * - a row of the regions whose key, range or right is out of range: 34, next after the first test, by add and remove
+ *   region and by a packet that may name a region, which is any whose opcode is not one of SEND's;
  * - an entry's row whose range is not in memory: 34 by the packet that would take it.
- * What is in range and yet no call would have left so is not told apart: a key that stands twice (the first row counts), a
- * count of bytes placed that is not what came, a READ pending on UC, the words of an open message where none is open.
+ * What is in range and yet no call would have left so is not distinguished: a key that stands twice (the first row
+ * counts), a count of bytes stored that is not what came, a READ pending on UC, the words of an open message where none
+ * is open.
  *
  * What a caller owes, since C cannot say it: a pointer is never null, even with length 0; it points to as many elements
  * as the length beside it says, or as its array type has; what is written overlaps nothing else that is lent. */
@@ -47,9 +48,9 @@ struct udalopek_pair {
     uint64_t saved[16][2];
 };
 
-/* Set-up, whatever the words and the table hold. 34: not 30 words; 39: PMTU, service, a number over 24 bits, a P_Key whose
- * low 15 bits are 0, a timer code over 31; 34: memory over 1,048,576 bytes. start is the first PSN to expect; send to
- * atomic are the functions enabled. */
+/* Set-up, whatever the words and the table hold. 34: not 30 words; 39: PMTU, service, a number over 24 bits, a P_Key
+ * whose low 15 bits are 0, a timer code over 31; 34: memory over 1,048,576 bytes. start is the first PSN to expect;
+ * send to atomic are the functions enabled. */
 uint8_t udalopek_set_up(uint64_t *pair, size_t pair_words, uint64_t regions[16][7], uint8_t service, size_t pmtu,
                         uint32_t ours, uint32_t theirs, uint16_t pkey, uint32_t start, uint8_t timer, bool send,
                         bool write, bool read, bool atomic, size_t memory);
@@ -57,7 +58,7 @@ uint8_t udalopek_set_up(uint64_t *pair, size_t pair_words, uint64_t regions[16][
 /* Back to Init with the numbers of the set-up, empty tables and MSN 0. */
 uint8_t udalopek_reset(uint64_t *pair, size_t pair_words, uint64_t regions[16][7]);
 
-/* Lets packets in. 36 unless Init. */
+/* The pair takes packets from now on. 36 unless Init. */
 uint8_t udalopek_make_ready(uint64_t *pair, size_t pair_words);
 
 /* Lets peers name length bytes of memory from offset on, by key and address. 36 in Error, 34 range, 38 key in use, 33
@@ -72,27 +73,28 @@ uint8_t udalopek_remove_region(const uint64_t *pair, size_t pair_words, uint64_t
 uint8_t udalopek_post_entry(uint64_t *pair, size_t pair_words, uint64_t entries[16][3], uint64_t number,
                             uint64_t offset, uint64_t length);
 
-/* Takes a packet, from its BTH to the end of its pad. 35: out under 24 bytes; 34: memory not of the length set up; 32: a READ
- * is still being answered. told: bytes of out to send, then the completion: 1 if there is one, entry, bytes, 1 if there
- * is an immediate, the immediate; all 0 where there is nothing to tell. regions and entries are only read; they are not
- * const, as C before C23 would ask for a cast. */
+/* Takes a packet, from its BTH to the end of its pad. 35: out under 24 bytes; 34: memory not of the length set up; 32:
+ * a READ is still being answered. report: bytes of out to send, then the completion: 1 if there is one, entry, bytes, 1
+ * if there is an immediate, the immediate; all 0 where there is nothing to tell. regions and entries are only read;
+ * they are not const, as C before C23 would ask for a cast. */
 uint8_t udalopek_inbound(uint64_t *pair, size_t pair_words, uint64_t regions[16][7], uint64_t entries[16][3],
                          uint64_t saved[16][2], uint8_t *memory, size_t memory_length, const uint8_t *packet,
-                         size_t packet_length, uint8_t *out, size_t out_length, uint64_t told[6]);
+                         size_t packet_length, uint8_t *out, size_t out_length, uint64_t report[6]);
 
-/* Writes the next response of a READ. 36: none pending; 35: out under 16 + PMTU; 34: memory. told: bytes of out to send. */
+/* Writes the next response of a READ. 36: none pending; 35: out under 16 + PMTU; 34: memory. report: bytes of out to
+ * send. */
 uint8_t udalopek_next_response(uint64_t *pair, size_t pair_words, const uint8_t *memory, size_t memory_length,
-                               uint8_t *out, size_t out_length, uint64_t told[1]);
+                               uint8_t *out, size_t out_length, uint64_t report[1]);
 
 /* Reads a header. Answers 0, or the check that failed first: 1 length, 2 TVer, 5 service, 8 too short; then nothing is
  * written. bth: opcode, SE, MigReq, PadCnt, TVer, P_Key, reserved 8, DestQP, AckReq, reserved 7, PSN. extension: which
- * headers follow (0 none, 1 RETH, 2 RETH and Immediate, 3 Immediate, 4 AtomicETH, 5 AETH, 6 AETH and AtomicAckETH), address,
- * R_Key, DMA length, swap-or-add, compare, syndrome, MSN, value, immediate; 0 for what is not there. */
+ * headers follow (0 none, 1 RETH, 2 RETH and Immediate, 3 Immediate, 4 AtomicETH, 5 AETH, 6 AETH and AtomicAckETH),
+ * address, R_Key, DMA length, swap-or-add, compare, syndrome, MSN, value, immediate; 0 for what is not there. */
 uint8_t udalopek_read_header(const uint8_t *packet, size_t packet_length, uint64_t bth[11], uint64_t extension[10]);
 
-/* Writes a header from such words. 39: no such header; 35: out too short. told: bytes written. */
+/* Writes a header from such words. 39: no such header; 35: out too short. report: bytes written. */
 uint8_t udalopek_write_header(const uint64_t bth[11], const uint64_t extension[10], uint8_t *out, size_t out_length,
-                              uint64_t told[1]);
+                              uint64_t report[1]);
 
 /* What a message asks for. */
 #define UDALOPEK_SEND 0
@@ -103,14 +105,14 @@ uint8_t udalopek_write_header(const uint64_t bth[11], const uint64_t extension[1
 #define UDALOPEK_CMP_SWAP 5
 #define UDALOPEK_FETCH_ADD 6
 
-/* Writes packet index of a message whose first packet has the PSN psn. 39: PMTU, service, kind, a number over 24 bits, READ or
- * atomic on UC; 34: a message over 1,048,576 bytes, no such packet in it; 35: out too short. Numbers that the kind has no
- * use for are not looked at; length is a READ's, swap is also what FetchAdd adds. told: bytes written, and the PSN of the
- * message after this one. */
+/* Writes packet index of a message whose first packet has the PSN psn. 39: PMTU, service, kind, a number over 24 bits,
+ * READ or atomic on UC; 34: a message over 1,048,576 bytes, no such packet in it; 35: out too short. Numbers that the
+ * kind has no use for are not looked at; length is a READ's, swap is also what FetchAdd adds. report: bytes written,
+ * and the PSN of the message after this one. */
 uint8_t udalopek_cut(uint8_t service, size_t pmtu, uint16_t pkey, uint32_t dest, uint32_t psn, size_t index,
                      uint8_t kind, uint64_t address, uint32_t key, uint32_t length, uint64_t swap, uint64_t compare,
                      uint32_t immediate, const uint8_t *message, size_t message_length, uint8_t *out,
-                     size_t out_length, uint64_t told[2]);
+                     size_t out_length, uint64_t report[2]);
 
 #ifdef __cplusplus
 }

@@ -172,7 +172,7 @@ pub fn pair_of(w: &[u64]) -> Pair
     }
 }
 
-// The words of a pair. As every number fits its field, they are not strange.
+// The words of a pair. As every number fits its field, they are not malformed.
 pub fn pair_words(q: Pair) -> [u64; PAIR]
     ensures { λ r. ⌜ r ≡ pairWords q ⌝ }
     ensures { λ r. ⌜ malformed r ≡ false ⌝ }

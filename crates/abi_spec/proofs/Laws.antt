@@ -38,7 +38,7 @@ pub let-in : LetIn
 unfolding malformed
 let-in w e = same-only w (pairWords (pairOf w)) (not-false (eqWords w (pairWords (pairOf w))) (malformed w) refl e)
 
--- words that are let in are as many as those of any pair
+-- words that are accepted are as many as those of any pair
 as-many : (w : List ℕ) → malformed w ≡ false → length w ≡ 30
 unfolding pairWords
 as-many w e = ap length (let-in w e)

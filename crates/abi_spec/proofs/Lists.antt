@@ -23,7 +23,7 @@ put-all [] (y ∷ ys) e = absurd (omega arith)
 put-all (x ∷ xs) [] e = absurd (omega arith)
 put-all (x ∷ xs) (y ∷ ys) e = ap (λ (l : List ℕ). x ∷ l) (put-all xs ys (omega arith))
 
--- two lists from a place on, where both have a word: equal words, then the rest
+-- two lists from a position on, where both have a word: equal words, then the rest
 pub same-next : (a b : List ℕ) (i : ℕ) → i < length a → i < length b → eqWords (drop i a) (drop i b) ≡ cond (eqb (getD a i 0) (getD b i 0)) (eqWords (drop (suc i) a) (drop (suc i) b)) false
 unfolding eqWords
 same-next [] b i h k = absurd (omega arith)
@@ -53,7 +53,7 @@ other-length (x ∷ xs) (y ∷ ys) n = ap (λ b. cond (eqb x y) b false) (other-
     either true = refl
     either false = refl
 
--- of the rows before n, from row i on: the one at hand is strange, or the rest decides
+-- of the rows before n, from row i on: the one at hand is malformed, or the rest decides
 module _ (rows : List (List ℕ)) (memory i n : ℕ) (h : i < n) where
   one-more : n - i ≡ suc (n - suc i)
   one-more = omega arith

@@ -22,7 +22,8 @@ use Rattle.abi_spec.specs.Fields.{bthFrom, bthWords, extensionFrom, exte
 abbrev pub SameIs : Type 0
 SameIs = (a b : List ℕ) → (eqWords a b ≡ true → a ≡ b) × (a ≡ b → eqWords a b ≡ true)
 
--- Words that are let in are the words of the pair that they say: what a call does to that pair is all that it does to them.
+-- Words that are accepted are the words of the pair that they say: what a call does to that pair is all that it does to
+-- them.
 abbrev pub LetIn : Type 0
 LetIn = (w : List ℕ) → malformed w ≡ false → w ≡ pairWords (pairOf w)
 
@@ -45,19 +46,20 @@ pub record PairFields (q : Pair) : Type 0 where
   pub msn : q .msn .0 < 2 ^ 32
   pub state : q .state < 2 ^ 8
 
--- Whatever the words, the pair that they say has such numbers. So words that are not those of any such pair are not let in.
+-- Whatever the words, the pair that they say has such numbers. So words that are not those of any such pair are not
+-- accepted.
 abbrev pub SaidFits : Type 0
 SaidFits = (w : List ℕ) → PairFields (pairOf w)
 
 abbrev pub OthersStrange : Type 0
 OthersStrange = (w : List ℕ) → ((q : Pair) → PairFields q → w ≡ pairWords q → ⊥) → malformed w ≡ true
 
--- The words of a pair say that pair, and are let in.
+-- The words of a pair say that pair, and are accepted.
 abbrev pub PairBack : Type 0
 PairBack = (q : Pair) → PairFields q → (pairOf (pairWords q) ≡ q) × (malformed (pairWords q) ≡ false)
 
--- A table of regions that calls made, with keys of 32 bits, has no strange row; and each row of a table that has none is free
--- or has the numbers of a region in memory.
+-- A table of regions that calls made, with keys of 32 bits, has no malformed row; and each row of a table that has none
+-- is free or has the numbers of a region in memory.
 abbrev pub RegionsLetIn : Type 0
 RegionsLetIn =
     (memory : ℕ) (rows : List (List ℕ)) → RegionsSound memory rows → ((i : ℕ) → i < 16 → getD (getD rows i []) 0 0 < 2 ^ 32)
@@ -76,7 +78,7 @@ RowsKnown =
     (memory : ℕ) (rows : List (List ℕ)) → malformedFrom rows memory 0 16 ≡ false
     → (i : ℕ) → i < 16 → Free (getD rows i []) ⊎ RegionNumbers memory (getD rows i [])
 
--- So one row that is neither makes the table strange.
+-- So one row that is neither makes the table malformed.
 abbrev pub RowStrange : Type 0
 RowStrange =
     (memory : ℕ) (rows : List (List ℕ)) (i : ℕ) → i < 16 → (Free (getD rows i []) ⊎ RegionNumbers memory (getD rows i []) → ⊥)

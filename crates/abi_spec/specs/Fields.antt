@@ -34,8 +34,8 @@ bthWords b =
     b .opcode ∷ bit (b .se) ∷ bit (b .migreq) ∷ b .pad ∷ b .tver ∷ b .pkey ∷ b .reserved8 ∷ b .dest ∷ bit (b .ackreq)
     ∷ b .reserved7 ∷ b .psn .0 ∷ []
 
--- The words after the BTH: which headers follow, by the number of their class; address, R_Key, DMA length, swap-or-add, compare,
--- syndrome, MSN, the value of AtomicAckETH, the immediate.
+-- The words after the BTH: which headers follow, by the number of their class; address, R_Key, DMA length, swap-or-add,
+-- compare, syndrome, MSN, the value of AtomicAckETH, the immediate.
 abbrev pub followsFrom : List ℕ → ℕ
 followsFrom w = word w 0
 

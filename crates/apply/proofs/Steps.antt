@@ -1,4 +1,4 @@
--- Laws of plain values behind the functions: numbers of packets, a part of a packet, an answer placed part by part.
+-- Laws of plain values behind the functions: numbers of packets, a part of a packet, an answer written part by part.
 use Prim.Native.Nat.{ℕ, _+_, _-_, _%_, _≤_, min}
 use mathlib.Core.Path.{_≡_, refl, sym, ap, subst, _∙_}
 use mathlib.Core.Bool.{Bool, true, false}

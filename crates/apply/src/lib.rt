@@ -1,5 +1,5 @@
 // What a decision does: to memory, to the saved atomics, to the pair, and the packet that it sends. The definitions and
-// their laws stand in the crate protocol.
+// their laws stand in the crate responder_spec.
 mod answer;
 mod state;
 

@@ -116,7 +116,7 @@ ready =
 unfoldable pub standing : Whole → List ℕ
 standing w = w .pair .state ∷ w .pair .entries .count ∷ regionOf (region .key) (w .regions)
 
--- memory of zeros, and an output whose bytes can be told from those of an answer
+-- memory of zeros, and an output whose bytes differ from those of an answer
 unfoldable pub zeros : List ℕ
 zeros = replicate 4096 0
 
@@ -186,7 +186,7 @@ said W12 =
     -- 1 8 1; entry 0 completed with 3 bytes and no immediate; the ACK; abc where it lies, and nothing else
     ++ (1 ∷ 8 ∷ 1 ∷ 16 ∷ 1 ∷ 0 ∷ 3 ∷ 0 ∷ 0 ∷ []
     ++ (ack ++ replicate 8 170 ++ replicate 2048 0 ++ abc ++ replicate 2045 0
-    -- 4 8 1; no completion; the ACK again; memory as it was
+    -- 4 8 1; no completion; the same ACK; memory as it was
     ++ (4 ∷ 8 ∷ 1 ∷ 16 ∷ 0 ∷ 0 ∷ 0 ∷ 0 ∷ 0 ∷ []
     ++ (ack ++ replicate 8 170 ++ replicate 2048 0 ++ abc ++ replicate 2045 0)))))
 

@@ -78,7 +78,7 @@ unfolding headerAt sizeAt packetsOf
 header-is c r n first i bytes count place low whole part bth x o k p s l b w y =
     simp (y, w, b, l, s, p, k, o)
 
--- the packet: part `span` of the message, written under the header h
+-- the packet: its part of the message, written under the header h
 pub refused : (c : Connection) (r : Request) (d out : List ℕ) (first : Psn) (i code : ℕ)
     → code ≡ cutRefusal c r (length d) (first .0) i → (code ≡ 0 → ⊥)
     → (Refused code ≡ cutWritten c r d first i (length out)) × (out ≡ cutOut c r d first i out)

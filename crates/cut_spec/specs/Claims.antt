@@ -144,8 +144,8 @@ CutJoins =
     (c : Connection) (r : Request) (d : List ℕ) (first : Psn) → Carrier r → Cuttable c r (length d) (first .0)
     → joined (λ i. payloadOf (cutBytes c r d first i)) 0 (packetsOf r (length d) (c .pmtu)) ≡ d
 
--- All packets but the last carry a full PMTU, and bytes are to come; the last carries no more, of several at least 1 byte,
--- and ends the message.
+-- All packets but the last carry a full PMTU, and bytes are to come; the last carries no more, of several at least 1
+-- byte, and ends the message.
 abbrev pub CutFull : Type 0
 CutFull =
     (c : Connection) (r : Request) (d : List ℕ) (first : Psn) (i : ℕ) → Cuttable c r (length d) (first .0)

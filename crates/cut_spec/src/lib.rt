@@ -1,5 +1,5 @@
-// Messages cut into packets: what a message is, and the definitions and laws of its cut. The code that cuts is the crate
-// cutting.
+// Messages cut into packets: what a message is, and the definitions and laws of its cut. The code that cuts is the
+// crate cut.
 use header::AtomicEth;
 use header::Reth;
 use sequence::Psn;

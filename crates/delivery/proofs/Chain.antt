@@ -1,5 +1,5 @@
--- What is known of the packets of a stream, by index: each stands in a permitted message, how one follows the other, and
--- which number it has.
+-- What is known of the packets of a stream, by index: each stands in a permitted message, how one follows the other,
+-- and which number it has.
 use Prim.Native.Nat.{ℕ, zero, suc, _+_, _%_, _^_, _≤_, _<_}
 use mathlib.Core.Path.{_≡_, refl, sym, subst, _∙_}
 use mathlib.Core.List.{List, [], _∷_, _++_}

@@ -71,7 +71,7 @@ none-is : (waiting : List Entry) → eqb (length waiting) 0 ≡ none waiting
 none-is [] = refl
 none-is (e ∷ es) = ne-eqb (length (e ∷ es)) 0 (λ z. absurd (omega arith))
 
--- the message of a packet: begun by the first, under way before all others
+-- the message of a packet: begun by the first, open before all others
 module _ (s : Setup) (regions : List (List ℕ)) (f : SetupFit s) (t : Slot) (h : Stands s regions t) (opened : OpenMessage) where
   starts-is : starts (placeFor t) ≡ eqb (t .index) 0
   starts-is = starts-at (packetCount (t .message)) (t .index) (h .outgoing .inside)

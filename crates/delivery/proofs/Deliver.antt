@@ -47,7 +47,7 @@ use Rattle.delivery.proofs.Checks.{none-pad, begun}
 use Rattle.delivery.proofs.Here.{here}
 use Rattle.delivery.proofs.Requests.{Single, Reads, read-single, reads-reads}
 
--- between two places of a stream, the numbers are as far apart as the places
+-- between two positions of a stream, the numbers are as far apart as the positions
 distance-is : (start x y : ℕ) → y ≤ x → x ≤ y + 8388607 → distance (after start x) (after start y) ≡ x - y
 distance-is start x y l h =
     let e : y + (x - y) ≡ x = omega arith in
@@ -64,7 +64,7 @@ module _ (ms : List Message) (S : List Slot) (p : Plain) (x : Run) (L : Link ms 
   fits : SetupFit (x .whole .pair .setup)
   fits = Y .pair .setup .0
 
-  -- nothing is sent, an ACK or NAK is sent, a saved value is sent: no more than the mark changes
+  -- nothing is sent, an ACK or NAK is sent, a saved value is sent: no more than the NAK mark changes
   pub dropped : (b : List ℕ) → Link ms S p (stepBy x (noReply status.Dropped) b)
   unfolding noReply statusNumber pairBy apply.after savedBy memoryBy actsAtomic
   dropped b = eases L (x .whole .pair .nakmark) (x .whole .pair .read) (p .r) (L .reads)
@@ -82,7 +82,7 @@ module _ (ms : List Message) (S : List Slot) (p : Plain) (x : Run) (L : Link ms 
   saved (Value v) psn b = eases L (x .whole .pair .nakmark) (x .whole .pair .read) (p .r) (L .reads)
   saved Nothing psn b = dropped b
 
-  -- ahead: nothing, or the mark
+  -- ahead: nothing, or the NAK mark
   early : (b : List ℕ) → Link ms S p (stepBy x (aheadDecision (x .whole .pair .nakmark) (x .whole .pair .expected)) b)
   unfolding aheadDecision
   early b = go (x .whole .pair .nakmark)
@@ -116,7 +116,7 @@ module _ (ms : List Message) (S : List Slot) (p : Plain) (x : Run) (L : Link ms 
     abbrev region : List ℕ
     region = regionFor (kindNumber (t .message .request)) (M .key) (x .whole .regions)
 
-    -- a READ that was executed before is answered again
+    -- a duplicate READ is answered
     module _ (O : Single (t .message .request)) (R : Reads (t .message .request)) (a : Reth) (ea : t .message .request ≡ Read a)
         (back : numberAlong S j + psnCount t ≤ numberAlong S (p .k)) (near : numberAlong S (p .k) ≤ numberAlong S j + 8388607) where
       zeroth : t .index ≡ 0

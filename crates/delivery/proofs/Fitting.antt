@@ -74,7 +74,7 @@ needs-is (Read a) place i count b e f g = rw g (and-false (ends place))
 needs-is (CmpSwap a) place i count b e f g = rw g (and-false (ends place))
 needs-is (FetchAdd t v) place i count b e f g = rw g (and-false (ends place))
 
--- what the key must hold is not less than what was placed
+-- what the key must hold is not less than what was stored
 abbrev pub Room : Request → ℕ → ℕ → Type 0
 Room Send off n = Unit {0}
 Room (SendImmediate v) off n = Unit {0}
@@ -183,7 +183,7 @@ pub add-bare : (padded address : ℕ) → padded ≡ 0 → address % 8 ≡ 0 →
 unfolding bareOff
 add-bare padded address e a = rw (eq-eqb padded 0 e, eq-eqb (address % 8) 0 a)
 
--- by the kind: a packet p of index i of count, which carries net bytes
+-- by the kind: a packet p of index i of count, which carries size bytes
 pub lengths-good : (r : Request) (s : Setup) (regions : List (List ℕ)) (p : Packet) (m : OpenMessage) (i count size n most : ℕ)
     → p .kind ≡ kindNumber r
     → p .padded ≡ size + p .pad

@@ -71,7 +71,7 @@ module _ (ms : List Message) (S : List Slot) (p : Plain) (x : Run) (L : Link ms 
   abbrev decides : Decision
   decides = expectedDecision (cutPacket t) (x .whole .pair .setup) (x .whole .pair .message) (x .whole .pair .entries .count) entry region
 
-  -- no entry: 19, and the mark
+  -- no entry: 19, and the NAK mark
   waits : (needsEntry t && none (p .waiting)) ≡ true → Link ms S p (stepBy x decides (packetAt t))
   unfolding expectedDecision checkedDecision failed acknowledging statusNumber pairBy apply.after savedBy memoryBy actsAtomic
   waits e =
@@ -80,7 +80,7 @@ module _ (ms : List Message) (S : List Slot) (p : Plain) (x : Run) (L : Link ms 
       (sym (unready (x .whole .pair .setup) (x .whole .pair .message) (cutPacket t) (x .whole .pair .entries .count) entry region passed (wanting ∙ e)))
       (eases L true (x .whole .pair .read) (p .r) (L .reads))
 
-  -- the checks let it through: it does what d does
+  -- it passes the checks: it does what d does
   goes : (d : Decision) → (needsEntry t && none (p .waiting)) ≡ false
       → Behind (x .whole .pair .setup) (x .whole .pair .message) (cutPacket t) entry region
       → execute (cutPacket t) M (x .whole .pair .message) entry region (x .whole .pair .setup .pmtu) ≡ d

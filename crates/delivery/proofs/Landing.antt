@@ -1,4 +1,4 @@
--- Where the bytes of a SEND's or WRITE's packet land, and when it tells of a completion: alike on both services.
+-- Where the bytes of a SEND's or WRITE's packet are stored, and when it reports a completion: alike on both services.
 use Prim.Native.Nat.{ℕ, suc, _+_, _*_, _≤_, _<_}
 use mathlib.Core.Path.{_≡_, refl, sym, ap, _∙_}
 use mathlib.Core.Bool.{Bool, true, false, cond, _&&_, _||_}
@@ -101,7 +101,7 @@ module _ (s : Setup) (regions : List (List ℕ)) (f : SetupFit s) (t : Slot) (H 
     pub write-long : cond (eqb (kindNumber (t .message .request)) 0) (M .stored + payloadSize (cutPacket t)) (M .length) ≡ length (t .message .bytes)
     write-long = ap (λ y. cond (eqb y 0) (M .stored + payloadSize (cutPacket t)) (M .length)) (Z .kind) ∙ (N .length ∙ Z .named (length (t .message .bytes)))
 
-    -- where bytes are to come, this packet has its place among them
+    -- where bytes are to come, this packet's offset is among them
     short : 0 < length (t .message .bytes) → off < length (t .message .bytes)
     short o = go (isLast t) refl
       where

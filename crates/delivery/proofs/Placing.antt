@@ -64,7 +64,7 @@ module _ (s : Setup) (regions : List (List ℕ)) (f : SetupFit s) (t : Slot) (h 
   unfolding payloadSize
   net-is = omega arith
 
-  -- the bytes placed are the message's piece
+  -- the bytes stored are the message's piece
   pub placing-bytes : (m : List ℕ)
       → memoryBy (storePayload (cutPacket t) M entry region) m (packetAt t)
       ≡ store m (targetOffset (kindNumber (t .message .request)) M entry region) (pieceAt (t .message .bytes) (t .message .connection .pmtu) (t .index))
@@ -89,7 +89,7 @@ module _ (s : Setup) (regions : List (List ℕ)) (f : SetupFit s) (t : Slot) (h 
       rw (ends-is s regions f t h opened held U ∙ e)
       (record { kind = N .kind; stored = omega (arith, N .stored, net-is, z .0); address = N .address; key = N .key; length = N .length })
 
-  -- what is told where a message with an entry ends
+  -- what is reported where a message with an entry ends
   module _ (e : Entry) (completing : completes (kindNumber (t .message .request)) (placeFor t) (cutPacket t .operands .immediate) ≡ (isLast t && takesEntry (t .message .request)))
       (number : (isLast t && takesEntry (t .message .request)) ≡ true → getD entry 0 0 ≡ e .number)
       (long : isLast t ≡ true → cond (eqb (kindNumber (t .message .request)) 0) (M .stored + payloadSize (cutPacket t)) (M .length) ≡ length (t .message .bytes)) where

@@ -22,7 +22,7 @@ use Rattle.delivery.specs.Plain.{Plain, withResponses}
 use Rattle.delivery.specs.Demand.{Run, AllLongEnough, entryOf}
 use Rattle.delivery.proofs.Operands.{addressOf, keyOf, namedOf}
 
--- the message u is of the kind k, with so many bytes placed, and names the bytes
+-- the message u is of the kind k, with so many bytes stored, and names the bytes
 pub record Is (k off at y n : ℕ) (u : OpenMessage) : Type 0 where
   pub kind : u .kind ≡ k
   pub stored : u .stored ≡ off
@@ -36,7 +36,7 @@ IsOf t u =
     Is (kindNumber (t .message .request)) (t .index * t .message .connection .pmtu) (addressOf (t .message .request)) (keyOf (t .message .request))
     (namedOf (t .message .request) (length (t .message .bytes))) u
 
--- a SEND under way holds an entry that takes it; nothing else holds one
+-- an open SEND holds an entry that takes it; nothing else holds one
 abbrev pub Holding : Request → ℕ → List Entry → Type 0
 Holding Send n held = (e : Entry) × (held ≡ e ∷ []) × (n ≤ e .length)
 Holding (SendImmediate v) n held = (e : Entry) × (held ≡ e ∷ []) × (n ≤ e .length)
@@ -79,7 +79,7 @@ stepBy x d b =
       completions = x .completions ++ reports (d .completion);
     }
 
--- another mark and another READ being answered
+-- another NAK mark and another READ being answered
 abbrev pub eased : Run → Bool → ReadAnswer → List Completion → Run
 eased x nakmark reads completions =
     record {
@@ -111,6 +111,6 @@ module _ {ms : List Message} {S : List Slot} {p : Plain} {x : Run} (L : Link ms 
         opened = L .opened;
       }
 
-  -- a decision that tells of no completion
+  -- a decision that reports no completion
   pub eases : Link ms S (withResponses p r) (eased x nakmark a (x .completions ++ []))
   eases = reads-on (x .completions ++ []) (append-nil (x .completions) ∙ L .completions)

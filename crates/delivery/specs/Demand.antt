@@ -30,7 +30,7 @@ use Rattle.delivery.specs.Stream.{Message, Slot, slot, stream, packetAt,
 use Rattle.delivery.specs.Plain.{Plain, Call, answerRoom, plainStep, plain, start}
 use Rattle.delivery.specs.Plain.Call.{Hand, Next, Post}
 
--- The pair's run: its tables, memory, and the completions told so far.
+-- The pair's run: its tables, memory, and the completions reported so far.
 pub record Run : Type 0 where
   pub whole : Whole
   pub memory : List ℕ
@@ -61,7 +61,7 @@ unfoldable pub run : List Slot → Run → List Call → Run
 run S x [] = x
 run S x (c ∷ cs) = run S (step S x c) cs
 
--- A fresh pair: made by calls, reliable, Ready, its regions in place, nothing delivered. Entries may wait.
+-- A fresh pair: made by calls, reliable, Ready, its regions added, nothing delivered. Entries may wait.
 pub record Fresh (w : Whole) : Type 0 where
   pub sound : WholeSound w
   pub reliable : w .pair .setup .service ≡ Service.rc
@@ -89,8 +89,8 @@ Allowed s regions (Read a) n = (s .read ≡ true) × InRegion regions (λ r. r .
 Allowed s regions (CmpSwap a) n = (s .atomic ≡ true) × InRegion regions (λ r. r .atomic) (a .key) (a .address) 8 × (a .address % 8 ≡ 0)
 Allowed s regions (FetchAdd t v) n = (s .atomic ≡ true) × InRegion regions (λ r. r .atomic) (t .key) (t .address) 8 × (t .address % 8 ≡ 0)
 
--- It comes to the pair: it is cut at the pair's PMTU, passes its header checks, is within the limits, each number within
--- its field
+-- It comes to the pair: it is cut at the pair's PMTU, passes its header checks, is within the limits, each number
+-- within its field
 pub record Addressed (s : Setup) (m : Message) : Type 0 where
   pub limit : InLimit (m .request) (length (m .bytes))
   pub service : m .connection .service ≡ s .service
@@ -126,13 +126,13 @@ abbrev pub AllLongEnough : List Message → List Entry → Type 0
 AllLongEnough ms [] = Unit {0}
 AllLongEnough ms (e ∷ es) = LongEnough ms e × AllLongEnough ms es
 
--- Two places along the stream, at most 8,388,607 numbers apart.
+-- Two positions along the stream, at most 8,388,607 numbers apart.
 pub record Near (x y : ℕ) : Type 0 where
   pub behind : y ≤ x + 8388607
   pub ahead : x ≤ y + 8388607
 
--- What is asked of a call, at the state p of the plain run. A packet handed in is one of the stream; where the call is not
--- refused, its number is near the one of packet k, which may be the next after the last.
+-- What is asked of a call, at the state p of the plain run. A packet handed in is one of the stream; where the call is
+-- not refused, its number is near the one of packet k, which may be the next after the last.
 pub record Handed (s : Setup) (S : List Slot) (p : Plain) (j : ℕ) (out : List ℕ) : Type 0 where
   pub inside : j < length S
   pub near : answerRoom ≤ length out → length (p .memory) ≡ s .memory → p .r ≡ 0 → Near (numberAlong S j) (numberAlong S (p .k))

@@ -1,4 +1,4 @@
--- The plain run: from the stream, the start and each call's arguments alone. It places from the message, and knows no
+-- The plain run: from the stream, the start and each call's arguments alone. It stores from the message, and knows no
 -- packet, no header, no answer.
 use Prim.Native.Nat.{ℕ, suc, _+_, _-_, _*_}
 use mathlib.Core.Bool.{Bool, true, false, cond, not, _&&_}
@@ -20,7 +20,7 @@ use Rattle.cut_spec.specs.declared.Request.the-variants.{Send, SendImmediate, W
 use Rattle.responder_spec.specs.declared.Completion.{Completion}
 use Rattle.delivery.specs.Stream.{packetCount, Slot, slot, psnCount}
 
--- k packets were executed; held is the entry of a SEND under way; r responses are still to send
+-- k packets were executed; held is the entry of an open SEND; r responses are still to send
 pub record Plain : Type 0 where
   pub k : ℕ
   pub memory : List ℕ
@@ -37,8 +37,8 @@ pub data Call : Type 0 where
   Next : List ℕ → Call
   Post : Entry → Call
 
--- a packet that needs an entry, by its index and the count of its message: the first of a SEND, the last of a WRITE with
--- immediate
+-- a packet that needs an entry, by its index and the count of its message: the first of a SEND, the last of a WRITE
+-- with immediate
 abbrev pub needsEntryAt : Request → ℕ → ℕ → Bool
 needsEntryAt Send i n = eqb i 0
 needsEntryAt (SendImmediate v) i n = eqb i 0
@@ -76,7 +76,7 @@ unfoldable pub regionOffset : List (List ℕ) → ℕ → ℕ → ℕ
 regionOffset regions key address =
     RegionRow.offset (regionOf key regions) + (address - RegionRow.address (regionOf key regions))
 
--- memory after packet i, of the entry e: piece i of the message at its place
+-- memory after packet i, of the entry e: piece i of the message at its offset
 abbrev pub memoryAfter : Request → List (List ℕ) → ℕ → List ℕ → ℕ → Entry → List ℕ → List ℕ
 memoryAfter Send regions pmtu d i e m = overwrite m (e .offset + i * pmtu) (pieceAt d pmtu i)
 memoryAfter (SendImmediate v) regions pmtu d i e m = overwrite m (e .offset + i * pmtu) (pieceAt d pmtu i)
@@ -145,7 +145,7 @@ executeWith regions p t e =
 abbrev pub executeNext : List (List ℕ) → Plain → Slot → Plain
 executeNext regions p t = cond (needsEntry t && none (p .waiting)) p (executeWith regions p t (firstOf (heldNow p t)))
 
--- packet j is delivered: packet k is executed, a READ before it is answered again, all else changes nothing
+-- packet j is delivered: packet k is executed, a READ before it, a duplicate, is answered, all else changes nothing
 abbrev pub deliver : List (List ℕ) → List Slot → Plain → ℕ → Plain
 deliver regions S p j =
     cond (eqb j (p .k)) (executeNext regions p (slot S j))

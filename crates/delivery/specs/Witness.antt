@@ -1,5 +1,5 @@
--- What is asked of the calls can be met: for every permitted stream whose SENDs fit in memory there is a list of calls that
--- executes every packet.
+-- What is asked of the calls can be met: for every permitted stream whose SENDs fit in memory there is a list of calls
+-- that executes every packet.
 use Prim.Native.Nat.{ℕ, zero, suc, _≤_}
 use mathlib.Core.Path.{_≡_}
 use mathlib.Core.List.{List, [], _∷_}

@@ -69,7 +69,7 @@ module _ (h : Header) (out : List ℕ) (u : Bool) (e : u ≡ not (headerFits h))
         r ∙ (ap (λ z. store z 12 (extensionBytes (h .extension))) (q ∙ ap (store out 0) p) ∙ (two-parts h out good n ∙ sym (D .1))),
       )
 
--- headers in two parts, b and c, the second placed behind the first
+-- headers in two parts, b and c, the second written behind the first
 pub in-two : (out b c m w : List ℕ) (e : Extension) (n : ℕ) → extensionBytes e ≡ b ++ c → 12 + length b ≡ n
     → 12 + length (extensionBytes e) ≤ length out → m ≡ store out 12 b → w ≡ store m n c
     → w ≡ store out 12 (extensionBytes e)

@@ -88,7 +88,7 @@ module _ (x : History) (k : Keeps x) where
   abbrev rows : List (List ℕ)
   rows = x .whole .entries
 
-  -- nothing posted, nothing told, the ring as it was
+  -- nothing posted, nothing reported, the ring as it was
   same : (told : List Completion) (new : Ring) → told ≡ x .completions → new ≡ q .entries → Kept (x .posted) told rows new
   same told new n e =
       record {
@@ -132,7 +132,7 @@ module _ (x : History) (k : Keeps x) where
             ∙ sym (append-assoc (k .completed) (row ∷ []) (inRing rows new)));
       }
 
-  -- what a call of the responder tells
+  -- what a call of the responder reports
   reported : (c : Completion) (new : Ring) → Uses (q .entries) rows c new → Kept (x .posted) (x .completions ++ reports c) rows new
   reported c new U = go (c .some) refl
     where

@@ -25,17 +25,18 @@ pub data Call : Type 0 where
   Inbound : (memory packet output : List ℕ) → Call
   Next : (memory output : List ℕ) → Call
 
--- The pair with its tables; since the last set-up or reset, the rows of the entries posted and what the host was told.
+-- The pair with its tables; since the last set-up or reset, the rows of the entries posted and what was reported to the
+-- host.
 pub record History : Type 0 where
   pub whole : Whole
   pub posted : List (List ℕ)
   pub completions : List Completion
 
--- Nothing posted yet, nothing told.
+-- Nothing posted yet, nothing reported.
 abbrev pub start : Whole → History
 start w = record { whole = w; posted = []; completions = [] }
 
--- A call that posts nothing and tells nothing, and leaves the pair and its tables so.
+-- A call that posts nothing and reports nothing, and leaves the pair and its tables so.
 abbrev pub goes : History → Whole → History
 goes x w = record { whole = w; posted = x .posted; completions = x .completions }
 
@@ -55,7 +56,7 @@ hosted x (PostEntry e) =
       completions = x .completions;
     }
 
--- A call of the responder, which may tell of a completion.
+-- A call of the responder, which may report a completion.
 abbrev pub tells : History → Whole → Completion → History
 tells x w c = record { whole = w; posted = x .posted; completions = x .completions ++ reports c }
 
@@ -79,13 +80,14 @@ held x = heldOf (x .whole .pair) (x .whole .entries)
 abbrev pub waiting : History → List (List ℕ)
 waiting x = waitingOf (x .whole .pair) (x .whole .entries)
 
--- Completed are those that the host was told of, each by its number and in that order.
+-- Completed are those reported to the host, each by its number and in that order.
 pub record PostingOrder (x : History) : Type 0 where
   pub completed : List (List ℕ)
   pub told : map (λ c. c .number) (x .completions) ≡ map (λ row. EntryRow.number row) completed
   pub order : x .posted ≡ completed ++ (held x ++ waiting x)
 
--- From any pair on that has no entries, and a table of 16 rows. Nothing is asked of the rest of the pair or of any bytes.
+-- From any pair on that has no entries, and a table of 16 rows. Nothing is asked of the rest of the pair or of any
+-- bytes.
 abbrev pub EntriesInOrder : Type 0
 EntriesInOrder =
     (w : Whole) (calls : List Call) → length (w .entries) ≡ 16 → w .pair .entries .count ≡ 0 → PostingOrder (ran (start w) calls)

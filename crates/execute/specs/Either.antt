@@ -1,5 +1,5 @@
--- The decision by the rules of either service, in the steps of the code: the request checks and the executing stand once
--- in it.
+-- The decision by the rules of either service, in the steps of the code: the request checks and the executing stand
+-- once in it.
 use Prim.Native.Nat.{ℕ}
 use mathlib.Core.Bool.{Bool, cond}
 use mathlib.Core.List.{List}

@@ -144,7 +144,8 @@ fn open_kind(uc: bool, place: u8, opened: OpenMessage) -> u8
 }
 
 // A packet whose PSN is the expected one, as on UC every PSN is: the request checks, then it is executed. Both services
-// pass here, so that the checks and the executing stand once in the compiled code; apart, a SEND takes some 15 ns longer.
+// pass here, so that the checks and the executing stand once in the compiled code; apart, a SEND takes some 15 ns
+// longer.
 pub fn decision(
     uc: bool,
     pair: Pair,

@@ -67,7 +67,7 @@ pub done : (h : Header) (out : List ℕ) → headerFits h ≡ true → headerLen
 unfolding writtenOut
 done h out e l = (answered h (length out) e l, rw (fine h (length out) e l))
 
--- the BTH placed, and then the headers after it
+-- the BTH written, and then the headers after it
 pub two-parts : (h : Header) (out : List ℕ) → headerFits h ≡ true → headerLength h ≤ length out
     → store (store out 0 (bthBytes (h .bth))) 12 (extensionBytes (h .extension)) ≡ headerBytes h ++ drop (headerLength h) out
 unfolding headerBytes

@@ -32,7 +32,7 @@ pkeysMatch theirs ours =
 unfoldable pub wrongService : ℕ → ℕ → Bool
 wrongService theirs ours = otherService theirs || not (eqb theirs ours)
 
--- the opcodes that a responder does not let through: responses
+-- the opcodes that a responder drops: responses
 unfoldable pub isResponse : ℕ → Bool
 isResponse low = leb Kind.readResponse low && leb low Kind.atomicAcknowledge
 

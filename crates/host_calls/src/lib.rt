@@ -48,7 +48,7 @@ fn fresh(setup: Setup) -> Pair
     }
 }
 
-// What a refused set-up gives in place of a pair: every call that takes a pair refuses it.
+// What a refused set-up gives instead of a pair: every call that takes a pair refuses it.
 pub fn blank() -> Pair
     ensures { λ r. ⌜ r ≡ blankPair ⌝ }
 {
@@ -112,7 +112,7 @@ pub fn reset(pair: Pair, regions: &mut [[u64; 7]; 16]) -> HostOutcome
     outcome(Status::Executed, next)
 }
 
-// Lets packets in.
+// The pair takes packets from now on.
 pub fn make_ready(pair: Pair) -> HostOutcome
     ensures { λ r. ⌜ r ≡ madeReady pair ⌝ }
 {

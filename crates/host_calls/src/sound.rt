@@ -65,7 +65,7 @@ pub fn ring_unsound(head: usize, count: usize) -> bool
     16 < count
 }
 
-// An open SEND holds an entry, and has placed no more than memory can have.
+// An open SEND holds an entry, and has stored no more than memory can have.
 fn send_unsound(stored: usize, entries: usize) -> bool
     ensures { λ r. ⌜ r ≡ sendUnsound stored entries ⌝ }
 {

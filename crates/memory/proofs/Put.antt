@@ -1,4 +1,4 @@
--- Laws of bytes placed in memory.
+-- Laws of bytes stored in memory.
 use Prim.Native.Nat.{ℕ, _+_, _-_, _≤_}
 use mathlib.Core.Path.{_≡_, refl, sym, ap, subst, _∙_}
 use mathlib.Core.Bool.{Bool, true, false, cond}
@@ -12,7 +12,7 @@ use borrow.Rule.Slice.PartMut.{putMid, midOf}
 use Rattle.memory.specs.Memory.{overwrite, store}
 use Rattle.memory.specs.Claims.{LengthKept, Found, BeforeKept, AfterKept, NothingOver}
 
--- what fits is placed
+-- what fits is stored
 pub placed-put : (m : List ℕ) (at : ℕ) (d : List ℕ) → at + length d ≤ length m → store m at d ≡ overwrite m at d
 unfolding store
 placed-put m at d h = rw (le-leb (at + length d) (length m) h)
@@ -42,7 +42,7 @@ beside d e x = rw (take-at d x (length d) refl, drop-append-add d x (length e), 
 front : (m : List ℕ) (at : ℕ) (d : List ℕ) → at + length d ≤ length m → length (take at m) ≡ at
 front m at d h = simp length-take (omega arith)
 
--- what was placed is there
+-- what was stored is there
 pub placed-found : Found
 unfolding overwrite
 placed-found m at d h =

@@ -1,4 +1,4 @@
--- What is proved of bytes placed in memory and of its words, each statement by a name; the proofs stand in
+-- What is proved of bytes stored in memory and of its words, each statement by a name; the proofs stand in
 -- proofs/Put.antt and proofs/Words.antt.
 use Prim.Native.Nat.{ℕ, _+_, _-_, _/_, _%_, _^_, _≤_, _<_}
 use mathlib.Core.Path.{_≡_}
@@ -11,7 +11,7 @@ use Rattle.memory.specs.Word.{lowBytes, lowNumber, wordAt, wordPut, fetc
 abbrev pub LengthKept : Type 0
 LengthKept = (m : List ℕ) (at : ℕ) (d : List ℕ) → length (store m at d) ≡ length m
 
--- Bytes that fit are found where they were placed, and none before or after them changed.
+-- Bytes that fit are found where they were stored, and none before or after them changed.
 abbrev pub Found : Type 0
 Found = (m : List ℕ) (at : ℕ) (d : List ℕ) → at + length d ≤ length m → take (length d) (drop at (store m at d)) ≡ d
 

@@ -290,7 +290,7 @@ pub fn uc_has(low: u8) -> bool
     low < READ
 }
 
-// The class of an opcode: the one place that knows what opcodes mean.
+// The class of an opcode: the one function that knows what opcodes mean.
 pub fn class(opcode: u8) -> OpcodeClass
     ensures { λ r. ⌜ r ≡ classOf opcode ⌝ }
 {

@@ -19,8 +19,8 @@ PadFills = (n : ℕ) → (n + padOf n) % 4 ≡ 0
 abbrev pub PadLeast : Type 0
 PadLeast = (n k : ℕ) → (n + k) % 4 ≡ 0 → padOf n ≤ k
 
--- What is written, in any output, reads as the header and the payload it was made of; behind them stands the pad, in zero
--- bytes.
+-- What is written, in any output, reads as the header and the payload it was made of; behind them stands the pad, in
+-- zero bytes.
 pub record Found (h : Header) (d p : List ℕ) : Type 0 where
   pub header : readHeader p ≡ Accepted h
   pub payload : payloadOf p ≡ d

@@ -22,8 +22,8 @@ packetBytes h d = headerBytes h ++ (d ++ replicate (padOf (length d)) 0)
 unfoldable pub packetLength : Header → ℕ → ℕ
 packetLength h n = headerLength h + (n + padOf n)
 
--- The refusal, or 0: no such header, or a PadCnt that is not the pad of the n bytes; over the longest packet; output too
--- short
+-- The refusal, or 0: no such header, or a PadCnt that is not the pad of the n bytes; over the longest packet; output
+-- too short
 unfoldable pub refusalBy : Bool → ℕ → ℕ → ℕ → ℕ → ℕ
 refusalBy unfit padcnt headers n room =
     cond unfit Refusal.badNumber

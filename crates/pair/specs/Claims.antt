@@ -106,8 +106,8 @@ SetupTested = (s : Setup) → (setupUnfit s ≡ false → SetupFit s) × (SetupF
 abbrev pub Tested : Type 0
 Tested = (q : Pair) → (pairUnsound q ≡ false → Sound q) × (Sound q → pairUnsound q ≡ false)
 
--- A fresh pair, field by field: Init, the numbers of the set-up, the start expected, MSN 0, no mark, no message open,
--- no entry, no READ being answered, no atomic saved.
+-- A fresh pair, field by field: Init, the numbers of the set-up, the start expected, MSN 0, no NAK mark, no message
+-- open, no entry, no READ being answered, no atomic saved.
 pub record AsSetUp (s : Setup) (q : Pair) : Type 0 where
   pub setup : q .setup ≡ s
   pub state : q .state ≡ 0
@@ -184,7 +184,7 @@ InUse key rows = (i : ℕ) × (i < 16) × HasKey key (getD rows i [])
 abbrev pub Full : List (List ℕ) → Type 0
 Full rows = (i : ℕ) → i < 16 → Free (getD rows i []) → ⊥
 
--- what may be added, if the table lets it
+-- what may be added, if the table has room
 abbrev pub Addable : Pair → Region → Type 0
 Addable q r = (q .state ≡ 2 → ⊥) × Sound q × RegionFits (q .setup .memory) r
 
@@ -220,7 +220,8 @@ AddDone =
     × (regionOf (r .key) (addRegions q rows r) ≡ regionRow r)
     × ((key : ℕ) → (key ≡ r .key → ⊥) → regionOf key (addRegions q rows r) ≡ regionOf key rows)
 
--- Remove region. In whatever table, it is the first row of the key that is emptied; in a sound one the key is then gone.
+-- Remove region. In whatever table, it is the first row of the key that is emptied; in a sound one the key is then
+-- gone.
 abbrev pub RemoveFirst : Type 0
 RemoveFirst =
     (rows : List (List ℕ)) (key i : ℕ) → i < 16 → First (HasKey key) rows i
@@ -327,8 +328,8 @@ pub record WholeSound (w : Whole) : Type 0 where
   pub saved : SavedSound (w .saved) (w .pair .saved)
   pub held : w .pair .message .kind ≡ 0 → w .pair .message .stored ≤ getD (getD (w .entries) (slotAt (w .pair .entries .head) 0) []) 2 0
 
--- Set-up makes them sound, whatever the tables held before; and so they are after every list of the host's calls in which
--- each set-up is accepted.
+-- Set-up makes them sound, whatever the tables held before; and so they are after every list of the host's calls in
+-- which each set-up is accepted.
 abbrev pub BegunSound : Type 0
 BegunSound =
     (s : Setup) (regions entries saved : List (List ℕ)) → SetupSound s → length entries ≡ 16 → length saved ≡ 16

@@ -21,7 +21,8 @@ noRead = record { remaining = 0; offset = 0; length = 0; psn = record { 0 = 0 };
 abbrev pub noRows : Ring
 noRows = record { head = 0; count = 0 }
 
--- Init, the numbers of the set-up, MSN 0, and nothing in any table, no message open, no READ being answered, no mark
+-- Init, the numbers of the set-up, MSN 0, and nothing in any table, no message open, no READ being answered, no NAK
+-- mark
 unfoldable pub freshPair : Setup → Pair
 freshPair s =
     record {

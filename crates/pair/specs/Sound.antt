@@ -18,7 +18,8 @@ use Rattle.pair.specs.Pair.{closed}
 abbrev pub memoryLimit : ℕ
 memoryLimit = 1048576
 
--- a bad number: no such PMTU or service, a number over 24 bits, a P_Key whose low 15 bits are zero, a timer code over 31
+-- a bad number: no such PMTU or service, a number over 24 bits, a P_Key whose low 15 bits are zero, a timer code over
+-- 31
 unfoldable pub setupUnfit : Setup → Bool
 setupUnfit s =
     not (pmtuFits (s .pmtu))
@@ -37,8 +38,8 @@ numbersUnsound state expected msn = ltb State.error state || (leb space expected
 unfoldable pub ringUnsound : ℕ → ℕ → Bool
 ringUnsound head count = leb 16 head || ltb 16 count
 
--- an open SEND holds an entry and has placed no more bytes than memory can have; an open WRITE has bytes to come, within
--- the limit, and the next of them has an address
+-- an open SEND holds an entry and has stored no more bytes than memory can have; an open WRITE has bytes to come,
+-- within the limit, and the next of them has an address
 unfoldable pub noEntry : ℕ → Bool
 noEntry entries = eqb entries 0
 
@@ -54,7 +55,8 @@ messageUnsound kind stored address length entries =
     (cond (eqb kind Kind.send) (sendUnsound stored entries)
     (cond (eqb kind Kind.write) (writeUnsound stored address length) true))
 
--- a READ being answered has no more responses remaining than it has at all, its bytes lie in memory, its numbers have 24 bits
+-- a READ being answered has no more responses remaining than it has at all, its bytes lie in memory, its numbers have
+-- 24 bits
 unfoldable pub readUnsound : ℕ → ℕ → ℕ → ℕ → ℕ → ℕ → ℕ → Bool
 readUnsound remaining offset length psn msn pmtu memory =
     cond (eqb remaining 0) false

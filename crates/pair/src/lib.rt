@@ -1,4 +1,5 @@
-// The queue pair: its numbers, its answers, and what its host's calls are to do. The calls themselves are the crate host.
+// The queue pair: its numbers, its answers, and what its host's calls are to do. The calls themselves are the crate
+// host_calls.
 mod answer;
 
 use sequence::Msn;
@@ -38,7 +39,7 @@ pub struct Setup {
     pub atomic: bool,
 }
 
-// A message of several packets that is under way: its kind, the bytes placed so far, and a WRITE's address, key and
+// An open message, of several packets: its kind, the bytes stored so far, and a WRITE's address, key and
 // DMA length as its First gave them.
 pub struct OpenMessage {
     pub kind: u8,
@@ -48,8 +49,8 @@ pub struct OpenMessage {
     pub length: usize,
 }
 
-// A READ that is being answered: how many responses are still to send, the bytes of memory that it reads, the PSN of its
-// first response, and the MSN that all of them carry.
+// A READ that is being answered: how many responses are still to send, the bytes of memory that it reads, the PSN of
+// its first response, and the MSN that all of them carry.
 pub struct ReadAnswer {
     pub remaining: usize,
     pub offset: usize,

@@ -20,7 +20,8 @@ Counts = (n pmtu : ℕ) → 0 < pmtu → Counted n pmtu (pieces n pmtu)
 abbrev pub Joins : Type 0
 Joins = (d : List ℕ) (pmtu : ℕ) → 0 < pmtu → joined (pieceAt d pmtu) 0 (pieces (length d) pmtu) ≡ d
 
--- Every piece but the last has PMTU bytes; the last has the rest, and of several at least 1; none has more than the PMTU.
+-- Every piece but the last has PMTU bytes; the last has the rest, and of several at least 1; none has more than the
+-- PMTU.
 abbrev pub Full : Type 0
 Full =
     (d : List ℕ) (pmtu i : ℕ) → 0 < pmtu → suc i < pieces (length d) pmtu

@@ -37,7 +37,7 @@ no-less length stored size h = go (leb (length - stored) size) refl
     go true e = let l : length - stored ≤ size = leb-true (length - stored) size e in sym (ap not (le-ltb (stored + size) length (omega arith)))
     go false e = let l : size < length - stored = leb-false (length - stored) size e in sym (ap not (lt-ltb (stored + size) length (omega arith)))
 
--- the bytes past a place in a region
+-- the bytes past an offset in a region
 pub past-left : (start length address n : ℕ) → start ≤ address → address - start ≤ length
     → ltb (length - (address - start)) n ≡ ltb (start + length) (address + n)
 past-left start length address n h k =

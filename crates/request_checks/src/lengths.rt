@@ -33,7 +33,7 @@ fn size_off(place: u8, pmtu: usize, size: usize) -> bool
     size != pmtu
 }
 
-// Whether placed and net bytes are more than most. No sum is made here or below, so that none wraps.
+// Whether stored and size bytes are more than most. No sum is made here or below, so that none wraps.
 fn over(stored: u64, size: u64, most: u64) -> bool
     ensures { λ r. ⌜ r ≡ ltb most (stored + size) ⌝ }
 {
@@ -43,7 +43,7 @@ fn over(stored: u64, size: u64, most: u64) -> bool
     most - stored < size
 }
 
-// Whether placed and net bytes are not all of a length.
+// Whether stored and size bytes are not all of a length.
 fn unequal(stored: usize, size: usize, length: usize) -> bool
     ensures { λ r. ⌜ r ≡ not (eqb (stored + size) length) ⌝ }
 {
@@ -53,7 +53,7 @@ fn unequal(stored: usize, size: usize, length: usize) -> bool
     length - stored != size
 }
 
-// Whether placed and net bytes leave none of a length to come.
+// Whether stored and size bytes leave none of a length to come.
 fn no_more(stored: usize, size: usize, length: usize) -> bool
     ensures { λ r. ⌜ r ≡ not (ltb (stored + size) length) ⌝ }
 {

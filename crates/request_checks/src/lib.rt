@@ -1,5 +1,5 @@
 // The request checks of a responder: tests on numbers, each naming the failing case, and their first failure as one
-// number. The definitions and their laws stand in the crate request.
+// number. The definitions and their laws stand in the crate request_spec.
 mod key;
 mod lengths;
 mod operands;

@@ -81,8 +81,9 @@ EntryInMemory kind immediate entry memory =
     (kind ≡ 0) ⊎ (immediate ≡ true)
     → getD entry 1 0 + getD entry 2 0 ≤ memory
 
--- A region gives n bytes at an address: the right in that column is there, the region lies in memory and ends below 2^64, the bytes lie in it.
--- A row is key, address, length, offset and the rights to write, 4, to read, 5, and to atomics, 6.
+-- A region gives n bytes at an address: the right in that column is there, the region lies in memory and ends below
+-- 2^64, the bytes lie in it. A row is key, address, length, offset and the rights to write, 4, to read, 5, and to
+-- atomics, 6.
 pub record Gives (region : List ℕ) (right memory address n : ℕ) : Type 0 where
   pub granted : 0 < getD region right 0
   pub within : getD region 3 0 + getD region 2 0 ≤ memory
@@ -114,7 +115,7 @@ pub record LengthsGood (p : Packet) (pmtu : ℕ) (m : OpenMessage) (most : ℕ) 
   pub bare : (p .kind ≡ 12) ⊎ IsAtomic (p .kind) → p .padded ≡ 0
   pub aligned : IsAtomic (p .kind) → m .address % 8 ≡ 0
 
--- The message that a packet is of, before the packet: its own operands with nothing placed, or the one under way.
+-- The message that a packet is of, before the packet: its own operands with nothing stored, or the open one.
 pub record IsCurrent (opened : OpenMessage) (p : Packet) (m : OpenMessage) : Type 0 where
   pub own : Begins (p .place)
       → m
@@ -162,8 +163,8 @@ LengthsTested =
     (p : Packet) (pmtu : ℕ) (m : OpenMessage) (most : ℕ) → Place (p .place) → Served (p .kind)
     → Tells (lengthsOff p pmtu m most) (LengthsGood p pmtu m most)
 
--- The code of eight conditions, in this order: the first that fails decides, whatever the later ones are; 0 if none does.
--- And back: each code says what held and what did not, and no other code comes.
+-- The code of eight conditions, in this order: the first that fails decides, whatever the later ones are; 0 if none
+-- does. And back: each code says what held and what did not, and no other code comes.
 pub record Judged (Sequence Function Pad Limit Waiting Inside Key Lengths : Type 0) (code : ℕ) : Type 0 where
   pub sequence : (Sequence → ⊥) → code ≡ 17
   pub function : Sequence → (Function → ⊥) → code ≡ 17

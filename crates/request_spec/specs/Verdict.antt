@@ -96,7 +96,8 @@ unfoldable pub keyFails : ℕ → ℕ → OpenMessage → List ℕ → Bool
 keyFails memory kind m region =
     keyLacking kind region memory (m .address + m .stored) (bytesToCome (m .length) (m .stored))
 
--- Lengths. Before the end of a message the PMTU is filled; at its end there is no more than that, and in a Last something
+-- Lengths. Before the end of a message the PMTU is filled; at its end there is no more than that, and in a Last
+-- something
 unfoldable pub sizeOff : ℕ → ℕ → ℕ → Bool
 sizeOff place pmtu size = cond (ends place) ((eqb place Place.last && eqb size 0) || ltb pmtu size) (not (eqb size pmtu))
 
@@ -121,7 +122,7 @@ lengthsOff p pmtu m most =
     (sizeOff (p .place) pmtu (payloadSize p) || totalOff (p .kind) (p .place) (m .stored) (payloadSize p) (m .length) most)
     (bareOff (p .kind) (p .padded) (m .address))
 
--- The message that a packet is of, as it is before the packet: it begins it, or it is under way
+-- The message that a packet is of, as it is before the packet: it begins it, or it is the open one
 unfoldable pub current : OpenMessage → Packet → OpenMessage
 current opened p =
     cond (starts (p .place))

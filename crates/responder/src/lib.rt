@@ -1,5 +1,5 @@
 // The two calls of a responder: a packet comes in, and the next response of a READ goes out. The definitions and their
-// laws stand in the crate protocol.
+// laws stand in the crate responder_spec.
 mod refuse;
 mod response;
 
@@ -27,7 +27,7 @@ pub(crate) fn unchanged(status: Status, pair: Pair) -> Outcome
     }
 }
 
-// What the caller is told of a decision, with the pair that it left.
+// The report of a decision to the caller, with the pair that it left.
 fn outcome_with(pair: Pair, d: Decision) -> Outcome
     ensures { λ r. ⌜ r ≡ outcomeWith pair d ⌝ }
 {
@@ -41,8 +41,8 @@ fn outcome_with(pair: Pair, d: Decision) -> Outcome
     }
 }
 
-// Takes a packet: the header checks, the decision, and what it does to memory, saved atomics, pair and output. The pair's
-// service says by whose rules it is decided.
+// Takes a packet: the header checks, the decision, and what it does to memory, saved atomics, pair and output. The
+// pair's service says by whose rules it is decided.
 pub fn inbound(
     pair: Pair,
     regions: &[[u64; 7]; 16],

@@ -180,7 +180,7 @@ unfolding aheadDecision statusNumber noReply acknowledging
 ahead-by true expected = record { quiet = λ e. refl; naks = λ e. absurd (true≢false e) }
 ahead-by false expected = record { quiet = λ e. absurd (true≢false (sym e)); naks = λ e. refl }
 
--- a READ again: the tests say so
+-- a duplicate READ: the tests say so
 is-on : (b : Bool) → not b ≡ false → b ≡ true
 is-on true h = refl
 is-on false h = sym h
@@ -325,7 +325,7 @@ packet-by q regions entries rows k t r S P K C =
           (duplicate-by q regions rows k t K (sym (current-one (q .message) k t P C)));
     }
 
--- what is sent again
+-- what a duplicate is answered with
 read-sent : (k : Packet) (q : Pair) (t : OpenMessage) (region : List ℕ) → duplicateRead k (q .setup) t (q .expected) region .outgoing ≡ 0
 unfolding duplicateRead noReply
 read-sent k q t region = go (duplicateReadFails k (q .setup) t (q .expected) region)

@@ -1,4 +1,5 @@
--- The codes of the request checks; 34 comes only from an entry that no call made. And what opcodes READs and atomics have.
+-- The codes of the request checks; 34 comes only from an entry that no call made. And what opcodes READs and atomics
+-- have.
 use Prim.Native.Nat.{ℕ, _+_, _-_, _≤_}
 use mathlib.Core.Path.{_≡_, refl, sym, ap, subst, _∙_}
 use mathlib.Core.Bool.{Bool, true, false, cond, not, _&&_, _||_, true≢false}

@@ -51,7 +51,7 @@ waits kind place opened count immediate h k = go (needsEntry kind place immediat
     go false h b k = absurd (true≢false (sym h))
 
 module _ (w : Whole) (W : Steady w) where
-  -- the message under way, where nothing completes
+  -- the open message, where nothing completes
   under-opens : Opens w false (w .pair .message)
   under-opens = go (W .pair .message)
     where

@@ -35,8 +35,8 @@ use Rattle.responder_spec.proofs.Views.{closes}
 abbrev pub beside : Whole → Pair → Whole
 beside w q = record { pair = q; regions = w .regions; entries = w .entries; saved = w .saved }
 
--- the pair is steady; a completion takes an entry that is there; an atomic and no other takes a row of those saved, and its
--- PSN has 24 bits
+-- the pair is steady; a completion takes an entry that is there; an atomic and no other takes a row of those saved, and
+-- its PSN has 24 bits
 pub record Leads (w : Whole) (d : Decision) : Type 0 where
   pub steady : Steady (beside w (pairBy (w .pair) d))
   pub entry : d .completion .some ≡ true → 1 ≤ w .pair .entries .count
@@ -56,7 +56,7 @@ Answering q a =
     × (a .psn .0 < 2 ^ 24)
     × (a .msn .0 < 2 ^ 24))
 
--- another state, mark and READ
+-- another state, NAK mark and READ
 pub with-steady : (w : Whole) (state : ℕ) (nakmark : Bool) (a : ReadAnswer) → Steady w → state ≤ 2 → Answering (w .pair) a
     → Steady (beside w (with (w .pair) state nakmark a))
 with-steady w state nakmark a W h r =
@@ -136,7 +136,7 @@ module _ (w : Whole) (W : Steady w) where
   unfolding acknowledging
   ack-leads s psn syndrome h = still-leads s 16 psn syndrome 0 h
 
-  -- a READ answered again
+  -- a duplicate READ answered
   pub again-leads : (at length responses : ℕ) (psn : Psn)
       → responses ≤ pieces length (w .pair .setup .pmtu) → at + length ≤ w .pair .setup .memory → psn .0 < 2 ^ 24
       → Leads w (beginRead status.DuplicateAnswered noMessage at length 0 false responses psn)
@@ -154,8 +154,8 @@ module _ (w : Whole) (W : Steady w) where
       go true = W .pair .read
       go false = inr (a, b, c, W .pair .msn)
 
--- Executed. The message that is then open: none; a SEND, with no completion made, which holds the entry at the head and has
--- placed no more than its length; a WRITE with bytes to come
+-- Executed. The message that is then open: none; a SEND, with no completion made, which holds the entry at the head and
+-- has stored no more than its length; a WRITE with bytes to come
 abbrev pub Opens : Whole → Bool → OpenMessage → Type 0
 Opens w some m =
     (m .kind ≡ 255)

@@ -56,7 +56,7 @@ pub data Late : Status → Type 0 where
   unread : Late status.Dropped
   outside : Late status.OutOfRange
 
--- what a READ asks for: so many bytes, at a place that its key's region says, in memory
+-- what a READ asks for: so many bytes, at an offset that its key's region says, in memory
 pub record Asks (memory : ℕ) (regions : List (List ℕ)) (p : Packet) (spots n : ℕ) : Type 0 where
   pub kind : p .kind ≡ 12
   pub length : n ≡ p .operands .length
@@ -234,7 +234,7 @@ module _ (Q : Status → Type 0) (shut : Q status.Dropped) (q : Pair) (regions e
   unfolding rcDecision
   rc-row = classed-row (psnClass (p .psn .0) (q .expected .0))
 
--- on the unreliable connection: quiet, abandoned, or placed
+-- on the unreliable connection: quiet, abandoned, or stored
 pub data UcRow (Q : Status → Type 0) (q : Pair) (p : Packet) : Decision → Type 0 where
   unheard : (a : Status) → Q a → UcRow Q q p (noReply a)
   abandon : (q .message .kind ≡ 255 → ⊥) → UcRow Q q p (noReply status.Abandoned)

@@ -1,4 +1,4 @@
--- Where the bytes of a message went, and what the host is told.
+-- Where the bytes of a message went, and what is reported to the host.
 use Prim.Native.Nat.{ℕ, _+_, _-_, _≤_, _<_}
 use mathlib.Core.Path.{_≡_, refl, sym, ap, subst, _∙_}
 use mathlib.Core.Bool.{Bool, true, false, cond, _||_}
@@ -47,7 +47,7 @@ use Rattle.responder_spec.proofs.Ways.Way.{away, places, exchanges, del
 use Rattle.responder_spec.proofs.Ways.{acts, regionBy, codeBy, decided-way, only-by, only-placed, payload-size, payload-is, ends-true, ends-false, few, which, which-atomic, region-is, or-true, and-false, Way}
 use Rattle.responder_spec.proofs.Views.{viewed, viewed-sound, current-closed}
 
--- Placing
+-- Storing
 module _ (q : Pair) (regions entries saved : List (List ℕ)) (m p : List ℕ) (S : Sound q) (n : length m ≡ q .setup .memory)
     (z : codeBy q regions entries (packetIn p) ≡ 0) where
   abbrev k : Packet

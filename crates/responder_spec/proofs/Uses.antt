@@ -87,7 +87,7 @@ completed k m number = go (ends (k .place)) (uses k)
     go true false h = absurd (true≢false (sym h))
     go false b h = absurd (true≢false (sym h))
 
--- the answers of a payload placed are none of the others
+-- the answers of a payload stored are none of the others
 few-apart : (b : Bool) → Other (statusNumber (cond b status.Acknowledged status.Executed)) → ⊥
 unfolding statusNumber
 few-apart true (inl e) = omega arith
@@ -108,7 +108,7 @@ module _ (q : Pair) (regions entries : List (List ℕ)) (k : Packet) where
       let C = checked (v .setup) (v .message) k (v .entries .count) (headEntry v entries) (regionBy v regions k) z in
       some-entry v k S (C .sequence) (C .waiting) u
 
-  -- a payload placed, whatever the answer and however many PSNs are taken
+  -- a payload stored, whatever the answer and however many PSNs are taken
   placed-uses : Sound q → (d : Decision) → leb (statusNumber (d .status)) 3 ≡ true
       → d .completion ≡ completionOf k M (getD entry 0 0)
       → (uses k ≡ true → 1 ≤ q .entries .count)

@@ -1,4 +1,5 @@
--- A packet of the unreliable connection meets the message that it leaves open: the laws of the reliable one serve there.
+-- A packet of the unreliable connection meets the message that it leaves open: the laws of the reliable one serve
+-- there.
 use Prim.Native.Nat.{ℕ, _+_, _%_}
 use mathlib.Core.Path.{_≡_, refl, sym, ap}
 use mathlib.Core.Bool.{Bool, true, false, cond, not, _&&_, _||_, true≢false}

@@ -1,4 +1,4 @@
--- The decisions that place a payload or execute an atomic, and what their bytes and places are.
+-- The decisions that store a payload or execute an atomic, and what their bytes and offsets are.
 use Prim.Native.Nat.{ℕ, _+_, _-_, _≤_, _<_}
 use mathlib.Core.Path.{_≡_, refl, sym, ap, subst, _∙_}
 use mathlib.Core.Bool.{Bool, true, false, cond, _&&_, _||_}
@@ -51,7 +51,7 @@ unfolding actsAtomic
 acts true = refl
 acts false = refl
 
--- every decision but those that place a payload or execute an atomic has another answer
+-- every decision but those that store a payload or execute an atomic has another answer
 abbrev pub Other : ℕ → Type 0
 Other n = (n ≡ 2) ⊎ (4 ≤ n)
 

@@ -1,5 +1,5 @@
 -- Which answer the inbound call gives, and where the bytes of a message went; the proofs stand in proofs/.
--- The conditions are those of the request crate's claims, in plain numbers.
+-- The conditions are those of the claims of request_spec, in plain numbers.
 use Prim.Native.Nat.{ℕ, _+_, _-_, _≤_, _<_}
 use mathlib.Core.Path.{_≡_}
 use mathlib.Core.Bool.{Bool, true, false}
@@ -64,13 +64,13 @@ pub record Expects (q : Pair) (regions entries : List (List ℕ)) (k : Packet) (
   pub asked : code ≡ 0 → Carries (k .kind) → k .ackreq ≡ true → number ≡ 1
   pub unasked : code ≡ 0 → Carries (k .kind) → k .ackreq ≡ false → number ≡ 0
 
--- A PSN ahead: quiet where the mark stands, else a sequence NAK.
+-- A PSN ahead: quiet where the NAK mark stands, else a sequence NAK.
 pub record Aheads (marked : Bool) (number : ℕ) : Type 0 where
   pub quiet : marked ≡ true → number ≡ 5
   pub naks : marked ≡ false → number ≡ 16
 
--- A READ that may be answered again: reading is on, no more bytes are named than may be, none are carried, the key still
--- gives them, and none of the responses has the expected PSN or a later one.
+-- A duplicate READ that is answered: reading is on, no more bytes are named than may be, none are carried, the key
+-- still gives them, and none of the responses has the expected PSN or a later one.
 pub record Again (q : Pair) (regions : List (List ℕ)) (k : Packet) (t : OpenMessage) : Type 0 where
   pub on : q .setup .read ≡ true
   pub limit : t .length ≤ 1048576
@@ -79,7 +79,7 @@ pub record Again (q : Pair) (regions : List (List ℕ)) (k : Packet) (t : OpenMe
   pub key : GivesRest (regionOf (t .key) regions) 5 (q .setup .memory) t
   pub before : pieces (t .length) (q .setup .pmtu) ≤ distance (q .expected .0) (k .psn .0)
 
--- A repeated packet: SEND and WRITE 4, a READ that is answered again 4, an atomic whose value is saved 4; all else 5.
+-- A duplicate: SEND and WRITE 4, a READ that is answered 4, an atomic whose value is saved 4; all else 5.
 pub record Repeats (q : Pair) (regions saved : List (List ℕ)) (k : Packet) (t : OpenMessage) (number : ℕ) : Type 0 where
   pub carried : Carries (k .kind) → number ≡ 4
   pub reads : k .kind ≡ 12 → Again q regions k t → number ≡ 4
@@ -101,7 +101,7 @@ HeaderPassed =
     → (t : OpenMessage) → IsCurrent (q .message) (packetOf h (length p)) t
     → Classed q regions entries saved (packetOf h (length p)) t (statusNumber (inbound q regions entries saved m p out .status))
 
--- What a repeated packet is answered with, by the kind of the packet: an ACK of 16 bytes, nothing but responses to come, a
+-- What a duplicate is answered with, by its kind: an ACK of 16 bytes, nothing but responses to come, a
 -- saved value in 24 bytes. InboundReplies says what stands in them.
 pub record SentAgain (q : Pair) (saved : List (List ℕ)) (k : Packet) (outgoing : ℕ) : Type 0 where
   pub carried : Carries (k .kind) → outgoing ≡ 16
@@ -119,7 +119,7 @@ RepeatedSent =
 abbrev pub packetIn : List ℕ → Packet
 packetIn p = packetOf (headerOf p) (length p)
 
--- Why a repeated packet is answered again, and how a packet comes: its header passes, and the class of its PSN.
+-- Why a duplicate is answered, and how a packet comes: its header passes, and the class of its PSN.
 abbrev pub Recalled : Pair → List (List ℕ) → List (List ℕ) → Packet → OpenMessage → Type 0
 Recalled q regions saved k t =
     Carries (k .kind)
@@ -160,7 +160,7 @@ pub record OnlyBytes (old new : List ℕ) (offset n : ℕ) : Type 0 where
   pub before : take offset new ≡ take offset old
   pub after : drop (offset + n) new ≡ drop (offset + n) old
 
--- A SEND's payload stands in its entry, behind the bytes already placed, and nothing outside the entry changed.
+-- A SEND's payload stands in its entry, behind the bytes already stored, and nothing outside the entry changed.
 pub record InEntry (entry : List ℕ) (memory done : ℕ) (payload old new : List ℕ) : Type 0 where
   pub lies : getD entry 1 0 + getD entry 2 0 ≤ memory
   pub fits : done + length payload ≤ getD entry 2 0
@@ -175,7 +175,7 @@ pub record InRegion (region : List ℕ) (memory address rest : ℕ) (payload old
   pub stands : new ≡ store old (getD region 3 0 + (address - getD region 1 0)) payload
   pub only : OnlyBytes old new (getD region 3 0) (getD region 2 0)
 
--- The host is told of an entry's number, of so many bytes, and of the packet's immediate.
+-- The report to the host: an entry's number, so many bytes, and the packet's immediate.
 pub record Completes (k : Packet) (number n : ℕ) (c : Completion) : Type 0 where
   pub some : c .some ≡ true
   pub entry : c .number ≡ number
@@ -208,8 +208,8 @@ InboundPuts =
     → AnswersWith q regions entries saved m p out 0 ⊎ AnswersWith q regions entries saved m p out 1
     → Puts q regions entries m p (packetIn p) t (inboundLeft q regions entries saved m p out)
 
--- Answer 3: the word lies in the region of the atomic's key, which has the right, at the atomic's address, a multiple of 8.
--- What it was is saved with the PSN, so by InboundReplies it is also what was answered.
+-- Answer 3: the word lies in the region of the atomic's key, which has the right, at the atomic's address, a multiple
+-- of 8. What it was is saved with the PSN, so by InboundReplies it is also what was answered.
 pub record OnRegion (region : List ℕ) (q : Pair) (k : Packet) (old new : List ℕ) (rows kept : List (List ℕ)) : Type 0 where
   pub kind : IsAtomic (k .kind)
   pub gives : Gives region 6 (q .setup .memory) (k .operands .address) 8

@@ -54,7 +54,7 @@ readBy d old msn =
     cond (eqb (d .responses) 0) old
     (record { remaining = d .responses; offset = d .at; length = d .length; psn = d .psn; msn = msn })
 
--- executed: the expected PSN moves on, and the mark is cleared
+-- executed: the expected PSN moves on, and the NAK mark is cleared
 unfoldable pub executedPair : Pair → Decision → Pair
 executedPair q d =
     record {
@@ -69,7 +69,7 @@ executedPair q d =
       saved = savedRingBy (q .saved) (d .act);
     }
 
--- the same pair with another state, mark and READ being answered
+-- the same pair with another state, NAK mark and READ being answered
 abbrev pub with : Pair → ℕ → Bool → ReadAnswer → Pair
 with q state nakmark reads =
     record {
@@ -99,8 +99,8 @@ closing q =
       saved = q .saved;
     }
 
--- What each answer leaves: the first four as executed; a duplicate may begin a READ's answer; two NAKs set the mark, two
--- are the Error state; abandoning closes the message; all others leave nothing
+-- What each answer leaves: the first four as executed; a duplicate may begin a READ's answer; two NAKs set the NAK
+-- mark, two are the Error state; abandoning closes the message; all others leave nothing
 unfoldable pub after : Pair → Decision → ℕ → Pair
 after q d number =
     cond (leb number Number.atomicExecuted) (executedPair q d)

@@ -22,6 +22,6 @@ unfoldable pub drained : Whole → List ℕ → List ℕ → Whole
 drained w m out =
     record { pair = nextResponse (w .pair) m out .pair; regions = w .regions; entries = w .entries; saved = w .saved }
 
--- what the host is told of by a call: one completion or none
+-- what a call reports to the host: one completion or none
 abbrev pub reports : Completion → List Completion
 reports c = cond (c .some) (c ∷ []) []

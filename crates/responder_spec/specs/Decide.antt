@@ -83,7 +83,7 @@ atomicAckLength = ackLength + Length.atomicAckEth
 unfoldable pub acknowledging : Status → Psn → ℕ → Decision
 acknowledging answer psn syndrome = replyOnly answer ackLength psn syndrome 0
 
--- Ahead: the first time a sequence NAK with the expected PSN, while the mark stands nothing
+-- Ahead: the first time a sequence NAK with the expected PSN, while the NAK mark stands nothing
 unfoldable pub aheadDecision : Bool → Psn → Decision
 aheadDecision nakmark expected =
     cond nakmark (noReply status.Dropped) (acknowledging status.SequenceNak expected Syndrome.sequence)
@@ -118,7 +118,7 @@ messageAfter place m size =
     cond (ends place) noMessage
     (record { kind = m .kind; stored = m .stored + size; address = m .address; key = m .key; length = m .length })
 
--- where the next bytes of a message go: behind those placed, in the entry or in the region
+-- where the next bytes of a message go: behind those stored, in the entry or in the region
 unfoldable pub targetOffset : ℕ → OpenMessage → List ℕ → List ℕ → ℕ
 targetOffset kind m entry region =
     cond (eqb kind Kind.send) (EntryRow.offset entry + m .stored)
@@ -213,12 +213,12 @@ unfoldable pub expectedDecision : Packet → Setup → OpenMessage → ℕ → L
 expectedDecision p s opened count entry region =
     checkedDecision (expectedCode s opened p count entry region) p s opened entry region
 
--- A repeated SEND or WRITE is acknowledged up to the PSN before the expected one
+-- A duplicate SEND or WRITE is acknowledged up to the PSN before the expected one
 unfoldable pub psnBefore : Psn → Psn
 psnBefore psn = psnAfter psn (space - 1)
 
--- A repeated READ is not answered if reading is off, if it names too many bytes or carries any, if its key does not hold
--- them, or if a response would have the expected PSN or a later one
+-- A duplicate READ is not answered if reading is off, if it names too many bytes or carries any, if its key does not
+-- hold them, or if a response would have the expected PSN or a later one
 unfoldable pub duplicateReadFails : Packet → Setup → OpenMessage → Psn → List ℕ → Bool
 duplicateReadFails p s m expected region =
     notEnabled s Kind.read
@@ -233,7 +233,7 @@ duplicateRead p s m expected region =
     cond (duplicateReadFails p s m expected region) (noReply status.Dropped)
     (beginRead status.DuplicateAnswered noMessage (memoryOffset region (m .address) (m .length)) (m .length) 0 false (pieces (m .length) (s .pmtu)) (p .psn))
 
--- A repeated atomic is answered from what was saved, or not at all
+-- A duplicate atomic is answered from what was saved, or not at all
 abbrev pub duplicateAtomic : Saved → Psn → Decision
 duplicateAtomic (Value v) psn = replyOnly status.DuplicateAnswered atomicAckLength psn Syndrome.ack v
 duplicateAtomic Nothing psn = noReply status.Dropped
@@ -280,13 +280,13 @@ unfoldable pub strays : Packet → Psn → ℕ → Bool
 strays p expected opened =
     not (starts (p .place)) && (not (eqb (distance (p .psn .0) (expected .0)) 0) || not (eqb opened (p .kind)))
 
--- The message under which a packet is checked: what begins a message has closed the one before, whose entry, still first
--- in the ring, then counts as waiting
+-- The message under which a packet is checked: what begins a message has closed the one before, whose entry, still
+-- first in the ring, then counts as waiting
 unfoldable pub closedBy : ℕ → OpenMessage → OpenMessage
 closedBy place opened = cond (starts place) noMessage opened
 
--- A check failed: no NAK. A message that was open when the packet came is abandoned; if none was, the packet is dropped.
--- Out of range, for an entry that no call made, is the caller's mistake and abandons nothing
+-- A check failed: no NAK. A message that was open when the packet came is abandoned; if none was, the packet is
+-- dropped. Out of range, for an entry that no call made, is the caller's mistake and abandons nothing
 unfoldable pub abandoning : ℕ → ℕ → Decision
 abandoning code opened =
     cond (eqb code Number.outOfRange) (noReply status.OutOfRange)
@@ -320,7 +320,7 @@ abbrev pub unanswered : ℕ → Decision → Decision
 unanswered psns d = answered false psns d
 
 -- Executed: the PSNs from the expected one up to the packet's own count as taken, so that the one behind it is expected
--- next. The header checks let no other kind than SEND and WRITE come so far
+-- next. Only SEND and WRITE pass the header checks
 unfoldable pub ucExecute : Packet → Psn → OpenMessage → List ℕ → List ℕ → Decision
 ucExecute p expected m entry region =
     cond (carrying (p .kind))
@@ -355,8 +355,8 @@ orDrop (read.Dropped reason) f = noReply status.Dropped
 unfoldable pub readsFull : Pair → Bool
 readsFull q = not (eqb (q .read .remaining) 0)
 
--- Refused, before the packet is looked at: an output with no room for an Atomic Acknowledge, memory of another length than
--- was set up, or a pair that no call made, and any packet while a READ is unfinished
+-- Refused, before the packet is looked at: an output with no room for an Atomic Acknowledge, memory of another length
+-- than was set up, or a pair that no call made, and any packet while a READ is unfinished
 unfoldable pub inboundRefusal : Pair → ℕ → ℕ → Status
 inboundRefusal q memory room =
     cond (ltb room atomicAckLength) status.OutputShort

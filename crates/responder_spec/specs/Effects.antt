@@ -26,7 +26,8 @@ use Rattle.responder_spec.specs.declared.Outcome.{Outcome}
 use Rattle.responder_spec.specs.Inbound.{inbound, inboundMemory, inboundSaved, inboundOut}
 use Rattle.responder_spec.specs.Response.{nextResponse, nextBytes, nextOut}
 
--- All that a call leaves: the number of its answer, the pair, what the host is told, the bytes sent, and what was lent.
+-- All that a call leaves: the number of its answer, the pair, the report to the host, the bytes sent, and what was
+-- lent.
 pub record Left : Type 0 where
   pub number : ℕ
   pub pair : Pair
@@ -83,7 +84,7 @@ pub record Fixed (old new : Pair) : Type 0 where
   pub entries : new .entries ≡ old .entries
   pub saved : new .saved ≡ old .saved
 
--- The mark is set, and that is all; 16 bytes are sent.
+-- The NAK mark is set, and that is all; 16 bytes are sent.
 pub record MarkAlone (q : Pair) (rows : List (List ℕ)) (bytes : List ℕ) (l : Left) : Type 0 where
   pub nakmark : l .pair .nakmark ≡ true
   pub fixed : Fixed q (l .pair)
@@ -128,7 +129,7 @@ pub record Repeated (q : Pair) (regions rows : List (List ℕ)) (bytes p output 
   pub answer : AnsweredOr q regions p output l
 
 -- 6: a message was open and is closed, and that is all. The ring of entries is as before: an entry that was held is its
--- first still, and so waits again. Bytes placed before stay.
+-- first still, and so waits again. Bytes stored before stay.
 pub record Abandons (q : Pair) (rows : List (List ℕ)) (bytes output : List ℕ) (l : Left) : Type 0 where
   pub opened : q .message .kind ≡ 255 → ⊥
   pub message : l .pair .message ≡ (record { kind = 255; stored = 0; address = 0; key = 0; length = 0 })
@@ -144,15 +145,15 @@ pub record Abandons (q : Pair) (rows : List (List ℕ)) (bytes output : List ℕ
   pub outgoing : l .outgoing ≡ 0
   pub out : l .out ≡ output
 
--- Executed: the mark is cleared, set-up and state stay.
+-- Executed: the NAK mark is cleared, set-up and state stay.
 pub record Executes (old new : Pair) : Type 0 where
   pub nakmark : new .nakmark ≡ false
   pub setup : new .setup ≡ old .setup
   pub state : new .state ≡ old .state
 
--- The packet's payload was placed, where memory has room for it; atomics and READs are as before. The expected PSN moves on
--- by 1 on RC; on UC, service 1, it is the packet's plus 1, whatever it was.
--- A Last or Only, place 2 or 4, raises the MSN and leaves no message open; what completes has used up the first entry.
+-- The packet's payload was stored, where memory has room for it; atomics and READs are as before. The expected PSN
+-- moves on by 1 on RC; on UC, service 1, it is the packet's plus 1, whatever it was. A Last or Only, place 2 or 4,
+-- raises the MSN and leaves no message open; what completes has used up the first entry.
 pub record Places (q : Pair) (rows : List (List ℕ)) (bytes p : List ℕ) (l : Left) : Type 0 where
   pub executed : Executes q (l .pair)
   pub expected : (q .setup .service ≡ 1 → ⊥) → l .pair .expected ≡ psnAfter (q .expected) 1
@@ -217,8 +218,8 @@ InboundTable =
     (q : Pair) (regions entries saved : List (List ℕ)) (m p out : List ℕ)
     → Table q regions saved m p out (inboundLeft q regions entries saved m p out)
 
--- No other number comes: never 6 on RC; on UC, service 1, none that stands for an ACK, a READ, an atomic, a duplicate or a
--- NAK.
+-- No other number comes: never 6 on RC; on UC, service 1, none that stands for an ACK, a READ, an atomic, a duplicate
+-- or a NAK.
 abbrev pub OneOf : List ℕ → ℕ → Type 0
 OneOf [] n = ⊥
 OneOf (k ∷ ks) n = (n ≡ k) ⊎ OneOf ks n

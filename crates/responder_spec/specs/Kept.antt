@@ -20,8 +20,8 @@ InboundSound = (w : Whole) (m p out : List ℕ) → Bytes m → Bytes p → Whol
 abbrev pub NextSound : Type 0
 NextSound = (w : Whole) (m out : List ℕ) → WholeSound w → WholeSound (drained w m out)
 
--- The same but for the values that are saved, which are those found in memory: so of memory nothing is asked, and of the
--- packet only that its PSN has 24 bits.
+-- The same but for the values that are saved, which are those found in memory: so of memory nothing is asked, and of
+-- the packet only that its PSN has 24 bits.
 pub record Steady (w : Whole) : Type 0 where
   pub pair : Sound (w .pair)
   pub regions : RegionsSound (w .pair .setup .memory) (w .regions)

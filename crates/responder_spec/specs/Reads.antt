@@ -101,8 +101,8 @@ unfoldable pub flat : List (List ℕ) → List ℕ
 flat [] = []
 flat (d ∷ ds) = d ++ flat ds
 
--- With room enough each time, the calls answer 0 and write response after response; then none remains, nothing else of the
--- pair has moved, and the payloads are the bytes asked for.
+-- With room enough each time, the calls answer 0 and write response after response; then none remains, nothing else of
+-- the pair has moved, and the payloads are the bytes asked for.
 pub record Drains (q : Pair) (bytes : List ℕ) (outs : List (List ℕ)) : Type 0 where
   pub done : (i : ℕ) → i < length outs → getD (drain q bytes outs .psns) i 1 ≡ 0
   pub written : (i : ℕ) → i < length outs → getD (drain q bytes outs .packets) i [] ≡ responseBytes (q .setup) (q .read) bytes i
@@ -120,8 +120,8 @@ ReadDrained =
     → ((i : ℕ) → i < length outs → 16 + q .setup .pmtu ≤ length (getD outs i []))
     → Drains q m outs
 
--- So a READ that is accepted, 2, or answered again, 4 with nothing sent, is served by as many calls as it has responses,
--- from memory as it was when it was accepted. That the pair left is sound is proved on its own.
+-- So a READ that is accepted, 2, or a duplicate answered, 4 with nothing sent, is served by as many calls as it has
+-- responses, from memory as it was when it was accepted. That the pair left is sound is proved on its own.
 abbrev pub ReadServed : Type 0
 ReadServed =
     (q : Pair) (regions entries saved : List (List ℕ)) (m p out : List ℕ) (outs : List (List ℕ))

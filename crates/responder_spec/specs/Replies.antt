@@ -32,8 +32,8 @@ pub record ValueSent (q : Pair) (output : List ℕ) (l : Left) (psn : Psn) (valu
       ≡ Accepted (plainHeader (q .setup) 18 0 psn (AtomicAcknowledge (record { syndrome = 31; msn = l .pair .msn }) value))
   pub behind : drop 24 (l .out) ≡ drop 24 output
 
--- By the answer's number: syndrome and PSN; an atomic answers the word that it found, and saves it; a repeated one answers
--- the value saved.
+-- By the answer's number: syndrome and PSN; an atomic answers the word that it found, and saves it; a duplicate one
+-- answers the value saved.
 pub record Replies (q : Pair) (rows : List (List ℕ)) (bytes p output : List ℕ) (l : Left) : Type 0 where
   pub acknowledged : l .number ≡ 1 → AckSent q output l (bthOf p .psn) 31
   pub swapped : l .number ≡ 3

@@ -53,7 +53,7 @@ answerBytes s d msn value =
     cond (eqb (d .outgoing) ackLength) (headerBytes (ackHeader s (d .psn) (d .syndrome) msn))
     (cond (eqb (d .outgoing) atomicAckLength) (headerBytes (atomicHeader s (d .psn) (d .syndrome) msn value)) [])
 
--- an atomic answers the old value, a repeated one the saved value
+-- an atomic answers the old value, a duplicate one the saved value
 unfoldable pub valueBy : Decision → List ℕ → ℕ
 valueBy d m = cond (actsAtomic (d .act)) (wordAt m (d .at)) (d .value)
 

@@ -56,8 +56,8 @@ responseBytes s a m i =
 abbrev pub responseHeaders : ℕ
 responseHeaders = Length.bth + Length.aeth
 
--- Refused: none is pending, the output is too short for headers and a PMTU, memory has another length than was set up, or
--- no call made the pair
+-- Refused: none is pending, the output is too short for headers and a PMTU, memory has another length than was set up,
+-- or no call made the pair
 unfoldable pub nextStatus : Pair → ℕ → ℕ → Status
 nextStatus q memory room =
     cond (eqb (q .read .remaining) 0) status.WrongState

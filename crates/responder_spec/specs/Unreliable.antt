@@ -1,5 +1,6 @@
--- Which answer the inbound call gives on the unreliable connection, UC, which is service 1, and what it never does there;
--- the proofs stand in proofs/. The conditions are in plain numbers, those of the checks as in the request crate's claims.
+-- Which answer the inbound call gives on the unreliable connection, UC, which is service 1, and what it never does
+-- there; the proofs stand in proofs/. The conditions are in plain numbers, those of the checks as in the claims of
+-- request_spec.
 use Prim.Native.Nat.{ℕ, _%_}
 use mathlib.Core.Path.{_≡_}
 use mathlib.Core.Bool.{false}
@@ -32,8 +33,8 @@ UcKinds =
 abbrev pub Strays : Pair → Packet → Type 0
 Strays q k = (k .psn .0 % 16777216 ≡ q .expected .0 % 16777216 → ⊥) ⊎ (q .message .kind ≡ k .kind → ⊥)
 
--- The message that a packet meets when it is checked. A First or Only has closed what was open, so it meets none, and the
--- entry that was held waits for it; a Middle or Last that does not stray meets the open message.
+-- The message that a packet meets when it is checked. A First or Only has closed what was open, so it meets none, and
+-- the entry that was held waits for it; a Middle or Last that does not stray meets the open message.
 pub data CheckedUnder (q : Pair) (k : Packet) : OpenMessage → Type 0 where
   begins : Begins (k .place) → CheckedUnder q k (record { kind = 255; stored = 0; address = 0; key = 0; length = 0 })
   onward : GoesOn (k .place) → k .psn .0 % 16777216 ≡ q .expected .0 % 16777216 → q .message .kind ≡ k .kind → CheckedUnder q k (q .message)
@@ -42,8 +43,8 @@ pub data CheckedUnder (q : Pair) (k : Packet) : OpenMessage → Type 0 where
 abbrev pub Fails : ℕ → Type 0
 Fails code = (code ≡ 17) ⊎ ((code ≡ 18) ⊎ (code ≡ 19))
 
--- The request checks of a packet that meets the message under. What fails, by whichever check, is 6 if a message was open
--- when the packet came, and 5 if none was.
+-- The request checks of a packet that meets the message `opened`. What fails, by whichever check, is 6 if a message was
+-- open when the packet came, and 5 if none was.
 pub record UcChecked (q : Pair) (regions entries : List (List ℕ)) (opened : OpenMessage) (k : Packet) (t : OpenMessage) (number : ℕ) : Type 0 where
   pub code : ℕ
   pub judged : JudgedBy (q .setup) opened k t (q .entries .count) (entryAtHead q entries) (regionOf (t .key) regions) code
@@ -52,8 +53,8 @@ pub record UcChecked (q : Pair) (regions entries : List (List ℕ)) (opened : Op
   pub closes : Fails code → (q .message .kind ≡ 255 → ⊥) → number ≡ 6
   pub drops : Fails code → q .message .kind ≡ 255 → number ≡ 5
 
--- Of a packet k whose header passes, which is of the message t: a Middle or Last with none open is 5, whatever its PSN, and
--- one that strays 6; all others are checked.
+-- Of a packet k whose header passes, which is of the message t: a Middle or Last with none open is 5, whatever its PSN,
+-- and one that strays 6; all others are checked.
 pub record UcComes (q : Pair) (regions entries : List (List ℕ)) (k : Packet) (t : OpenMessage) (number : ℕ) : Type 0 where
   pub orphan : GoesOn (k .place) → q .message .kind ≡ 255 → number ≡ 5
   pub stray : GoesOn (k .place) → (q .message .kind ≡ 255 → ⊥) → Strays q k → number ≡ 6
@@ -92,8 +93,8 @@ UcReason =
     → (t : OpenMessage) → IsCurrent (q .message) (packetIn p) t
     → UcCause q regions entries p t (statusNumber (inbound q regions entries saved m p out .status))
 
--- What no call does on UC, whatever the pair, the tables, memory, packet and output: it sends nothing, sets no mark and
--- never the Error state, begins no READ and saves no atomic.
+-- What no call does on UC, whatever the pair, the tables, memory, packet and output: it sends nothing, sets no NAK mark
+-- and never the Error state, begins no READ and saves no atomic.
 pub record UcKeeps (q : Pair) (rows : List (List ℕ)) (output : List ℕ) (l : Left) : Type 0 where
   pub setup : l .pair .setup ≡ q .setup
   pub state : l .pair .state ≡ q .state

@@ -4,7 +4,7 @@ use pair::Pair;
 use pair::Status;
 use sequence::Psn;
 
-// What the host is told of a message that took a receive entry: the entry's number, the message's bytes, and the
+// The report to the host of a message that took a receive entry: the entry's number, the message's bytes, and the
 // immediate if there is one. Where nothing completes, every number is 0 and every flag false.
 pub struct Completion {
     pub some: bool,
@@ -23,10 +23,10 @@ pub const FETCH_ADD: u8 = 2;
 
 pub const CMP_SWAP: u8 = 3;
 
-// What a packet leads to, before anything is done: the answer; what is done to memory and where, with the payload's start
-// and size in the packet or an atomic's operands; the message that is open afterwards, how many PSNs are taken, whether a
-// message ends, the completion; the responses of a READ that begins to be answered and the bytes it reads; and the reply:
-// its length (0 bytes, 16 or 24), PSN, syndrome and, of a duplicate atomic, value.
+// What a packet leads to, before anything is done: the answer; what is done to memory and where, with the payload's
+// start and size in the packet or an atomic's operands; the message that is open afterwards, how many PSNs are taken,
+// whether a message ends, the completion; the responses of a READ that begins to be answered and the bytes it reads;
+// and the reply: its length (0 bytes, 16 or 24), PSN, syndrome and, of a duplicate atomic, value.
 pub struct Decision {
     pub status: Status,
     pub act: u8,

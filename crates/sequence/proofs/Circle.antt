@@ -53,7 +53,7 @@ msn-counts (suc n) = one-more (msnOf n) n (msn-counts n)
 again : (n : ℕ) → n % 16777216 % 16777216 ≡ n % 16777216
 again n = omega arith
 
--- the distance between two places of a stream: the first ahead, or behind
+-- the distance between two positions of a stream: the first ahead, or behind
 forward : (s x y : ℕ) → y ≤ x → x ≤ y + 8388607 → distance (after s x) (after s y) ≡ x - y
 forward s x y h k = rw (again (s + x), again (s + y)) (omega arith)
 

@@ -9,17 +9,17 @@ use Rattle.sequence.specs.declared.Msn.{Msn}
 use Rattle.sequence.specs.declared.Class.{Class}
 use Rattle.sequence.specs.declared.Class.the-variants.{Expected, Ahead, Duplicate}
 
--- the place x of a stream beside the place y: natural numbers, which do not wrap
+-- the position x of a stream beside the position y: natural numbers, which do not wrap
 unfoldable pub order : ℕ → ℕ → Class
 order x y = cond (eqb x y) Expected (cond (ltb y x) Ahead Duplicate)
 
--- Two places at most 8,388,607 apart, however far along a stream that starts at any number: the class of
--- their packet numbers is the order of the places.
+-- Two positions at most 8,388,607 apart, however far along a stream that starts at any number: the class of
+-- their packet numbers is the order of the positions.
 abbrev pub ClassIsOrder : Type 0
 ClassIsOrder =
     (start x y : ℕ) → x ≤ y + 8388607 → y ≤ x + 8388607 → psnClass (after start x) (after start y) ≡ order x y
 
--- One place more behind, a packet has the number of one ahead: no greater bound would do.
+-- One position more behind, a packet has the number of one ahead: no greater bound would do.
 abbrev pub TooFarBehind : Type 0
 TooFarBehind = (start : ℕ) → psnClass (after start 0) (after start 8388608) ≡ Ahead
 
@@ -31,7 +31,7 @@ DistanceAfter = (psn : Psn) (n : ℕ) → distance (psnAfter psn n .0) (psn .0) 
 abbrev pub AfterDistance : Type 0
 AfterDistance = (psn expected : Psn) → psnAfter expected (distance (psn .0) (expected .0)) .0 ≡ psn .0 % space
 
--- Going on twice is going on by the sum; the packet at place x + n of a stream is n after that at x.
+-- Going on twice is going on by the sum; the packet at position x + n of a stream is n after that at x.
 abbrev pub AfterAfter : Type 0
 AfterAfter = (psn : Psn) (m n : ℕ) → psnAfter (psnAfter psn m) n ≡ psnAfter psn (m + n)
 

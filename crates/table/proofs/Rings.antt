@@ -16,7 +16,7 @@ use Rattle.table.specs.Table.{slotAt, entryRow}
 use Rattle.table.specs.View.{ringFrom, inRing, oneMore, later, newest, newestSaved, savedLimit, savedRing, savedRows}
 use Rattle.table.specs.Claims.{SavesSound, NewestNone, NewestSaved, SavedFound, SavedOther, SavedOtherFull, NewestOver, EntrySound, InUseKept, PostedSound, Appends, Takes, Saves, SavesFull, Newest}
 
--- two places less than 16 apart are different rows
+-- two positions less than 16 apart are different rows
 apart : (head i n : ℕ) → i < n → n < i + 16 → slotAt head i ≡ slotAt head n → ⊥
 unfolding slotAt
 apart head i n h k e = omega arith
@@ -83,7 +83,7 @@ pub in-use-kept : InUseKept
 in-use-kept rows r row i h b =
     getD-set-other rows (slotAt (r .head) (r .count)) (slotAt (r .head) i) row [] (apart (r .head) i (r .count) b (omega arith))
 
--- what holds of the rows from place j to n, and of the row stored behind them, holds of all
+-- what holds of the rows from position j to n, and of the row stored behind them, holds of all
 each-behind : (P : List ℕ → Type 0) (rows : List (List ℕ)) (head : ℕ) (row : List ℕ) (j n : ℕ) → length rows ≡ 16 → n < j + 16 → P row
     → ((i : ℕ) → j ≤ i → i < n → P (getD rows (slotAt head i) []))
     → (i : ℕ) → j ≤ i → i < n + 1 → P (getD (set rows (slotAt head n) row) (slotAt head i) [])

@@ -114,7 +114,8 @@ Appends =
     (rows : List (List ℕ)) (r : Ring) (row : List ℕ) → length rows ≡ 16 → r .count < 16
     → inRing (set rows (slotAt (r .head) (r .count)) row) (oneMore r) ≡ inRing rows r ++ (row ∷ [])
 
--- Entries that calls posted: 16 rows, those in use the rows of entries that fit. Saved atomics: numbers of 24 and 64 bits.
+-- Entries that calls posted: 16 rows, those in use the rows of entries that fit. Saved atomics: numbers of 24 and 64
+-- bits.
 abbrev pub EntrySound : ℕ → List ℕ → Type 0
 EntrySound memory row = (e : Entry) × (row ≡ entryRow e) × EntryFits memory e
 

@@ -58,6 +58,6 @@ keyRow key rows = firstFrom false key rows 0 16
 abbrev pub freeRow : List (List ℕ) → ℕ
 freeRow rows = firstFrom true 0 rows 0 16
 
--- place i of a ring is the row i past its head, and after row 15 comes row 0
+-- position i of a ring is the row i past its head, and after row 15 comes row 0
 unfoldable pub slotAt : ℕ → ℕ → ℕ
 slotAt head i = (head + i) % 16

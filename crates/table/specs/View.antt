@@ -14,7 +14,7 @@ use Rattle.table.specs.Table.{noRegion, keyRow, slotAt}
 unfoldable pub regionOf : ℕ → List (List ℕ) → List ℕ
 regionOf key rows = cond (ltb (keyRow key rows) 16) (getD rows (keyRow key rows) []) noRegion
 
--- n rows of a ring from place i on
+-- n rows of a ring from position i on
 unfoldable pub ringFrom : List (List ℕ) → ℕ → ℕ → ℕ → List (List ℕ)
 ringFrom rows head i zero = []
 ringFrom rows head i (suc n) = getD rows (slotAt head i) [] ∷ ringFrom rows head (suc i) n
@@ -31,7 +31,7 @@ abbrev pub later : Saved → Saved → Saved
 later (Value v) s = Value v
 later Nothing s = s
 
--- a saved atomic is that of a repeated one if it has the packet's PSN
+-- a saved atomic is that of a duplicate if it has the packet's PSN
 abbrev pub savedMatch : ℕ → List ℕ → Bool
 savedMatch psn row = eqb (SavedRow.psn row) psn
 
@@ -48,7 +48,7 @@ savedLimit = 16
 unfoldable pub newestSaved : ℕ → List (List ℕ) → Ring → Saved
 newestSaved psn rows r = cond (ltb savedLimit (r .count)) Nothing (newest psn (inRing rows r))
 
--- one atomic more: the seventeenth takes the place of the oldest
+-- one atomic more: the seventeenth replaces the oldest
 unfoldable pub savedRing : Ring → Ring
 savedRing r = cond (ltb (r .count) savedLimit) (oneMore r) (record { head = slotAt (r .head) 1; count = r .count })
 

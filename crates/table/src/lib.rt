@@ -182,7 +182,7 @@ pub fn slot(head: usize, i: usize) -> usize
     (head % 16 + i % 16) % 16
 }
 
-// The ring with one atomic more: the seventeenth takes the place of the oldest.
+// The ring with one atomic more: the seventeenth replaces the oldest.
 pub fn saved_ring(ring: Ring) -> Ring
     ensures { λ r. ⌜ r ≡ savedRing ring ⌝ }
 {

@@ -152,7 +152,7 @@ module _ (outs : ℕ → List ℕ) (m : Message) (first : Psn) (x : Run) (K : Co
   onward =
       subst (λ y. (y .whole .pair .message .kind ≡ 255) ⊎ (y .whole .pair .expected ≡ psnAfter first (suc i))) (sym (left-is _ is-decided)) (next-is _ is-decided went)
 
-  -- and nothing is told before the last packet
+  -- and nothing is reported before the last packet
   untold-by : suc i < packetCount m → (d : Decision) → Went q t d → Untold x (carriedOut x d (packetAt t))
   unfolding pairBy after statusNumber executedPair noReply storePayload completionOf completes msnBy entriesBy
   untold-by l d (nothing e) = record { completions = append-nil (x .completions); msn = refl; entries = refl }
@@ -165,7 +165,7 @@ module _ (outs : ℕ → List ℕ) (m : Message) (first : Psn) (x : Run) (K : Co
   pub untold : suc i < packetCount m → Untold x left
   untold l = subst (Untold x) (sym (left-is _ is-decided)) (untold-by l _ went)
 
-  -- A Middle or Last that is not of the open message: nothing is told, and none is open
+  -- A Middle or Last that is not of the open message: nothing is reported, and none is open
   pub record Gone (y : Run) : Type 0 where
     pub closed : y .whole .pair .message .kind ≡ 255
     pub completionWith : Untold x y

@@ -93,7 +93,7 @@ at w expected msn nakmark message entries memory completions =
       completions = completions;
     }
 
--- a payload placed, and no answer sent
+-- a payload stored, and no answer sent
 pub placed-out : (w : Whole) (e : Psn) (n : Msn) (b : Bool) (u : OpenMessage) (r : Ring) (m : List ℕ) (cs : List Completion)
     (p : List ℕ) (k : Packet) (t : OpenMessage) (entry region : List ℕ)
     → let d = storePayload k t entry region in

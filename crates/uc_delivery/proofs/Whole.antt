@@ -42,7 +42,7 @@ use Rattle.uc_delivery.specs.Message.{Standing, Supplied, firstWaiting, 
 use Rattle.uc_delivery.proofs.Steps.{at}
 use Rattle.uc_delivery.proofs.Follow.{holding, holds, heldAt, Follows, steps, more, done, bounded, kept, steady}
 
--- piece after piece, a message is placed as one
+-- piece after piece, a message is stored as one
 grows : (m : List ℕ) (base : ℕ) (d : List ℕ) (pmtu i : ℕ) → (length d ≡ 0) ⊎ (base ≤ length m) → i * pmtu ≤ length d
     → overwrite (overwrite m base (take (i * pmtu) d)) (base + i * pmtu) (pieceAt d pmtu i) ≡ overwrite m base (take (suc i * pmtu) d)
 unfolding pieceAt

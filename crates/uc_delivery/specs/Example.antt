@@ -1,5 +1,5 @@
--- A pair and messages that meet what is asked: SEND and WRITE, with and without immediate, of one packet and of several,
--- of no bytes, with numbers that wrap.
+-- A pair and messages that meet what is asked: SEND and WRITE, with and without immediate, of one packet and of
+-- several, of no bytes, with numbers that wrap.
 use Prim.Native.Nat.{ℕ}
 use mathlib.Core.Path.{_≡_}
 use mathlib.Core.Bool.{true, false}
@@ -76,8 +76,8 @@ Delivered =
     × (handed out (message (SendImmediate 77) 600) first fresh 0 (true ∷ true ∷ true ∷ [])
     ≡ handedAll fresh (message (SendImmediate 77) 600) first)
 
--- And with the second and third packet lost nothing is told; then another SEND, an Only, comes to the pair whose one entry
--- the first message holds, and is delivered with it.
+-- And with the second and third packet lost nothing is reported; then another SEND, an Only, comes to the pair whose
+-- one entry the first message holds, and is delivered with it.
 unfoldable pub broken : Run
 broken = handed out (message (SendImmediate 77) 600) first fresh 0 (true ∷ false ∷ false ∷ [])
 

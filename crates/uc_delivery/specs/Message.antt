@@ -1,5 +1,5 @@
--- A message on the unreliable connection. Handed in whole it is placed and told of once; with a packet lost it is told of
--- never, whatever came before.
+-- A message on the unreliable connection. Handed in whole it is stored and reported once; with a packet lost it is
+-- reported never, whatever came before.
 use Prim.Native.Nat.{ℕ, suc, _-_, _≤_, _<_}
 use mathlib.Core.Path.{_≡_}
 use mathlib.Core.Bool.{Bool, true, false, cond}
@@ -29,8 +29,8 @@ use Rattle.delivery.specs.Made.{NoneSetUp}
 use Rattle.delivery.specs.Plain.{answerRoom, takesEntry, completionFor, regionOffset}
 use Rattle.delivery.specs.Demand.{Run, taken, Allowed, Addressed, AtLeast, entryOf}
 
--- A pair of the unreliable connection as calls leave it, Ready. It may have received anything: a message may be open, and
--- any PSN expected. A READ is never being answered on such a pair.
+-- A pair of the unreliable connection as calls leave it, Ready. It may have received anything: a message may be open,
+-- and any PSN expected. A READ is never being answered on such a pair.
 pub record Standing (w : Whole) : Type 0 where
   pub steady : Steady w
   pub unreliable : w .pair .setup .service ≡ Service.uc
@@ -53,8 +53,8 @@ StandsMade =
 abbrev pub packetOf : Message → Psn → ℕ → List ℕ
 packetOf m first i = packetAt (record { message = m; first = first; index = i })
 
--- Of the packets from packet i on, those marked true are handed in, in their order, and the others are lost. Nothing else
--- comes between; each call has an output of its own.
+-- Of the packets from packet i on, those marked true are handed in, in their order, and the others are lost. Nothing
+-- else comes between; each call has an output of its own.
 unfoldable pub handed : (ℕ → List ℕ) → Message → Psn → Run → ℕ → List Bool → Run
 handed outs m first x i [] = x
 handed outs m first x i (true ∷ bs) = handed outs m first (taken x (packetOf m first i) (outs i)) (suc i) bs
@@ -92,8 +92,8 @@ target (FetchAdd t v) regions e = 0
 abbrev pub without : Bool → Ring → Ring
 without takesEntry r = cond takesEntry (record { head = slotAt (r .head) 1; count = r .count - 1 }) r
 
--- The whole of what is left: the message's bytes in their place and no other byte changed; one completion, if the message
--- takes an entry; the MSN one higher, the PSN behind the last packet's expected, no message open.
+-- The whole of what is left: the message's bytes where they belong and no other byte changed; one completion, if the
+-- message takes an entry; the MSN one higher, the PSN behind the last packet's expected, no message open.
 abbrev pub handedAll : Run → Message → Psn → Run
 handedAll x m first =
     let w = x .whole in
@@ -129,8 +129,8 @@ HandedWhole =
     → Supplied (x .whole) m
     → handed outs m first x 0 (replicate (packetCount m) true) ≡ handedAll x m first
 
--- The pair does not take a later packet of the message for one of a message that is open already: none of its kind is open,
--- or the expected PSN is none of theirs. Without this the rules let such a packet go on with the other message.
+-- The pair does not take a later packet of the message for one of a message that is open already: none of its kind is
+-- open, or the expected PSN is none of theirs. Without this the rules let such a packet go on with the other message.
 abbrev pub Apart : Whole → Message → Psn → Type 0
 Apart w m first =
     (w .pair .message .kind ≡ kindNumber (m .request) → ⊥)
@@ -140,7 +140,7 @@ Apart w m first =
 abbrev pub Lost : List Bool → ℕ → Type 0
 Lost chosen n = (i : ℕ) × (i < n) × (getD chosen i true ≡ false)
 
--- nothing was told, no message counted, no entry used up
+-- nothing was reported, no message counted, no entry used up
 pub record Untold (x y : Run) : Type 0 where
   pub completions : y .completions ≡ x .completions
   pub msn : y .whole .pair .msn ≡ x .whole .pair .msn

@@ -97,7 +97,7 @@ pub extern "C" fn udalopek_reset(pair: &mut [u64], regions: &mut [[u64; 7]; 16])
     leave(pair, q, status)
 }
 
-// Lets packets in.
+// The pair takes packets from now on.
 #[no_mangle]
 pub extern "C" fn udalopek_make_ready(pair: &mut [u64]) -> u8
     ensures { λ r. ⌜ r ≡ readyNumber (now (pair .entry)) ⌝ }

@@ -80,7 +80,7 @@ fn following_psn(f: Following) -> u64
     }
 }
 
-// Nothing is told of a cut that is refused.
+// The report of a cut, all 0 if it is refused.
 fn cut_report(number: u8, n: u64, psn: u64) -> [u64; 2]
     ensures { λ r. ⌜ r ≡ cutReport number n psn ⌝ }
 {

@@ -25,7 +25,7 @@ fn malformed_for(regions: &[[u64; 7]; 16], memory: u64, packet: &[u8]) -> bool
     false
 }
 
-// What the host is told: bytes to send, and the completion.
+// The report to the host: bytes to send, and the completion.
 fn report_words(outgoing: usize, c: Completion) -> [u64; 6]
     ensures { λ r. ⌜ r ≡ reportWords outgoing c ⌝ }
 {
@@ -37,8 +37,8 @@ fn report_words(outgoing: usize, c: Completion) -> [u64; 6]
     [s, some, c.number, n, i, v]
 }
 
-// Takes a packet. Here, in next response and in post entry the words are read, tested and written in the function itself: a call
-// with the pair would write it to memory for every packet.
+// Takes a packet. Here, in next response and in post entry the words are read, tested and written in the function
+// itself: a call with the pair would write it to memory for every packet.
 #[no_mangle]
 pub extern "C" fn udalopek_inbound(
     pair: &mut [u64],

@@ -31,7 +31,7 @@ use Rattle.udalopek_spec.specs.Host.{unmade, oddRegions, resetNumber, re
 use Rattle.udalopek_spec.specs.Claims.{ToldSays, KindsAre, CutTells, InboundKeeps, NamesNone, WordsRefused, RowRefused, Keyed, Readable, InboundIs, NextIs, PostIs, ReadyIs, ResetIs, AddIs, RemoveIs}
 use Rattle.udalopek_spec.proofs.Steps.{second, first, refused-words}
 
--- nothing is told of a completion that is none
+-- nothing is reported of a completion that is none
 silent : (c : Completion) → Silent c → reportWords 0 c ≡ replicate 6 0
 unfolding reportWords
 silent c s = simp (s .some, s .number, s .length, s .immediate, s .value)
@@ -57,7 +57,7 @@ inbound-keeps w regions entries saved m p out h =
       behind b _ (replicate 6 0) _ (λ e g. ap (λ n. reportWords n (inbound (pairOf w) regions entries saved m p out .completion)) (t .quiet g .outgoing) ∙ silent _ (t .quiet g .unexecuted .completion)) h,
     )
 
--- the words of a pair are let in, and its table
+-- the words of a pair are accepted, and its table
 readable : (q : Pair) (regions : List (List ℕ)) (p : List ℕ) → Readable q regions p → malformedFor regions (q .setup .memory) p ≡ false
 unfolding malformedFor
 readable q regions p (inl e) = ap (λ b. cond b (malformedFrom regions (q .setup .memory) 0 16) false) e

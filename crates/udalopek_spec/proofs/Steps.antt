@@ -36,11 +36,11 @@ empty-names (x ∷ xs) e = absurd (omega arith)
 pub thirty-four : _≡_ {A = ℕ} 34 0 → ⊥
 thirty-four e = omega arith
 
--- words read, written anew and compared with themselves: whether they are strange
+-- words read, written anew and compared with themselves: whether they are malformed
 pub strange-by : (w own : List ℕ) (q : Pair) (s : Bool) → q ≡ pairOf w → own ≡ pairWords q → s ≡ eqWords w own → malformed w ≡ not s
 unfolding malformed
 strange-by w own q s a b c = ap not (ap (λ x. eqWords w (pairWords x)) (sym a) ∙ ap (eqWords w) (sym b) ∙ sym c)
 
--- a pair written over words that were let in
+-- a pair written over words that were accepted
 pub left-words : (w own new : List ℕ) (q : Pair) → malformed w ≡ false → own ≡ pairWords q → new ≡ overwriteWords w own → new ≡ pairWords q
 left-words w own new q p b e = e ∙ ap (overwriteWords w) b ∙ put-pair w q p

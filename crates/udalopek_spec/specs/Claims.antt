@@ -23,7 +23,7 @@ use Rattle.udalopek_spec.specs.Packets.{names, inboundNumber, inboundWor
 use Rattle.udalopek_spec.specs.Cutting.{requestOf, cutReport}
 use Rattle.udalopek_spec.specs.Host.{setUpNumber, setUpWords, setUpTable, resetNumber, resetWords, resetTable, readyNumber, readyWords, addNumber, addTable, removeNumber, removeTable, postNumber, postWords, postTable}
 
--- A packet dropped or a call refused leaves all words, rows and bytes as they were, and tells nothing.
+-- A packet dropped or a call refused leaves all words, rows and bytes as they were, and reports nothing.
 abbrev pub InboundKeeps : Type 0
 InboundKeeps =
     (w : List ℕ) (regions entries saved : List (List ℕ)) (m p out : List ℕ)
@@ -144,8 +144,8 @@ RemoveIs =
     → (removeNumber (pairWords q) rows key ≡ statusNumber (removeStatus rows key))
     × (removeTable (pairWords q) rows key ≡ removeRegions rows key)
 
--- What the host is told, word by word, listed here once more and not by the definition under test; so are the kinds of a cut and
--- what a cut tells.
+-- The report to the host, word by word, listed here once more and not by the definition under test; so are the kinds of
+-- a cut and what a cut reports.
 pub record Tells (n : ℕ) (c : Completion) (t : List ℕ) : Type 0 where
   pub outgoing : getD t 0 0 ≡ n
   pub completes : c .some ≡ true → getD t 1 0 ≡ 1

@@ -32,7 +32,7 @@ unfoldable pub followingPsn : Following → ℕ
 followingPsn (Next psn) = psn .0
 followingPsn (Refused number) = 0
 
--- what is told: the bytes written, and the PSN of the message after this one; of a refused cut nothing
+-- the report: the bytes written, and the PSN of the message after this one; of a refused cut nothing
 unfoldable pub cutReport : ℕ → ℕ → ℕ → List ℕ
 cutReport number n psn = cond (eqb number 0) (n ∷ psn ∷ []) (0 ∷ 0 ∷ [])
 

@@ -1,5 +1,5 @@
--- The calls of a responder on lent words: those of the pair that the words say, and a refusal for words or rows that no call
--- wrote.
+-- The calls of a responder on lent words: those of the pair that the words say, and a refusal for words or rows that no
+-- call wrote.
 use Prim.Native.Nat.{ℕ}
 use mathlib.Core.Bool.{Bool, false, cond, _||_}
 use mathlib.Core.List.{List, [], _∷_}
@@ -23,8 +23,8 @@ names p = leb Kind.write (lowOf (getD p 0 0))
 unfoldable pub malformedFor : List (List ℕ) → ℕ → List ℕ → Bool
 malformedFor rows memory p = cond (names p) (malformedFrom rows memory 0 16) false
 
--- what the host is told: the bytes to send; 1 if a message completed, its entry and its bytes; 1 if it has an immediate, and
--- the immediate. All of it 0 where there is nothing to tell
+-- the report to the host: the bytes to send; 1 if a message completed, its entry and its bytes; 1 if it has an
+-- immediate, and the immediate. All of it 0 where there is nothing to report
 unfoldable pub reportWords : ℕ → Completion → List ℕ
 reportWords outgoing c = outgoing ∷ cond (c .some) 1 0 ∷ c .number ∷ c .length ∷ cond (c .immediate) 1 0 ∷ c .value ∷ []
 

@@ -1,1 +1,1 @@
-// The calls that other languages make, on lent words: definitions and laws. The code is the crate export.
+// The calls that other languages make, on lent words: definitions and laws. The code is the crate udalopek.

@@ -13,7 +13,7 @@ pub enum Kind {
     Write,
     Read,
     FetchAdd,
-    Repeated,
+    Duplicate,
 }
 
 impl Kind {
@@ -23,7 +23,7 @@ impl Kind {
         Kind::Write,
         Kind::Read,
         Kind::FetchAdd,
-        Kind::Repeated,
+        Kind::Duplicate,
     ];
 
     pub fn name(self) -> &'static str {
@@ -33,7 +33,7 @@ impl Kind {
             Kind::Write => "WRITE of 4,096 bytes",
             Kind::Read => "READ of 4,096 bytes, and its response",
             Kind::FetchAdd => "FetchAdd",
-            Kind::Repeated => "SEND retransmitted",
+            Kind::Duplicate => "SEND retransmitted",
         }
     }
 
@@ -43,14 +43,14 @@ impl Kind {
             Kind::Send | Kind::SendAndPost | Kind::Write => 1,
             Kind::Read => 2,
             Kind::FetchAdd => 3,
-            Kind::Repeated => 4,
+            Kind::Duplicate => 4,
         }
     }
 
     /// Packet `i` of the few that are sent in turn.
     fn packet(self, i: u8) -> Vec<u8> {
         let opcode = match self {
-            Kind::Send | Kind::SendAndPost | Kind::Repeated => 4,
+            Kind::Send | Kind::SendAndPost | Kind::Duplicate => 4,
             Kind::Write => 10,
             Kind::Read => 12,
             Kind::FetchAdd => 20,
@@ -62,7 +62,7 @@ impl Kind {
         let address = ADDRESS + u64::from(i) * PMTU as u64;
         let named = [&address.to_be_bytes()[..], &KEY.to_be_bytes()].concat();
         match self {
-            Kind::Send | Kind::SendAndPost | Kind::Repeated => packet.extend([i; 16]),
+            Kind::Send | Kind::SendAndPost | Kind::Duplicate => packet.extend([i; 16]),
             Kind::Write | Kind::Read => {
                 packet.extend(named);
                 packet.extend((PMTU as u32).to_be_bytes());
@@ -104,7 +104,7 @@ pub fn round<S: Side>(kind: Kind, batches: u32) -> f64 {
         out: vec![0; 16 + PMTU],
         wrong: 0,
     };
-    if kind == Kind::Repeated {
+    if kind == Kind::Duplicate {
         // Executed once each, so that all later ones are behind.
         round.post();
         round.packets(Kind::Send, 0);
@@ -130,7 +130,7 @@ pub fn round<S: Side>(kind: Kind, batches: u32) -> f64 {
     };
 
     assert_eq!(round.wrong, 0, "{}: wrong answers", kind.name());
-    let moved = if kind == Kind::Repeated {
+    let moved = if kind == Kind::Duplicate {
         0
     } else {
         batches * BATCH
@@ -159,7 +159,7 @@ impl<S: Side> Round<S> {
     fn packets(&mut self, kind: Kind, batch: u32) {
         for psn in batch * BATCH..(batch + 1) * BATCH {
             let place = psn as usize % RING;
-            let psn = if kind == Kind::Repeated {
+            let psn = if kind == Kind::Duplicate {
                 place as u32
             } else {
                 psn

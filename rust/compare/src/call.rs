@@ -195,7 +195,7 @@ impl Cut {
 pub struct Answer {
     pub number: u8,
     /// Bytes written at the start of the output.
-    pub sent: usize,
+    pub outgoing: usize,
     pub detail: Detail,
 }
 
@@ -217,10 +217,10 @@ pub enum Detail {
 }
 
 impl Answer {
-    pub fn new(number: u8, sent: usize, detail: Detail) -> Answer {
+    pub fn new(number: u8, outgoing: usize, detail: Detail) -> Answer {
         Answer {
             number,
-            sent,
+            outgoing,
             detail,
         }
     }
@@ -236,10 +236,10 @@ pub fn answer_line(
 ) -> String {
     let Answer {
         number,
-        sent,
+        outgoing,
         detail,
     } = *answer;
-    let written = hex(out.get(..sent).unwrap_or(out));
+    let written = hex(out.get(..outgoing).unwrap_or(out));
     match (call, detail) {
         (_, Detail::Panicked) => "panicked".to_string(),
         (_, Detail::NoPair) => "no pair".to_string(),

@@ -90,11 +90,12 @@ impl<A: Subject, B: Subject> Duel<A, B> {
                 .position(|(a, b)| a != b);
             return Some(format!("outputs, first at byte {at:?}"));
         }
-        if self.outs[0].get(left.sent..) != self.pattern.get(left.sent..self.outs[0].len()) {
+        if self.outs[0].get(left.outgoing..) != self.pattern.get(left.outgoing..self.outs[0].len())
+        {
             return Some("output past the packet written is changed".to_string());
         }
         if let (Call::ReadHeader(packet), Detail::Header(_)) = (call, left.detail) {
-            if left.number != 0 || !packet.starts_with(&self.outs[0][..left.sent]) {
+            if left.number != 0 || !packet.starts_with(&self.outs[0][..left.outgoing]) {
                 return Some("a header written back is another".to_string());
             }
         }

@@ -140,9 +140,9 @@ pub fn all_numbers<A: Subject, B: Subject>() -> Result<u64, String> {
         both.hand_in(&nothing, 1)?;
     }
     let new = both.hand_in(&atomic, 3)?.to_vec();
-    let repeated = both.hand_in(&atomic, 4)?.to_vec();
-    if repeated != new || old[16..] == new[16..] {
-        return Err("a repeated atomic does not get the newest answer of its PSN".to_string());
+    let duplicate = both.hand_in(&atomic, 4)?.to_vec();
+    if duplicate != new || old[16..] == new[16..] {
+        return Err("a duplicate atomic does not get the newest answer of its PSN".to_string());
     }
     let Counts { expected, msn, .. } = both.left.counts();
     if (expected, msn) != (START + 1, 1) {

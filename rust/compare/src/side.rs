@@ -49,7 +49,7 @@ impl<S: Subject> Side<S> {
             Call::SetUp(setup) => self.set_up(*setup),
             Call::ReadHeader(packet) => read_and_write_back::<S>(packet, out),
             Call::WriteHeader { header, .. } => match S::write_header(header, out) {
-                Ok(sent) => Answer::new(0, sent, Detail::Nothing),
+                Ok(outgoing) => Answer::new(0, outgoing, Detail::Nothing),
                 Err(number) => Answer::new(number, 0, Detail::Nothing),
             },
             Call::Cut(cut) => {
@@ -61,7 +61,7 @@ impl<S: Subject> Side<S> {
                     cut.index,
                     out,
                 ) {
-                    Ok((sent, next)) => Answer::new(0, sent, Detail::NextPsn(next)),
+                    Ok((outgoing, next)) => Answer::new(0, outgoing, Detail::NextPsn(next)),
                     Err(number) => Answer::new(number, 0, Detail::Nothing),
                 }
             }
@@ -101,8 +101,8 @@ fn on_pair<S: Subject>(pair: &mut S, memory: &mut [u8], call: &Call, out: &mut [
         }
         Call::Next { memory: length, .. } => {
             return lend(memory, *length, |memory| {
-                let (number, sent) = pair.next_response(memory, out);
-                Answer::new(number, sent, Detail::Nothing)
+                let (number, outgoing) = pair.next_response(memory, out);
+                Answer::new(number, outgoing, Detail::Nothing)
             });
         }
         _ => unreachable!("the other calls are on no pair"),
@@ -132,7 +132,7 @@ fn read_and_write_back<S: Subject>(packet: &[u8], out: &mut [u8]) -> Answer {
     match S::read_header(packet) {
         Err(check) => Answer::new(5, 0, Detail::Check(check)),
         Ok(header) => match S::write_header(&header, out) {
-            Ok(sent) => Answer::new(0, sent, Detail::Header(header)),
+            Ok(outgoing) => Answer::new(0, outgoing, Detail::Header(header)),
             Err(number) => Answer::new(number, 0, Detail::Header(header)),
         },
     }

@@ -26,11 +26,11 @@ pub struct View {
     /// By key, since the rules give regions no order.
     pub regions: Vec<Region>,
     pub saved: Vec<(u32, u64)>,
-    /// 0 SEND or 6 WRITE, and the bytes placed.
+    /// 0 SEND or 6 WRITE, and the bytes stored.
     pub open: Option<(u8, u64)>,
     /// An open WRITE's address, R_Key and DMA length.
     pub write: Option<(u64, u32, u64)>,
-    /// What is left of a READ: place of the next bytes, how many, next PSN, MSN.
+    /// What is left of a READ: offset of the next bytes, how many, next PSN, MSN.
     pub read: Option<(Option<u64>, u64, u32, u32)>,
 }
 

@@ -78,7 +78,7 @@ impl Subject for Proved {
         match self.0.inbound(memory, packet, out) {
             Ok(got) => Inbound {
                 number: got.answer.number(),
-                sent: got.sent,
+                sent: got.outgoing,
                 completion: got.completion.map(|done| Completion {
                     entry: done.entry,
                     bytes: done.bytes,
@@ -95,7 +95,7 @@ impl Subject for Proved {
 
     fn next_response(&mut self, memory: &[u8], out: &mut [u8]) -> (u8, usize) {
         match self.0.next_response(memory, out) {
-            Ok(sent) => (0, sent),
+            Ok(outgoing) => (0, outgoing),
             Err(refusal) => (refusal.number(), 0),
         }
     }

@@ -18,7 +18,7 @@ pub enum Answer {
     DuplicateAnswered = 4,
     /// Dropped: nothing to send, nothing changed.
     Dropped = 5,
-    /// On UC: the open message is given up and its receive entry waits again; nothing to send. Bytes placed stay.
+    /// On UC: the open message is given up and its receive entry waits again; nothing to send. Bytes stored stay.
     Abandoned = 6,
     /// A packet was lost before this one: a NAK with the expected PSN is to be sent; only the NAK mark is set.
     SequenceNak = 16,

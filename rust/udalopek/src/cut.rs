@@ -127,9 +127,10 @@ impl Asked {
     }
 }
 
-/// Writes one packet of a message, counted from 0, at the start of the output, and answers its length and the PSN that the
-/// next message begins with. `first` is the PSN of this message's first packet. A READ or atomic is one packet, and
-/// `message` is not looked at. Refused: [`Refusal::BadNumber`], [`Refusal::OutOfRange`], [`Refusal::OutputShort`], in this order.
+/// Writes one packet of a message, counted from 0, at the start of the output, and answers its length and the PSN that
+/// the next message begins with. `first` is the PSN of this message's first packet. A READ or atomic is one packet, and
+/// `message` is not looked at. Refused: [`Refusal::BadNumber`], [`Refusal::OutOfRange`], [`Refusal::OutputShort`], in
+/// this order.
 pub fn cut(
     connection: Connection,
     request: Request,
@@ -139,7 +140,7 @@ pub fn cut(
     out: &mut [u8],
 ) -> Result<(usize, u32), Refusal> {
     let asked = Asked::of(request);
-    let mut told = [0; 2];
+    let mut report = [0; 2];
     let number = raw::cut(
         connection.service.number(),
         connection.pmtu,
@@ -156,8 +157,8 @@ pub fn cut(
         asked.immediate,
         message,
         out,
-        &mut told,
+        &mut report,
     );
     Refusal::unless_done(number)?;
-    Ok((told[0] as usize, told[1] as u32))
+    Ok((report[0] as usize, report[1] as u32))
 }

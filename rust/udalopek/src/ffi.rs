@@ -64,7 +64,7 @@ extern "C" {
         packet_length: usize,
         out: *mut u8,
         out_length: usize,
-        told: *mut u64,
+        report: *mut u64,
     ) -> u8;
 
     pub fn udalopek_next_response(
@@ -74,7 +74,7 @@ extern "C" {
         memory_length: usize,
         out: *mut u8,
         out_length: usize,
-        told: *mut u64,
+        report: *mut u64,
     ) -> u8;
 
     pub fn udalopek_read_header(
@@ -89,7 +89,7 @@ extern "C" {
         extension: *const u64,
         out: *mut u8,
         out_length: usize,
-        told: *mut u64,
+        report: *mut u64,
     ) -> u8;
 
     pub fn udalopek_cut(
@@ -110,6 +110,6 @@ extern "C" {
         message_length: usize,
         out: *mut u8,
         out_length: usize,
-        told: *mut u64,
+        report: *mut u64,
     ) -> u8;
 }

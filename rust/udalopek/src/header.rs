@@ -88,8 +88,8 @@ pub enum Extension {
 }
 
 impl Extension {
-    /// Which it is, then address, R_Key, DMA length, swap-or-add, compare, syndrome, MSN, value and immediate; 0 for what is
-    /// not there.
+    /// Which it is, then address, R_Key, DMA length, swap-or-add, compare, syndrome, MSN, value and immediate; 0 for
+    /// what is not there.
     fn words(self) -> [u64; 10] {
         match self {
             Extension::None => [0; 10],
@@ -189,8 +189,8 @@ pub fn read_header(packet: &[u8]) -> Result<Header, u8> {
 }
 
 /// Writes a header at the start of the output and answers its length; bytes past it stay. Refused:
-/// [`Refusal::BadNumber`] for a field over its width, a TVer that is not 0, a service that is not RC or UC, or headers that
-/// are not those of the opcode; then [`Refusal::OutputShort`].
+/// [`Refusal::BadNumber`] for a field over its width, a TVer that is not 0, a service that is not RC or UC, or headers
+/// that are not those of the opcode; then [`Refusal::OutputShort`].
 pub fn write_header(header: &Header, out: &mut [u8]) -> Result<usize, Refusal> {
     let bth = [
         header.opcode.into(),
@@ -205,8 +205,8 @@ pub fn write_header(header: &Header, out: &mut [u8]) -> Result<usize, Refusal> {
         header.reserved7.into(),
         header.psn.into(),
     ];
-    let mut told = [0];
-    let number = raw::write_header(&bth, &header.extension.words(), out, &mut told);
+    let mut report = [0];
+    let number = raw::write_header(&bth, &header.extension.words(), out, &mut report);
     Refusal::unless_done(number)?;
-    Ok(told[0] as usize)
+    Ok(report[0] as usize)
 }

@@ -1,12 +1,12 @@
-//! The transport side of an InfiniBand queue pair: the responder of a reliable (RC) or unreliable (UC) connection, packet
-//! headers read and written, messages cut into packets.
+//! The transport side of an InfiniBand queue pair: the responder of a reliable (RC) or unreliable (UC) connection,
+//! packet headers read and written, messages cut into packets.
 //!
-//! The work is done by a static library whose every function is proved to do what the rules say, whatever bytes come in.
-//! This crate owns the words and tables that the library is lent and gives its numbers names. It opens no device and sends
-//! nothing: packets come in as bytes, and what is to be sent comes out as bytes. A packet begins at its BTH and ends after
-//! its pad; the CRCs are the caller's.
+//! The work is done by a static library whose every function is proved to do what the rules say, whatever bytes come
+//! in. This crate owns the words and tables that the library is lent and gives its numbers names. It opens no device
+//! and sends nothing: packets come in as bytes, and what is to be sent comes out as bytes. A packet begins at its BTH
+//! and ends after its pad; the CRCs are the caller's.
 //!
-//! A SEND of three bytes comes in, and then once more:
+//! A SEND of three bytes comes in, and then its duplicate:
 //!
 //! ```
 //! use udalopek::{Answer, Completion, Entry, QueuePair, Service, Setup};
@@ -33,16 +33,16 @@
 //! let mut out = [0; 24];
 //! let got = pair.inbound(&mut memory, &packet, &mut out)?;
 //! assert_eq!(got.answer, Answer::Acknowledged);
-//! assert_eq!(&out[..got.sent], b"\x11\0\xff\xff\0\0\0\x34\0\0\0\x07\x1f\0\0\x01");
+//! assert_eq!(&out[..got.outgoing], b"\x11\0\xff\xff\0\0\0\x34\0\0\0\x07\x1f\0\0\x01");
 //! assert_eq!(&memory[2048..2052], b"abc\0");
 //! assert_eq!(got.completion, Some(Completion { entry: 5, bytes: 3, immediate: None }));
 //! assert_eq!((pair.expected(), pair.msn()), (8, 1));
 //!
-//! // The same packet again is acknowledged and not executed.
+//! // A duplicate of the packet is acknowledged and not executed.
 //! let before = memory.clone();
-//! let again = pair.inbound(&mut memory, &packet, &mut out)?;
-//! assert_eq!(again.answer, Answer::DuplicateAnswered);
-//! assert_eq!(again.completion, None);
+//! let duplicate = pair.inbound(&mut memory, &packet, &mut out)?;
+//! assert_eq!(duplicate.answer, Answer::DuplicateAnswered);
+//! assert_eq!(duplicate.completion, None);
 //! assert_eq!(memory, before);
 //! # Ok::<(), udalopek::Refusal>(())
 //! ```

@@ -93,7 +93,7 @@ pub struct Entry {
     pub length: u64,
 }
 
-/// What the host is told of a message that took a receive entry.
+/// The report to the host of a message that took a receive entry.
 #[derive(Clone, Copy, Debug, PartialEq, Eq, Hash)]
 pub struct Completion {
     /// The number of the entry.
@@ -110,7 +110,7 @@ pub struct Received {
     /// What became of it.
     pub answer: Answer,
     /// How many bytes at the start of the output are to be sent: 0, 16 or 24.
-    pub sent: usize,
+    pub outgoing: usize,
     /// The message that it ended, if that took an entry.
     pub completion: Option<Completion>,
 }
@@ -121,7 +121,7 @@ pub struct Received {
 pub enum State {
     /// Set up or reset: packets are dropped.
     Init = 0,
-    /// Packets are let in.
+    /// Packets are taken.
     Ready = 1,
     /// After a NAK for an invalid request or for access: packets are dropped until a reset.
     Error = 2,
@@ -134,8 +134,8 @@ impl State {
     }
 }
 
-/// The receiving side of a queue pair. Memory is the host's: each call that needs it is lent it, always the same and of the
-/// length set up.
+/// The receiving side of a queue pair. Memory is the host's: each call that needs it is lent it, always the same and of
+/// the length set up.
 #[derive(Clone)]
 pub struct QueuePair {
     words: [u64; raw::WORDS],
@@ -147,7 +147,7 @@ pub struct QueuePair {
 // Which of the words are looked at here.
 const PMTU: usize = 0;
 const KIND: usize = 12;
-const PLACED: usize = 13;
+const STORED: usize = 13;
 /// Address, R_Key and DMA length of an open WRITE.
 const WRITE: [usize; 3] = [14, 15, 16];
 const ENTRIES: (usize, usize) = (17, 18);
@@ -158,15 +158,15 @@ const SAVED: (usize, usize) = (24, 25);
 const EXPECTED: usize = 26;
 const MSN: usize = 27;
 const STATE: usize = 28;
-const MARK: usize = 29;
+const NAK_MARK: usize = 29;
 
 const KIND_SEND: u64 = 0;
 const KIND_WRITE: u64 = 6;
 const KIND_NONE: u64 = 255;
 
 impl QueuePair {
-    /// A pair in state Init, with empty tables. Refused: [`Refusal::BadNumber`], [`Refusal::OutOfRange`] for memory over
-    /// the limit.
+    /// A pair in state Init, with empty tables. Refused: [`Refusal::BadNumber`], [`Refusal::OutOfRange`] for memory
+    /// over the limit.
     pub fn set_up(setup: Setup) -> Result<QueuePair, Refusal> {
         let mut pair = QueuePair {
             words: [0; raw::WORDS],
@@ -227,7 +227,7 @@ impl QueuePair {
         ))
     }
 
-    /// Lets packets in. Refused: [`Refusal::WrongState`] unless Init.
+    /// Takes packets from now on. Refused: [`Refusal::WrongState`] unless Init.
     pub fn make_ready(&mut self) -> Result<(), Refusal> {
         Refusal::unless_done(raw::make_ready(&mut self.words))
     }
@@ -245,7 +245,7 @@ impl QueuePair {
         packet: &[u8],
         out: &mut [u8],
     ) -> Result<Received, Refusal> {
-        let mut told = [0; 6];
+        let mut report = [0; 6];
         let number = raw::inbound(
             &mut self.words,
             &self.regions,
@@ -254,13 +254,13 @@ impl QueuePair {
             memory,
             packet,
             out,
-            &mut told,
+            &mut report,
         );
         let answer = Answer::of(number)?;
-        let [sent, complete, entry, bytes, has_immediate, immediate] = told;
+        let [outgoing, complete, entry, bytes, has_immediate, immediate] = report;
         Ok(Received {
             answer,
-            sent: sent as usize,
+            outgoing: outgoing as usize,
             completion: (complete == 1).then_some(Completion {
                 entry,
                 bytes,
@@ -273,10 +273,10 @@ impl QueuePair {
     /// Refused: [`Refusal::WrongState`] if none is pending, [`Refusal::OutputShort`] under 16 bytes and a PMTU,
     /// [`Refusal::OutOfRange`] for memory of another length than was set up, in this order.
     pub fn next_response(&mut self, memory: &[u8], out: &mut [u8]) -> Result<usize, Refusal> {
-        let mut told = [0];
-        let number = raw::next_response(&mut self.words, memory, out, &mut told);
+        let mut report = [0];
+        let number = raw::next_response(&mut self.words, memory, out, &mut report);
         Refusal::unless_done(number)?;
-        Ok(told[0] as usize)
+        Ok(report[0] as usize)
     }
 
     /// The PSN that is expected next.
@@ -298,10 +298,10 @@ impl QueuePair {
         }
     }
 
-    /// Whether the NAK mark is set: the other side was told what is missing, and packets ahead are dropped without another
-    /// NAK until the expected one is executed.
+    /// Whether the NAK mark is set: the other side was told what is missing, and packets ahead are dropped without
+    /// another NAK until the expected one is executed.
     pub fn marked(&self) -> bool {
-        self.words[MARK] != 0
+        self.words[NAK_MARK] != 0
     }
 
     /// How many responses of a READ are still to be taken.
@@ -333,11 +333,11 @@ impl QueuePair {
         self.ring(&self.saved, SAVED).map(row).collect()
     }
 
-    /// The message that is open, if any: 0 for a SEND, 6 for a WRITE, and the bytes of it that are placed.
+    /// The message that is open, if any: 0 for a SEND, 6 for a WRITE, and the bytes of it that are stored.
     pub fn open_message(&self) -> Option<(u8, u64)> {
         match self.words[KIND] {
             KIND_NONE => None,
-            kind => Some((kind as u8, self.words[PLACED])),
+            kind => Some((kind as u8, self.words[STORED])),
         }
     }
 
@@ -349,8 +349,8 @@ impl QueuePair {
         })
     }
 
-    /// What is left of the READ being answered: the place in memory of the next response's bytes if there are any, how many
-    /// bytes are left, the PSN of the next response, and the MSN that all of them carry.
+    /// What is left of the READ being answered: the offset in memory of the next response's bytes if there are any, how
+    /// many bytes are left, the PSN of the next response, and the MSN that all of them carry.
     pub fn read_answer(&self) -> Option<(Option<u64>, u64, u32, u32)> {
         let remaining = self.words[PENDING];
         let [offset, length, first, msn] = READ.map(|at| self.words[at]);

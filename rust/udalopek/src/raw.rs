@@ -1,11 +1,11 @@
-//! The calls of the library on bare words and tables, in the order of parameters of `include/udalopek.h`. Any words may be
-//! handed in: those that no call wrote are refused. For tests of just that; [`crate::QueuePair`] keeps its own.
+//! The calls of the library on bare words and tables, in the order of parameters of `include/udalopek.h`. Any words may
+//! be handed in: those that no call wrote are refused. For tests of just that; [`crate::QueuePair`] keeps its own.
 //!
 //! This is the only place with unsafe code. The header asks three things of a caller, and each is met in the same way
-//! everywhere: no pointer is null, since it comes from a slice or an array, empty or not; it points to as many elements as
-//! the library takes there to be, since a slice's length goes beside it and an array has the length of its type; what is
-//! written overlaps nothing else, since it is borrowed by `&mut` and everything is borrowed until the call is back. The
-//! library keeps no pointer.
+//! everywhere: no pointer is null, since it comes from a slice or an array, empty or not; it points to as many elements
+//! as the library takes there to be, since a slice's length goes beside it and an array has the length of its type;
+//! what is written overlaps nothing else, since it is borrowed by `&mut` and everything is borrowed until the call is
+//! back. The library keeps no pointer.
 #![allow(unsafe_code)]
 #![allow(clippy::too_many_arguments)]
 
@@ -132,10 +132,10 @@ pub fn inbound(
     memory: &mut [u8],
     packet: &[u8],
     out: &mut [u8],
-    told: &mut [u64; 6],
+    report: &mut [u64; 6],
 ) -> u8 {
-    // SAFETY: `pair`, `memory`, `packet` and `out` are slices with their lengths; the tables have 16 rows and `told` 6
-    // words. `pair`, `saved`, `memory`, `out` and `told` are borrowed by `&mut`, and the others are only read.
+    // SAFETY: `pair`, `memory`, `packet` and `out` are slices with their lengths; the tables have 16 rows and `report`
+    // 6 words. `pair`, `saved`, `memory`, `out` and `report` are borrowed by `&mut`, and the others are only read.
     unsafe {
         ffi::udalopek_inbound(
             pair.as_mut_ptr(),
@@ -149,14 +149,14 @@ pub fn inbound(
             packet.len(),
             out.as_mut_ptr(),
             out.len(),
-            told.as_mut_ptr(),
+            report.as_mut_ptr(),
         )
     }
 }
 
-pub fn next_response(pair: &mut [u64], memory: &[u8], out: &mut [u8], told: &mut [u64; 1]) -> u8 {
-    // SAFETY: `pair`, `memory` and `out` are slices with their lengths, `told` one word. `pair`, `out` and `told` are
-    // borrowed by `&mut`, and `memory` is only read.
+pub fn next_response(pair: &mut [u64], memory: &[u8], out: &mut [u8], report: &mut [u64; 1]) -> u8 {
+    // SAFETY: `pair`, `memory` and `out` are slices with their lengths, `report` one word. `pair`, `out` and `report`
+    // are borrowed by `&mut`, and `memory` is only read.
     unsafe {
         ffi::udalopek_next_response(
             pair.as_mut_ptr(),
@@ -165,7 +165,7 @@ pub fn next_response(pair: &mut [u64], memory: &[u8], out: &mut [u8], told: &mut
             memory.len(),
             out.as_mut_ptr(),
             out.len(),
-            told.as_mut_ptr(),
+            report.as_mut_ptr(),
         )
     }
 }
@@ -187,17 +187,17 @@ pub fn write_header(
     bth: &[u64; 11],
     extension: &[u64; 10],
     out: &mut [u8],
-    told: &mut [u64; 1],
+    report: &mut [u64; 1],
 ) -> u8 {
-    // SAFETY: `bth` and `extension` are arrays of the lengths that the header names, only read; `out` is a slice with its
-    // length, `told` one word, each borrowed by `&mut`.
+    // SAFETY: `bth` and `extension` are arrays of the lengths that the header names, only read; `out` is a slice with
+    // its length, `report` one word, each borrowed by `&mut`.
     unsafe {
         ffi::udalopek_write_header(
             bth.as_ptr(),
             extension.as_ptr(),
             out.as_mut_ptr(),
             out.len(),
-            told.as_mut_ptr(),
+            report.as_mut_ptr(),
         )
     }
 }
@@ -218,9 +218,9 @@ pub fn cut(
     immediate: u32,
     message: &[u8],
     out: &mut [u8],
-    told: &mut [u64; 2],
+    report: &mut [u64; 2],
 ) -> u8 {
-    // SAFETY: `message` and `out` are slices with their lengths, `told` two words. `out` and `told` are borrowed by
+    // SAFETY: `message` and `out` are slices with their lengths, `report` two words. `out` and `report` are borrowed by
     // `&mut`, and `message` is only read.
     unsafe {
         ffi::udalopek_cut(
@@ -241,7 +241,7 @@ pub fn cut(
             message.len(),
             out.as_mut_ptr(),
             out.len(),
-            told.as_mut_ptr(),
+            report.as_mut_ptr(),
         )
     }
 }

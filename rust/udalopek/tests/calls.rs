@@ -29,10 +29,10 @@ fn answers(calls: &[(&str, &str)]) {
     assert_eq!(lines.next(), None);
 }
 
-/// FNV-1a, 64 bits, of memory as a pair line leaves it, with bytes placed at an offset.
-fn hash(length: usize, placed: &[(usize, &[u8])]) -> String {
+/// FNV-1a, 64 bits, of memory as a pair line leaves it, with bytes stored at an offset.
+fn hash(length: usize, stored: &[(usize, &[u8])]) -> String {
     let mut memory: Vec<u8> = (0..length).map(|i| ((31 * i + 7) % 256) as u8).collect();
-    for (offset, bytes) in placed {
+    for (offset, bytes) in stored {
         memory[*offset..offset + bytes.len()].copy_from_slice(bytes);
     }
     let mut hash: u64 = 14695981039346656037;
@@ -47,7 +47,7 @@ const EMPTY: &str = "cbf29ce484222325";
 
 #[test]
 fn a_send_twice() {
-    let placed = hash(4096, &[(2048, b"abc")]);
+    let stored = hash(4096, &[(2048, b"abc")]);
     let ack = "1100ffff00000034000000071f000001";
     answers(&[
         (PAIR, "0"),
@@ -55,18 +55,18 @@ fn a_send_twice() {
         ("ready", "0"),
         (
             "in 4096 24 0410ffff000000128000000761626300",
-            &format!("1 0 8 1 {ack} 5:3:-:- {placed}"),
+            &format!("1 0 8 1 {ack} 5:3:-:- {stored}"),
         ),
         (
             "in 4096 24 0410ffff000000128000000761626300",
-            &format!("4 0 8 1 {ack} - {placed}"),
+            &format!("4 0 8 1 {ack} - {stored}"),
         ),
-        ("in 4096 23 -", &format!("35 0 8 1 - - {placed}")),
-        ("in 4095 24 -", &format!("34 0 8 1 - - {placed}")),
-        ("in 4096 24 -", &format!("5 0 8 1 - - {placed}")),
+        ("in 4096 23 -", &format!("35 0 8 1 - - {stored}")),
+        ("in 4095 24 -", &format!("34 0 8 1 - - {stored}")),
+        ("in 4096 24 -", &format!("5 0 8 1 - - {stored}")),
         ("next 4096 272", "36 -"),
         ("reset", "0"),
-        ("in 4096 24 -", &format!("5 0 7 0 - - {placed}")),
+        ("in 4096 24 -", &format!("5 0 7 0 - - {stored}")),
         (PAIR, "0"),
         ("in 4096 24 -", &format!("5 0 7 0 - - {}", hash(4096, &[]))),
     ]);

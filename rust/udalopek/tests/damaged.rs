@@ -13,8 +13,8 @@ fn end_write(lent: &mut Lent) -> u8 {
     lent.hand(write(None), &pattern(300), 11, 1)
 }
 
-/// For each word values that no call could have written to it: one just over its bound, or the nearest that has no meaning;
-/// one over the width of its field, where that is under 64 bits; the largest.
+/// For each word values that no call could have written to it: one just over its bound, or the nearest that has no
+/// meaning; one over the width of its field, where that is under 64 bits; the largest.
 fn damage() -> Vec<(usize, u64)> {
     let number = 1 << 24;
     let bounds = [
@@ -31,10 +31,10 @@ fn damage() -> Vec<(usize, u64)> {
         (word::READ, 2),
         (word::ATOMIC, 2),
         (word::KIND, 1),
-        (word::PLACED, 300),             // all of its bytes, and yet open
+        (word::STORED, 300),             // all of its bytes, and yet open
         (word::ADDRESS, u64::MAX - 255), // that of the next byte would be 2^64
         (word::KEY, 1 << 32),
-        (word::LENGTH, 256), // no more than is placed
+        (word::LENGTH, 256), // no more than is stored
         (word::LENGTH, 1_048_577),
         (word::HEAD, 16),
         (word::COUNT, 17),
@@ -48,7 +48,7 @@ fn damage() -> Vec<(usize, u64)> {
         (word::EXPECTED, number),
         (word::MSN, number),
         (word::STATE, 3),
-        (word::MARK, 2),
+        (word::NAK_MARK, 2),
     ];
     let wide = [
         (word::OURS, 32),
@@ -216,7 +216,8 @@ fn rows_of_regions_that_no_call_wrote() {
 
 #[test]
 fn rows_of_entries_that_no_call_wrote() {
-    // The entry that a SEND would take: 128 bytes from byte 2,048 on. Of each number the last that is in range, and the next.
+    // The entry that a SEND would take: 128 bytes from byte 2,048 on. Of each number the last that is in range, and the
+    // next.
     let mut sound = Lent::busy();
     sound.drain();
     assert_eq!(end_write(&mut sound), 1);

@@ -1,5 +1,5 @@
-//! Numbers in their ranges, set as no list of calls might have left them: at their limits, in another state, on the other
-//! service. What becomes of them is by the rules for the pair that they say.
+//! Numbers in their ranges, set as no list of calls might have left them: at their limits, in another state, on the
+//! other service. What becomes of them is by the rules for the pair that they say.
 mod common;
 
 use common::lent::{word, Lent, CLOSED, ERROR, INIT, LIMIT, READY, SPACE};
@@ -11,16 +11,16 @@ use udalopek::{Region, Service, Setup};
 const END: u64 = ADDRESS + 1024;
 const MAX: u64 = u64::MAX;
 
-/// The bytes of a response from a place in memory, and its headers: opcode, AETH's MSN unless it is a Middle, PSN.
-fn response(lent: &Lent, opcode: u8, psn: u32, msn: u32, place: std::ops::Range<usize>) -> Vec<u8> {
+/// The bytes of a response from a range of memory, and its headers: opcode, AETH's MSN unless it is a Middle, PSN.
+fn response(lent: &Lent, opcode: u8, psn: u32, msn: u32, range: std::ops::Range<usize>) -> Vec<u8> {
     let mut bytes = acknowledge(0x1f, psn, msn);
     bytes[0] = opcode;
     if opcode == 14 {
         bytes.truncate(12);
     }
-    let pad = (4 - place.len() % 4) % 4;
+    let pad = (4 - range.len() % 4) % 4;
     bytes[1] = (pad as u8) << 4;
-    bytes.extend(&lent.memory[place]);
+    bytes.extend(&lent.memory[range]);
     bytes.resize(bytes.len() + pad, 0);
     bytes
 }
@@ -38,7 +38,7 @@ fn responds(lent: &mut Lent, bytes: &[u8]) {
 
 #[test]
 fn a_host_call_changes_nothing_but_what_is_its_own() {
-    let busy = Lent::busy().with(&[(word::MARK, 1), (word::HEAD, 15), (word::COUNT, 3)]);
+    let busy = Lent::busy().with(&[(word::NAK_MARK, 1), (word::HEAD, 15), (word::COUNT, 3)]);
 
     let mut lent = busy.with(&[(word::STATE, INIT)]);
     let expected = lent.with(&[(word::STATE, READY)]);
@@ -147,9 +147,9 @@ fn entries_are_posted_and_taken_around_the_end_of_their_table() {
                 };
                 let bytes = if i % 3 == 2 { 259 } else { 3 };
                 let immediate = u64::from(i % 3 == 1);
-                let (number, told) = lent.take(&ended.on(service).bytes());
+                let (number, report) = lent.take(&ended.on(service).bytes());
                 assert_eq!(number, executed(service));
-                assert_eq!(told[1..], [1, i / 2, bytes, immediate, immediate]);
+                assert_eq!(report[1..], [1, i / 2, bytes, immediate, immediate]);
                 assert_eq!(lent.words[word::HEAD], (head + i + 1) % 16);
                 assert_eq!(lent.words[word::COUNT], 15 - i);
                 psn += 1;
@@ -195,12 +195,12 @@ fn answers_carry_numbers_at_their_limits() {
     let mut ahead = lent.clone();
     assert_eq!(ahead.take(&packet(0)), (16, [16, 0, 0, 0, 0, 0]));
     let nak = *b"\x11\0\x80\x01\0\xff\xff\xff\0\xff\xff\xff\x60\xff\xff\xff";
-    let mut expected = lent.with(&[(word::MARK, 1)]);
+    let mut expected = lent.with(&[(word::NAK_MARK, 1)]);
     expected.out[..16].copy_from_slice(&nak);
     assert!(ahead == expected);
 
     let mut none = lent.with(&[(word::COUNT, 0)]);
-    let mut expected = none.with(&[(word::MARK, 1)]);
+    let mut expected = none.with(&[(word::NAK_MARK, 1)]);
     assert_eq!(none.take(&packet(0xff_ffff)), (19, [16, 0, 0, 0, 0, 0]));
     let nak = *b"\x11\0\x80\x01\0\xff\xff\xff\0\xff\xff\xff\x3f\xff\xff\xff";
     expected.out[..16].copy_from_slice(&nak);
@@ -210,10 +210,10 @@ fn answers_carry_numbers_at_their_limits() {
 #[test]
 fn after_its_last_number_the_msn_is_0() {
     let last = [(word::MSN, 0xff_ffff)];
-    let ended = |lent: Lent, number, packet: Wire, sent: &[u8]| {
+    let ended = |lent: Lent, number, packet: Wire, outgoing: &[u8]| {
         let after = lent.with(&last).after(number, &packet);
         assert_eq!(after.words[word::MSN], 0, "{packet:?}");
-        assert_eq!(after.out[..sent.len()], *sent, "{packet:?}");
+        assert_eq!(after.out[..outgoing.len()], *outgoing, "{packet:?}");
         after
     };
     let lent = Lent::ready(Service::Rc, 3);
@@ -268,20 +268,20 @@ fn half_of_all_psns_are_ahead_and_the_others_duplicates() {
         let at = |distance| wire(SEND + ONLY, (expected + distance) % SPACE);
         for distance in [1, 2, 8_388_607, 8_388_608] {
             let nak = acknowledge(0x60, expected, 0);
-            let marked = lent.only_sets(&[(word::MARK, 1)], 16, &nak, &at(distance));
+            let marked = lent.only_sets(&[(word::NAK_MARK, 1)], 16, &nak, &at(distance));
             marked.leaves(5, &at(distance));
         }
         for distance in [8_388_609, 8_388_610, 16_777_215] {
             let ack = acknowledge(0x1f, (expected + SPACE - 1) % SPACE, 0);
             lent.only_sets(&[], 4, &ack, &at(distance));
-            // A duplicate does not clear the mark.
-            let marked = lent.with(&[(word::MARK, 1)]);
+            // A duplicate does not clear the NAK mark.
+            let marked = lent.with(&[(word::NAK_MARK, 1)]);
             marked.only_sets(&[], 4, &ack, &at(distance));
         }
-        let after = lent.with(&[(word::MARK, 1)]).after(1, &at(0));
+        let after = lent.with(&[(word::NAK_MARK, 1)]).after(1, &at(0));
         let next = u64::from((expected + 1) % SPACE);
         assert_eq!(
-            (after.words[word::EXPECTED], after.words[word::MARK]),
+            (after.words[word::EXPECTED], after.words[word::NAK_MARK]),
             (next, 0)
         );
     }
@@ -318,7 +318,7 @@ fn a_read_that_comes_again_ends_before_the_expected_psn() {
                 (word::READ_MSN, 5),
             ];
             match number {
-                16 => lent.only_sets(&[(word::MARK, 1)], 16, &nak, &packet),
+                16 => lent.only_sets(&[(word::NAK_MARK, 1)], 16, &nak, &packet),
                 5 => lent.only_sets(&[], 5, b"", &packet),
                 _ => lent.only_sets(&begun, 4, b"", &packet),
             };
@@ -329,8 +329,8 @@ fn a_read_that_comes_again_ends_before_the_expected_psn() {
 #[test]
 fn packets_are_dropped_unless_the_pair_is_ready() {
     let ready = Lent::ready(Service::Rc, 1);
-    let mut strange = wire(CMP_SWAP, 7).bytes();
-    strange.truncate(20);
+    let mut malformed = wire(CMP_SWAP, 7).bytes();
+    malformed.truncate(20);
     for state in [INIT, ERROR] {
         let lent = ready.with(&[(word::STATE, state)]);
         for opcode in (0..=12).chain(17..=31) {
@@ -338,9 +338,9 @@ fn packets_are_dropped_unless_the_pair_is_ready() {
                 lent.leaves(5, &wire(opcode, psn).carrying(256));
             }
         }
-        lent.keeps(5, |lent| lent.inbound(&strange), state);
+        lent.keeps(5, |lent| lent.inbound(&malformed), state);
     }
-    ready.keeps(5, |lent| lent.inbound(&strange), READY);
+    ready.keeps(5, |lent| lent.inbound(&malformed), READY);
     ready.after(1, &wire(SEND + ONLY, 7));
 
     // On UC what is open stays open.
@@ -479,8 +479,8 @@ fn failing() -> [Failing; 3] {
     alone.push((of(READ).carrying(4), 17));
     alone.push((of(FETCH_ADD).carrying(4), 17));
 
-    // Over an open message all but its own Middles and Lasts; then those with lengths that do not fit: of the entry's 600
-    // bytes, and of the WRITE's, 344 are to come.
+    // Over an open message all but its own Middles and Lasts; then those with lengths that do not fit: of the entry's
+    // 600 bytes, and of the WRITE's, 344 are to come.
     let over = |own: std::ops::RangeInclusive<u8>| {
         let others = (0..=12).chain(19..=31).filter(move |n| !own.contains(n));
         others.map(|opcode| (wire(opcode, 8).carrying(256).length(300), 17))
@@ -513,7 +513,7 @@ fn an_error_changes_the_state_and_nothing_else() {
         let psn = pair.words[word::EXPECTED] as u32;
         let saved = [(word::SAVED_HEAD, 9), (word::SAVED_COUNT, 4)];
         for mark in [0, 1] {
-            let lent = pair.with(&[(word::MARK, mark), (word::MSN, 77)]);
+            let lent = pair.with(&[(word::NAK_MARK, mark), (word::MSN, 77)]);
             let lent = lent.with(&saved);
             for (packet, number) in &packets {
                 let syndrome = if *number == 17 { 0x61 } else { 0x62 };
@@ -547,7 +547,7 @@ fn an_open_write_whose_key_is_gone_is_18_and_stays_as_it_was() {
         lent.regions[0] = row;
         let nak = acknowledge(0x62, 8, 0);
         let stopped = lent.only_sets(&[(word::STATE, ERROR)], 18, &nak, &middle);
-        // Ready again, with the key at another place: the rest goes there.
+        // Ready again, with the key at another offset: the rest goes there.
         let mut again = stopped.with(&[(word::STATE, READY)]);
         again.regions[0] = [KEY.into(), ADDRESS + 256, 344, 3000, 1, 0, 0];
         let after = again.after(1, &middle);
@@ -575,8 +575,8 @@ fn a_function_that_is_off_is_17_and_duplicates_are_answered() {
             let unknown = packet.clone().key(9).length(4);
             off.only_sets(&[(word::STATE, ERROR)], 17, &nak, &unknown);
             let ack = acknowledge(0x1f, 6, 0);
-            let sent = if *number == 4 { &ack[..] } else { b"" };
-            off.only_sets(&[], *number, sent, duplicate);
+            let outgoing = if *number == 4 { &ack[..] } else { b"" };
+            off.only_sets(&[], *number, outgoing, duplicate);
         }
     }
 }
@@ -608,7 +608,7 @@ fn a_missing_entry_sets_the_mark_and_nothing_else() {
     for (lent, packet) in cases.into_iter().chain([(&open, last.clone())]) {
         let psn = lent.words[word::EXPECTED] as u32;
         let nak = acknowledge(0x20 + 19, psn, 0);
-        let marked = lent.only_sets(&[(word::MARK, 1)], 19, &nak, &packet);
+        let marked = lent.only_sets(&[(word::NAK_MARK, 1)], 19, &nak, &packet);
         // Again the same; and now what is ahead is quiet.
         marked.only_sets(&[], 19, &nak, &packet);
         marked.leaves(5, &wire(SEND + ONLY, psn + 1));
@@ -624,11 +624,11 @@ fn a_missing_entry_sets_the_mark_and_nothing_else() {
         lent.only_sets(&[(word::STATE, ERROR)], 17, &nak, packet);
     }
     // The WRITE goes on where it was.
-    let mut open = open.with(&[(word::MARK, 1)]);
+    let mut open = open.with(&[(word::NAK_MARK, 1)]);
     assert_eq!(open.post(3, 3000, 0), 0);
-    let (number, told) = open.take(&last.bytes());
-    assert_eq!((number, told), (1, [16, 1, 3, 260, 1, 1]));
-    assert_eq!(open.words[word::MARK], 0);
+    let (number, report) = open.take(&last.bytes());
+    assert_eq!((number, report), (1, [16, 1, 3, 260, 1, 1]));
+    assert_eq!(open.words[word::NAK_MARK], 0);
 }
 
 #[test]
@@ -638,11 +638,11 @@ fn a_packet_ahead_sets_the_mark_and_nothing_else() {
     // Whatever it is.
     for opcode in (0..=12).chain(19..=31) {
         let packet = wire(opcode, 9).carrying(256).key(9).length(LIMIT + 1);
-        let marked = lent.only_sets(&[(word::MARK, 1)], 16, &nak, &packet);
+        let marked = lent.only_sets(&[(word::NAK_MARK, 1)], 16, &nak, &packet);
         marked.leaves(5, &packet);
     }
     // Each kind of executing clears it.
-    let marked = lent.with(&[(word::MARK, 1)]);
+    let marked = lent.with(&[(word::NAK_MARK, 1)]);
     let executed = [
         (wire(SEND + FIRST, 7).carrying(256), 1),
         (wire(SEND + ONLY, 7), 1),
@@ -653,7 +653,7 @@ fn a_packet_ahead_sets_the_mark_and_nothing_else() {
         (wire(CMP_SWAP, 7), 3),
     ];
     for (packet, number) in executed {
-        assert_eq!(marked.after(number, &packet).words[word::MARK], 0);
+        assert_eq!(marked.after(number, &packet).words[word::NAK_MARK], 0);
     }
 }
 
@@ -663,22 +663,22 @@ fn bytes_placed_are_taken_as_they_stand() {
     let ready = Lent::ready(Service::Rc, 1);
     let nak = acknowledge(0x61, 7, 0);
     // More than the entry has, or all of it.
-    for placed in [600, 601, u64::from(LIMIT)] {
-        let lent = ready.with(&[(word::KIND, 0), (word::PLACED, placed)]);
+    for stored in [600, 601, u64::from(LIMIT)] {
+        let lent = ready.with(&[(word::KIND, 0), (word::STORED, stored)]);
         lent.only_sets(&[(word::STATE, ERROR)], 17, &nak, &last);
     }
     // No multiple of the PMTU.
-    let mut lent = ready.with(&[(word::KIND, 0), (word::PLACED, 599)]);
+    let mut lent = ready.with(&[(word::KIND, 0), (word::STORED, 599)]);
     let mut memory = lent.memory.clone();
     memory[1536 + 599] = b'x';
     assert_eq!(lent.take(&last.bytes()), (1, [16, 1, 11, 600, 0, 0]));
     assert!(lent.memory == memory);
 
-    let open = |placed, length, address| {
+    let open = |stored, length, address| {
         ready.with(&[
             (word::KIND, 6),
             (word::KEY, KEY.into()),
-            (word::PLACED, placed),
+            (word::STORED, stored),
             (word::LENGTH, length),
             (word::ADDRESS, address),
         ])
@@ -749,7 +749,7 @@ fn on_uc_an_executed_packet_clears_a_mark_and_no_other_does() {
     let uc = |opcode, psn| wire(opcode, psn).on(Service::Uc);
     // Numbers that are of no use here stay as they are, whatever comes.
     let lent = Lent::ready(Service::Uc, 3).with(&[
-        (word::MARK, 1),
+        (word::NAK_MARK, 1),
         (word::READ_OFFSET, 5),
         (word::READ_LENGTH, 6),
         (word::READ_PSN, SPACE.into()),
@@ -760,17 +760,17 @@ fn on_uc_an_executed_packet_clears_a_mark_and_no_other_does() {
     lent.leaves(5, &uc(SEND + MIDDLE, 7).carrying(256));
     lent.leaves(5, &uc(SEND + ONLY, 8).pad(1));
     let open = lent.after(0, &uc(SEND + FIRST, 9).carrying(256));
-    let opened = [(word::EXPECTED, 10), (word::KIND, 0), (word::PLACED, 256)];
-    let expected = lent.with(&opened).with(&[(word::MARK, 0)]);
+    let opened = [(word::EXPECTED, 10), (word::KIND, 0), (word::STORED, 256)];
+    let expected = lent.with(&opened).with(&[(word::NAK_MARK, 0)]);
     assert_eq!(open.words, expected.words);
-    // Abandoned: the mark stays.
-    let marked = open.with(&[(word::MARK, 1)]);
+    // Abandoned: the NAK mark stays.
+    let marked = open.with(&[(word::NAK_MARK, 1)]);
     marked.only_sets(&CLOSED, 6, b"", &uc(SEND + LAST, 11).with(b"x"));
     let ended = marked.after(0, &uc(WRITE + ONLY_IMM, 30).with(b"x"));
     let counted = [
         (word::EXPECTED, 31),
         (word::MSN, 1),
-        (word::MARK, 0),
+        (word::NAK_MARK, 0),
         (word::HEAD, 1),
         (word::COUNT, 2),
     ];
@@ -781,15 +781,15 @@ fn on_uc_an_executed_packet_clears_a_mark_and_no_other_does() {
 #[test]
 fn numbers_of_no_message_are_kept_by_a_drop_and_set_anew_by_a_send_or_write() {
     let set = [
-        (word::PLACED, 3),
+        (word::STORED, 3),
         (word::ADDRESS, MAX),
         (word::KEY, 4),
         (word::LENGTH, MAX),
     ];
-    let opened = |kind, placed, address, key, length| {
+    let opened = |kind, stored, address, key, length| {
         [
             (word::KIND, kind),
-            (word::PLACED, placed),
+            (word::STORED, stored),
             (word::ADDRESS, address),
             (word::KEY, key),
             (word::LENGTH, length),

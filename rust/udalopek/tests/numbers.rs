@@ -1,15 +1,30 @@
-//! Numbers that the safe types cannot hold, handed to the library as they are; and what is told where a call is refused.
+//! Numbers that the safe types cannot hold, handed to the library as they are; and the report where a call is refused.
 use udalopek::raw;
 
 const FULL: u64 = 0x5555_5555_5555_5555;
 
-/// A cut of a READ of four bytes by a service and a kind, with bytes beside it: number, what is told, output.
+/// A cut of a READ of four bytes by a service and a kind, with bytes beside it: number, report, output.
 fn cut(service: u8, kind: u8, message: &[u8], room: usize) -> (u8, [u64; 2], Vec<u8>) {
-    let (mut out, mut told) = (vec![0xaa; room], [FULL; 2]);
+    let (mut out, mut report) = (vec![0xaa; room], [FULL; 2]);
     let number = raw::cut(
-        service, 256, 0xffff, 0x12, 7, 0, kind, 0x1000, 9, 4, 3, 2, 1, message, &mut out, &mut told,
+        service,
+        256,
+        0xffff,
+        0x12,
+        7,
+        0,
+        kind,
+        0x1000,
+        9,
+        4,
+        3,
+        2,
+        1,
+        message,
+        &mut out,
+        &mut report,
     );
-    (number, told, out)
+    (number, report, out)
 }
 
 #[test]
@@ -65,9 +80,9 @@ fn what_a_refusal_tells() {
     // A header of RC SEND Only; then with a pad of 4, a word where it has no field, and no room.
     let bth = [4, 0, 0, 0, 0, 0xffff, 0, 0x12, 1, 0, 7];
     let write = |bth: &[u64; 11], extension: &[u64; 10], room: usize| {
-        let (mut out, mut told) = (vec![0xaa; room], [FULL]);
-        let number = raw::write_header(bth, extension, &mut out, &mut told);
-        (number, told, out)
+        let (mut out, mut report) = (vec![0xaa; room], [FULL]);
+        let number = raw::write_header(bth, extension, &mut out, &mut report);
+        (number, report, out)
     };
     let none = [0; 10];
     let good = write(&bth, &none, 12);

@@ -1,5 +1,5 @@
-//! Each number of a pair just in and just out of its range, in every call that is lent the words, in every state and on both
-//! services. What is refused changes nothing.
+//! Each number of a pair just in and just out of its range, in every call that is lent the words, in every state and on
+//! both services. What is refused changes nothing.
 mod common;
 
 use common::lent::{self, word, Lent, ERROR, INIT, READY};
@@ -16,7 +16,7 @@ const MAX: u64 = u64::MAX;
 enum Fit {
     /// In their ranges.
     Sound,
-    /// Out of them: 34 at its place in the order of a call.
+    /// Out of them: 34 at its turn in the order of a call.
     Unsound,
     /// One is over the width of its field: 34 before all else.
     Wide,
@@ -170,7 +170,7 @@ fn expected_psn_and_msn_have_24_bits() {
 #[test]
 fn the_state_is_one_of_three_and_the_mark_a_flag() {
     each(word::STATE, &[0, 1, 2], &[3, 255], &[256, 257, MAX]);
-    each(word::MARK, &[0, 1], &[], &[2, MAX]);
+    each(word::NAK_MARK, &[0, 1], &[], &[2, MAX]);
 }
 
 #[test]
@@ -213,11 +213,11 @@ fn an_open_send_holds_an_entry_and_has_placed_at_most_the_limit() {
         (1, LIMIT + 1, Unsound),
         (1, MAX, Unsound),
     ];
-    for (count, placed, fit) in cases {
+    for (count, stored, fit) in cases {
         let set = [
             (word::KIND, 0),
             (word::COUNT, count),
-            (word::PLACED, placed),
+            (word::STORED, stored),
             // These are a WRITE's.
             (word::ADDRESS, MAX),
             (word::LENGTH, MAX),
@@ -250,10 +250,10 @@ fn an_open_write_has_bytes_to_come_within_the_limit_and_below_the_top() {
         (256, 300, MAX - 256, Sound),
         (256, 300, MAX - 255, Unsound),
     ];
-    for (placed, length, address, fit) in cases {
+    for (stored, length, address, fit) in cases {
         let set = [
             (word::KIND, 6),
-            (word::PLACED, placed),
+            (word::STORED, stored),
             (word::LENGTH, length),
             (word::ADDRESS, address),
             // A WRITE holds no entry.
@@ -321,7 +321,7 @@ fn a_read_answer_lies_in_memory_with_no_more_responses_than_it_has() {
 #[test]
 fn numbers_of_no_message_and_of_no_read_have_no_bounds_but_their_widths() {
     let message = [
-        (word::PLACED, MAX),
+        (word::STORED, MAX),
         (word::ADDRESS, MAX),
         (word::KEY, u32::MAX.into()),
         (word::LENGTH, MAX),

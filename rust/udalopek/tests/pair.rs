@@ -1,4 +1,4 @@
-//! A pair over its safe calls: what each answer changes, what is sent, and that refusals change nothing.
+//! A pair over its safe calls: what each answer changes, what is to be sent, and that refusals change nothing.
 mod common;
 
 use common::*;
@@ -18,9 +18,9 @@ fn seen(pair: &QueuePair) -> String {
 fn a_send_takes_effect_once() {
     let mut host = Host::ready(setup());
     host.pair.post_entry(entry(0)).unwrap();
-    let (got, sent) = host.take(&W12);
+    let (got, outgoing) = host.take(&W12);
     assert_eq!(got.answer, Answer::Acknowledged);
-    assert_eq!(sent, W12_ACK);
+    assert_eq!(outgoing, W12_ACK);
     let mut memory = pattern(MEMORY);
     memory[2048..2051].copy_from_slice(b"abc");
     assert_eq!(host.memory, memory);
@@ -32,14 +32,14 @@ fn a_send_takes_effect_once() {
     assert_eq!(got.completion, Some(completion));
     assert_eq!((host.pair.expected(), host.pair.msn()), (8, 1));
 
-    // Another message's bytes under the old PSN are not placed either.
+    // Another message's bytes under the old PSN are not stored either.
     host.pair.post_entry(entry(1)).unwrap();
     let before = seen(&host.pair);
     for duplicate in [W12.to_vec(), packet(Service::Rc, SEND, b"xyz", 7, 0)] {
-        let (got, sent) = host.take(&duplicate);
+        let (got, outgoing) = host.take(&duplicate);
         assert_eq!(got.answer, Answer::DuplicateAnswered);
         assert_eq!(got.completion, None);
-        assert_eq!(sent, W12_ACK);
+        assert_eq!(outgoing, W12_ACK);
         assert_eq!(host.memory, memory);
         assert_eq!(seen(&host.pair), before);
     }
@@ -113,15 +113,15 @@ fn a_write_goes_to_its_region() {
 #[test]
 fn a_read_is_answered_by_responses() {
     let mut host = Host::ready(setup());
-    let (got, sent) = host.take(&packet(Service::Rc, read(600), b"", 7, 0));
-    assert_eq!((got.answer, sent.len()), (Answer::ReadAccepted, 0));
+    let (got, outgoing) = host.take(&packet(Service::Rc, read(600), b"", 7, 0));
+    assert_eq!((got.answer, outgoing.len()), (Answer::ReadAccepted, 0));
     assert_eq!((host.pair.expected(), host.pair.msn()), (10, 1));
     assert_eq!(host.pair.responses_pending(), 3);
 
     let before = seen(&host.pair);
     let mut out = [0xee; 272];
-    let again = host.pair.inbound(&mut host.memory, &W12, &mut out);
-    assert_eq!(again, Err(Refusal::ReadUnfinished));
+    let early = host.pair.inbound(&mut host.memory, &W12, &mut out);
+    assert_eq!(early, Err(Refusal::ReadUnfinished));
     let short = host.pair.next_response(&host.memory, &mut out[..271]);
     assert_eq!(short, Err(Refusal::OutputShort));
     let other = host.pair.next_response(&host.memory[1..], &mut out);
@@ -159,14 +159,14 @@ fn an_atomic_is_not_executed_twice() {
     let mut host = Host::ready(setup());
     let word = |memory: &[u8]| u64::from_le_bytes(memory[..8].try_into().unwrap());
     host.memory[..8].copy_from_slice(&u64::MAX.to_le_bytes());
-    let value_of = |sent: &[u8]| match read_header(sent).unwrap().extension {
+    let value_of = |outgoing: &[u8]| match read_header(outgoing).unwrap().extension {
         Extension::AethValue { value, .. } => value,
         other => panic!("{other:?}"),
     };
     let fetch = packet(Service::Rc, add(2), b"", 7, 0);
-    let (got, sent) = host.take(&fetch);
+    let (got, outgoing) = host.take(&fetch);
     assert_eq!(got.answer, Answer::AtomicExecuted);
-    assert_eq!((value_of(&sent), word(&host.memory)), (u64::MAX, 1));
+    assert_eq!((value_of(&outgoing), word(&host.memory)), (u64::MAX, 1));
 
     // Stored if equal, and not if not.
     for (psn, compare, after) in [(8, 1, 77), (9, 1, 77)] {
@@ -177,16 +177,16 @@ fn an_atomic_is_not_executed_twice() {
             swap: 77,
             compare,
         };
-        let (got, sent) = host.take(&packet(Service::Rc, request, b"", psn, 0));
+        let (got, outgoing) = host.take(&packet(Service::Rc, request, b"", psn, 0));
         assert_eq!(got.answer, Answer::AtomicExecuted);
-        assert_eq!((value_of(&sent), word(&host.memory)), (before, after));
+        assert_eq!((value_of(&outgoing), word(&host.memory)), (before, after));
     }
     assert_eq!(host.pair.saved(), [(7, u64::MAX), (8, 1), (9, 77)]);
 
     let before = seen(&host.pair);
-    let (got, sent) = host.take(&fetch);
+    let (got, outgoing) = host.take(&fetch);
     assert_eq!(got.answer, Answer::DuplicateAnswered);
-    assert_eq!((value_of(&sent), word(&host.memory)), (u64::MAX, 77));
+    assert_eq!((value_of(&outgoing), word(&host.memory)), (u64::MAX, 77));
     assert_eq!(seen(&host.pair), before);
 
     // A seventeenth replaces the oldest.
@@ -201,8 +201,8 @@ fn an_atomic_is_not_executed_twice() {
 
 #[test]
 fn naks_say_what_is_wrong() {
-    let syndrome_of = |sent: &[u8]| {
-        let header = read_header(sent).unwrap();
+    let syndrome_of = |outgoing: &[u8]| {
+        let header = read_header(outgoing).unwrap();
         match header.extension {
             Extension::Aeth { syndrome, .. } => (syndrome, header.psn),
             other => panic!("{other:?}"),
@@ -216,21 +216,21 @@ fn naks_say_what_is_wrong() {
 
     // Ahead: one NAK with the expected PSN, then none until that one is executed.
     let ahead = packet(Service::Rc, SEND, b"abc", 9, 0);
-    let (got, sent) = host.take(&ahead);
+    let (got, outgoing) = host.take(&ahead);
     assert_eq!(got.answer, Answer::SequenceNak);
-    assert_eq!(syndrome_of(&sent), (0x60, 7));
+    assert_eq!(syndrome_of(&outgoing), (0x60, 7));
     assert!(host.pair.marked());
     assert_eq!(host.take(&ahead).0.answer, Answer::Dropped);
 
     // No entry waits.
-    let (got, sent) = host.take(&W12);
+    let (got, outgoing) = host.take(&W12);
     assert_eq!(got.answer, Answer::NotReadyNak);
-    assert_eq!(syndrome_of(&sent), (0x20 + 19, 7));
+    assert_eq!(syndrome_of(&outgoing), (0x20 + 19, 7));
     host.pair.post_entry(entry(0)).unwrap();
     assert_eq!(host.take(&W12).0.answer, Answer::Acknowledged);
     assert!(!host.pair.marked());
 
-    let strange = Request::Write {
+    let unknown = Request::Write {
         address: ADDRESS,
         key: KEY + 1,
         immediate: None,
@@ -241,15 +241,15 @@ fn naks_say_what_is_wrong() {
         add: 1,
     };
     let cases = [
-        (strange, &b"x"[..], Answer::AccessNak, 0x62),
+        (unknown, &b"x"[..], Answer::AccessNak, 0x62),
         (unaligned, b"", Answer::InvalidRequestNak, 0x61),
     ];
     for (request, message, answer, syndrome) in cases {
         let mut host = Host::ready(setup());
         host.pair.post_entry(entry(0)).unwrap();
-        let (got, sent) = host.take(&packet(Service::Rc, request, message, 7, 0));
+        let (got, outgoing) = host.take(&packet(Service::Rc, request, message, 7, 0));
         assert_eq!(got.answer, answer);
-        assert_eq!(syndrome_of(&sent), (syndrome, 7));
+        assert_eq!(syndrome_of(&outgoing), (syndrome, 7));
         assert_eq!(host.pair.state(), State::Error);
         assert_eq!(host.memory, pattern(MEMORY));
         assert_eq!(host.pair.waiting().len(), 1);
@@ -335,7 +335,7 @@ fn packets_for_others_are_dropped() {
     host.pair.post_entry(entry(0)).unwrap();
     let before = seen(&host.pair);
     // No bytes, half a word, too long; then UC, a response, TVer, P_Key, DestQP, no service.
-    let mut strange = vec![Vec::new(), W12[..15].to_vec(), vec![0; 4132]];
+    let mut dropped = vec![Vec::new(), W12[..15].to_vec(), vec![0; 4132]];
     let bytes = [
         (0, 0x24),
         (0, 0x11),
@@ -344,14 +344,14 @@ fn packets_for_others_are_dropped() {
         (7, 0x13),
         (0, 0xe4),
     ];
-    for (place, value) in bytes {
+    for (at, value) in bytes {
         let mut packet = W12.to_vec();
-        packet[place] = value;
-        strange.push(packet);
+        packet[at] = value;
+        dropped.push(packet);
     }
-    for packet in strange {
-        let (got, sent) = host.take(&packet);
-        assert_eq!((got.answer, sent.len()), (Answer::Dropped, 0));
+    for packet in dropped {
+        let (got, outgoing) = host.take(&packet);
+        assert_eq!((got.answer, outgoing.len()), (Answer::Dropped, 0));
         assert_eq!(seen(&host.pair), before);
         assert_eq!(host.memory, pattern(MEMORY));
     }
@@ -383,7 +383,7 @@ fn an_unreliable_message_is_whole_or_not_told() {
     assert_eq!(host.answer(SEND, message, 200, 0), Answer::Executed);
     assert_eq!(host.answer(SEND, message, 200, 1), Answer::Executed);
     let got = host.hand(SEND, message, 200, 2);
-    assert_eq!((got.answer, got.sent), (Answer::Executed, 0));
+    assert_eq!((got.answer, got.outgoing), (Answer::Executed, 0));
     let completion = Completion {
         entry: 1,
         bytes: 700,

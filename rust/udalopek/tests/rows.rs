@@ -136,10 +136,10 @@ fn a_region_at_the_very_limits_of_memory_and_addresses_is_used() {
             let packet = wire(WRITE + ONLY, 7).with(b"z").key(u32::MAX);
             packet.address(address).on(service)
         };
-        for (address, place) in [(top, 0), (u64::MAX - 1, 4095)] {
+        for (address, offset) in [(top, 0), (u64::MAX - 1, 4095)] {
             let after = lent.after(executed(service), &to(address));
             let mut memory = lent.memory.clone();
-            memory[place] = b'z';
+            memory[offset] = b'z';
             assert!(after.memory == memory);
         }
         for address in [top - 1, u64::MAX, 0] {
@@ -246,8 +246,8 @@ fn waiting(service: Service, (offset, length): (u64, u64)) -> Lent {
     lent.with(&[(word::HEAD, 15), (word::COUNT, 1)])
 }
 
-/// Packets that take an entry, with nothing wrong with them; then with something that is looked at after the entry, the key
-/// or a length; then before it, the pad of a First or the DMA length.
+/// Packets that take an entry, with nothing wrong with them; then with something that is looked at after the entry, the
+/// key or a length; then before it, the pad of a First or the DMA length.
 fn takers(service: Service, psn: u32) -> [Vec<Wire>; 3] {
     let send = |place| wire(SEND + place, psn).on(service);
     let write = || wire(WRITE + ONLY_IMM, psn).on(service);
@@ -285,7 +285,7 @@ fn an_entry_outside_memory_is_34_right_after_the_check_that_one_waits() {
         let none = lent.with(&[(word::COUNT, 0)]);
         for packet in [&good[..], &later].concat() {
             let nak = acknowledge(0x20, 7, 0);
-            none.only_sets(&[(word::MARK, 1)], 19, &nak, &packet);
+            none.only_sets(&[(word::NAK_MARK, 1)], 19, &nak, &packet);
             lent.leaves(34, &packet);
         }
         // What comes before: pad and DMA length, and the packet's place, a reserved opcode, a function that is off.
@@ -312,7 +312,7 @@ fn an_entry_outside_memory_is_34_right_after_the_check_that_one_waits() {
         behind.leaves(34, &wire(SEND + ONLY, 8));
 
         // The entry that an open SEND holds, for each of its packets; lengths come later, the sequence before.
-        let open = lent.with(&[(word::KIND, 0), (word::PLACED, 1)]);
+        let open = lent.with(&[(word::KIND, 0), (word::STORED, 1)]);
         for place in [MIDDLE, LAST, LAST_IMM] {
             for bytes in [0, 4, 256, 260] {
                 open.leaves(34, &wire(SEND + place, 7).carrying(bytes));
@@ -369,7 +369,7 @@ fn an_entry_outside_memory_is_34_on_uc_and_what_was_open_stays_open() {
         open.after(0, &uc(WRITE + LAST, 9).carrying(88));
 
         // Over an open SEND, which holds this very entry.
-        let open = lent.with(&[(word::KIND, 0), (word::PLACED, 256)]);
+        let open = lent.with(&[(word::KIND, 0), (word::STORED, 256)]);
         for place in [MIDDLE, LAST, LAST_IMM] {
             for bytes in [0, 4, 256, 260] {
                 open.leaves(34, &uc(SEND + place, 7).carrying(bytes));
@@ -402,12 +402,12 @@ fn an_entry_at_the_very_end_of_memory_is_taken() {
             let whole = length.min(256) as usize;
             let packet = wire(SEND + ONLY, 7).carrying(whole).on(service);
             let mut after = lent.clone();
-            let (number, told) = after.take(&packet.bytes());
+            let (number, report) = after.take(&packet.bytes());
             assert_eq!(number, executed(service));
-            assert_eq!(told[1..], [1, 31, whole as u64, 0, 0]);
+            assert_eq!(report[1..], [1, 31, whole as u64, 0, 0]);
             let mut memory = lent.memory.clone();
-            let place = offset as usize;
-            memory[place..place + whole].copy_from_slice(&payload(whole));
+            let at = offset as usize;
+            memory[at..at + whole].copy_from_slice(&payload(whole));
             assert!(after.memory == memory);
             assert_eq!((after.words[word::HEAD], after.words[word::COUNT]), (0, 0));
         }
@@ -424,26 +424,26 @@ fn saved_answer(psn: u32, msn: u32, value: u64) -> Vec<u8> {
 
 #[test]
 fn of_the_saved_atomics_the_newest_with_the_psn_counts() {
-    let again = |psn| wire(FETCH_ADD, psn);
+    let duplicate = |psn| wire(FETCH_ADD, psn);
     let mut lent = Lent::ready(Service::Rc, 0);
     lent.saved[..4].copy_from_slice(&[[4, 44], [5, u64::MAX], [5, 0x77], [3, 0]]);
     // Rows that are not counted are nobody's.
-    lent.leaves(5, &again(5));
+    lent.leaves(5, &duplicate(5));
     for (count, value) in [(2, u64::MAX), (3, 0x77), (4, 0x77)] {
         let kept = lent.with(&[(word::SAVED_COUNT, count)]);
-        kept.only_sets(&[], 4, &saved_answer(5, 0, value), &again(5));
-        kept.only_sets(&[], 4, &saved_answer(4, 0, 44), &again(4));
-        kept.leaves(5, &again(6));
+        kept.only_sets(&[], 4, &saved_answer(5, 0, value), &duplicate(5));
+        kept.only_sets(&[], 4, &saved_answer(4, 0, 44), &duplicate(4));
+        kept.leaves(5, &duplicate(6));
     }
     // Around the end of the table, which is full: row 15 is the oldest, row 14 the newest.
     let mut full = lent.with(&[(word::SAVED_HEAD, 15), (word::SAVED_COUNT, 16)]);
     full.saved[15] = [6, 1];
-    full.only_sets(&[], 4, &saved_answer(6, 0, 1), &again(6));
+    full.only_sets(&[], 4, &saved_answer(6, 0, 1), &duplicate(6));
     full.saved[14] = [6, 2];
-    full.only_sets(&[], 4, &saved_answer(6, 0, 2), &again(6));
-    // One more takes the place of the oldest.
+    full.only_sets(&[], 4, &saved_answer(6, 0, 2), &duplicate(6));
+    // One more replaces the oldest.
     let old = u64::from_le_bytes(full.memory[..8].try_into().unwrap());
-    let after = full.after(3, &again(7));
+    let after = full.after(3, &duplicate(7));
     let mut saved = full.saved;
     saved[15] = [7, old];
     assert_eq!(after.saved, saved);
@@ -459,8 +459,8 @@ fn a_saved_psn_over_24_bits_is_matched_by_no_packet() {
     let mut lent = Lent::ready(Service::Rc, 0).with(&[(word::SAVED_COUNT, 16)]);
     for psn in [1 << 24 | 5, 1 << 32 | 5, u64::MAX] {
         lent.saved = [[psn, 1]; 16];
-        for again in [5, 6, 0xff_ffff] {
-            lent.leaves(5, &wire(CMP_SWAP, again));
+        for psn in [5, 6, 0xff_ffff] {
+            lent.leaves(5, &wire(CMP_SWAP, psn));
         }
     }
     lent.saved[9] = [5, 3];

@@ -1,4 +1,4 @@
--- `headers::take_records` is safe and ends. The measure is what the count has left to its last number.
+-- `lister::take_records` is safe and ends. The measure is what the count has left to its last number.
 -- Nothing has to hold from turn to turn. Assumes nothing.
 use Prim.Native.Nat.{_-_, _^_}
 use native.Mathlib.Omega.{arith}

@@ -160,12 +160,12 @@ impl<'a, S: Subject> Check<'a, S> {
                 "expected PSN, MSN, responses: {counted:?}, in the plain run {plain:?}"
             ));
         }
-        let (told, plain) = (&self.completions, &self.run.completions);
-        if told.len() != plain.len() || told.last() != plain.last() {
+        let (reported, plain) = (&self.completions, &self.run.completions);
+        if reported.len() != plain.len() || reported.last() != plain.last() {
             return Err(format!(
                 "completions: {} to {:?}, in the plain run {} to {:?}",
-                told.len(),
-                told.last(),
+                reported.len(),
+                reported.last(),
                 plain.len(),
                 plain.last()
             ));

@@ -120,12 +120,12 @@ impl<'a> PlainRun<'a> {
         let from = place.index * pmtu;
         let to = message.bytes.len().min(from + pmtu);
         let payload = &message.bytes[from..to];
-        let mut told = None;
+        let mut reported = None;
         match message.request {
             Request::Send(immediate) => {
                 let entry = self.held.expect("its first packet took one");
                 put(&mut self.memory, entry.offset as usize + from, payload);
-                told = last.then_some(immediate);
+                reported = last.then_some(immediate);
             }
             Request::Write {
                 address,
@@ -136,7 +136,7 @@ impl<'a> PlainRun<'a> {
                     let at = self.at(address, key) + from;
                     put(&mut self.memory, at, payload);
                 }
-                told = (last && immediate.is_some()).then_some(immediate);
+                reported = (last && immediate.is_some()).then_some(immediate);
             }
             Request::Read { .. } => {}
             Request::CmpSwap {
@@ -151,7 +151,7 @@ impl<'a> PlainRun<'a> {
                 self.exchange(address, key, |old| old.wrapping_add(add));
             }
         }
-        if let (Some(immediate), Some(entry)) = (told, self.held) {
+        if let (Some(immediate), Some(entry)) = (reported, self.held) {
             let bytes = message.bytes.len() as u64;
             self.completions.push(Completion {
                 entry: entry.number,
@@ -168,7 +168,7 @@ impl<'a> PlainRun<'a> {
         }
     }
 
-    /// The place in memory that an address under a key stands for.
+    /// The offset in memory that an address under a key stands for.
     fn at(&self, address: u64, key: u32) -> usize {
         let named = self.stream.regions.iter().find(|region| region.key == key);
         let region = named.expect("a permitted message names a region");

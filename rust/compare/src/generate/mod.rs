@@ -18,7 +18,7 @@ use crate::subject::*;
 use message::Scene;
 use temper::{Action, Temper, TEMPERS};
 
-/// How many packets that were executed are kept to be sent again.
+/// How many packets that were executed are kept to be handed in as duplicates.
 const REMEMBERED: usize = 40;
 
 /// A message that is being cut.
@@ -109,7 +109,7 @@ impl Player {
                 match &mut self.sending {
                     Some(sending) if answer.number == 0 => {
                         sending.index += 1;
-                        self.cut.push_back(out[..answer.sent].to_vec());
+                        self.cut.push_back(out[..answer.outgoing].to_vec());
                     }
                     _ => self.sending = None,
                 }

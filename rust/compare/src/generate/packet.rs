@@ -74,15 +74,15 @@ pub fn compose(random: &mut Random, scene: Scene, bad: usize) -> Vec<u8> {
         scene.view.expected
     };
     let behind = scene.view.expected.wrapping_sub(psn) % NUMBERS;
-    let repeated = (1..HALF).contains(&behind);
+    let duplicate = (1..HALF).contains(&behind);
     let low = if random.chance(bad / 2) {
         random.below(32) as u8
-    } else if repeated {
+    } else if duplicate {
         random.pick(&[SEND + ONLY, WRITE + ONLY, READ, READ, CMP_SWAP, FETCH_ADD])
     } else {
         fitting_opcode(random, scene)
     };
-    let behind = if repeated { behind as usize } else { 0 };
+    let behind = if duplicate { behind as usize } else { 0 };
     let (headers, payload) = operands(random, scene, low, bad, behind);
 
     let mut payload = random.bytes(payload);
@@ -174,7 +174,7 @@ fn fitting_opcode(random: &mut Random, scene: Scene) -> u8 {
 }
 
 /// The headers after the BTH and the payload's length, without pad. `behind`
-/// is how far a repeated packet lies behind the expected one.
+/// is how far a duplicate lies behind the expected one.
 fn operands(
     random: &mut Random,
     scene: Scene,

@@ -1,4 +1,4 @@
-//! The stream of messages: cut, handed in, lost, repeated.
+//! The stream of messages: cut, handed in, lost, duplicated.
 
 use std::rc::Rc;
 

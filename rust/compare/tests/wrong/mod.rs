@@ -111,7 +111,7 @@ impl Rule for HalfIsBehind {
     }
 }
 
-/// A repeated FetchAdd adds again, though its answer is the saved one.
+/// A duplicate FetchAdd adds once more, though its answer is the saved one.
 pub struct AddsAgain;
 
 impl Rule for AddsAgain {
@@ -167,7 +167,7 @@ impl Rule for DropsAll {
     }
 }
 
-/// Everything is answered well, and nothing placed.
+/// Everything is answered well, and nothing stored.
 pub struct PlacesNothing;
 
 impl Rule for PlacesNothing {
@@ -176,7 +176,7 @@ impl Rule for PlacesNothing {
     }
 }
 
-/// No completion is told.
+/// No completion is reported.
 pub struct TellsNothing;
 
 impl Rule for TellsNothing {

@@ -155,15 +155,15 @@ impl Host {
         } else {
             pair.inbound(&mut vec![0; length], packet, &mut out)
         };
-        let (number, sent, completion) = match got {
-            Ok(got) => (got.answer.number(), got.sent, got.completion),
+        let (number, outgoing, completion) = match got {
+            Ok(got) => (got.answer.number(), got.outgoing, got.completion),
             Err(refusal) => (refusal.number(), 0, None),
         };
         format!(
             "{number} 0 {} {} {} {} {:016x}",
             pair.expected(),
             pair.msn(),
-            hex(&out[..sent]),
+            hex(&out[..outgoing]),
             completed(completion),
             fnv(memory)
         )
@@ -177,7 +177,7 @@ impl Host {
             None => Err(Refusal::WrongState),
         };
         match got {
-            Ok(sent) => format!("0 {}", hex(&out[..sent])),
+            Ok(outgoing) => format!("0 {}", hex(&out[..outgoing])),
             Err(refusal) => format!("{} -", refusal.number()),
         }
     }

@@ -21,7 +21,7 @@ pub mod word {
     pub const ATOMIC: usize = 11;
     /// The open message: 255 for none, 0 for a SEND, 6 for a WRITE; address, key and length are a WRITE's.
     pub const KIND: usize = 12;
-    pub const PLACED: usize = 13;
+    pub const STORED: usize = 13;
     pub const ADDRESS: usize = 14;
     pub const KEY: usize = 15;
     pub const LENGTH: usize = 16;
@@ -40,7 +40,7 @@ pub mod word {
     pub const EXPECTED: usize = 26;
     pub const MSN: usize = 27;
     pub const STATE: usize = 28;
-    pub const MARK: usize = 29;
+    pub const NAK_MARK: usize = 29;
 }
 
 // The states.
@@ -55,7 +55,7 @@ pub const SPACE: u32 = 1 << 24;
 /// The numbers of no open message.
 pub const CLOSED: [(usize, u64); 5] = [
     (word::KIND, 255),
-    (word::PLACED, 0),
+    (word::STORED, 0),
     (word::ADDRESS, 0),
     (word::KEY, 0),
     (word::LENGTH, 0),
@@ -97,8 +97,8 @@ impl Lent {
         lent
     }
 
-    /// Ready; an atomic is saved, one entry waits, a WRITE is open with 256 of its 300 bytes placed, and of a READ come
-    /// again 2 of 3 responses are pending. So each of the 30 words says something, and has a bound.
+    /// Ready; an atomic is saved, one entry waits, a WRITE is open with 256 of its 300 bytes stored, and of a duplicate
+    /// READ 2 of 3 responses are pending. So each of the 30 words says something, and has a bound.
     pub fn busy() -> Lent {
         let mut lent = Lent::ready(Service::Rc, 0);
         assert_eq!(lent.post_entry(), 0);
@@ -188,14 +188,14 @@ impl Lent {
         raw::post_entry(&mut self.words, &mut self.entries, number, offset, length)
     }
 
-    /// What is told of a refused packet is all 0.
+    /// The report of a refused packet is all 0.
     pub fn inbound(&mut self, packet: &[u8]) -> u8 {
         self.take(packet).0
     }
 
-    /// Answers also what is told.
+    /// Answers also the report.
     pub fn take(&mut self, packet: &[u8]) -> (u8, [u64; 6]) {
-        let mut told = [u64::MAX; 6];
+        let mut report = [u64::MAX; 6];
         let number = raw::inbound(
             &mut self.words,
             &self.regions,
@@ -204,10 +204,10 @@ impl Lent {
             &mut self.memory,
             packet,
             &mut self.out,
-            &mut told,
+            &mut report,
         );
-        assert!(number < 32 || told == [0; 6]);
-        (number, told)
+        assert!(number < 32 || report == [0; 6]);
+        (number, report)
     }
 
     pub fn next_response(&mut self) -> u8 {
@@ -216,10 +216,10 @@ impl Lent {
 
     /// Answers also how many bytes are to be sent.
     pub fn respond(&mut self) -> (u8, u64) {
-        let mut told = [u64::MAX];
-        let number = raw::next_response(&mut self.words, &self.memory, &mut self.out, &mut told);
-        assert!(number < 32 || told == [0]);
-        (number, told[0])
+        let mut report = [u64::MAX];
+        let number = raw::next_response(&mut self.words, &self.memory, &mut self.out, &mut report);
+        assert!(number < 32 || report == [0]);
+        (number, report[0])
     }
 
     pub fn hand(&mut self, request: Request, message: &[u8], first: u32, index: usize) -> u8 {
@@ -240,14 +240,20 @@ impl Lent {
         assert!(lent == *self, "{case:?}: something changed");
     }
 
-    /// The packet is answered so and with these bytes, none where it is quiet; of all that is lent these words alone change.
-    /// Answers what is left.
-    pub fn only_sets(&self, set: &[(usize, u64)], number: u8, sent: &[u8], packet: &Wire) -> Lent {
+    /// The packet is answered so and with these bytes, none where it is quiet; of all that is lent these words alone
+    /// change. Answers what is left.
+    pub fn only_sets(
+        &self,
+        set: &[(usize, u64)],
+        number: u8,
+        outgoing: &[u8],
+        packet: &Wire,
+    ) -> Lent {
         let mut expected = self.with(set);
-        expected.out[..sent.len()].copy_from_slice(sent);
+        expected.out[..outgoing.len()].copy_from_slice(outgoing);
         let mut lent = self.clone();
-        let told = [sent.len() as u64, 0, 0, 0, 0, 0];
-        assert_eq!(lent.take(&packet.bytes()), (number, told), "{packet:?}");
+        let report = [outgoing.len() as u64, 0, 0, 0, 0, 0];
+        assert_eq!(lent.take(&packet.bytes()), (number, report), "{packet:?}");
         assert_eq!(lent.words, expected.words, "{packet:?}");
         assert!(lent == expected, "{packet:?}: something else changed");
         lent

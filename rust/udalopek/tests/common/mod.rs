@@ -89,7 +89,7 @@ impl Host {
         let mut out = [0; 24];
         let got = self.pair.inbound(&mut self.memory, packet, &mut out);
         let got = got.unwrap();
-        (got, out[..got.sent].to_vec())
+        (got, out[..got.outgoing].to_vec())
     }
 
     /// Hands in packet `index` of a message whose first packet has the PSN `first`.
@@ -108,8 +108,8 @@ impl Host {
         let mut packets = Vec::new();
         while self.pair.responses_pending() != 0 {
             let mut out = [0; 272];
-            let sent = self.pair.next_response(&self.memory, &mut out).unwrap();
-            packets.push(out[..sent].to_vec());
+            let outgoing = self.pair.next_response(&self.memory, &mut out).unwrap();
+            packets.push(out[..outgoing].to_vec());
         }
         packets
     }

@@ -1,4 +1,4 @@
--- `headers::packet::is_same` meets its contract: it is true only where the test of the number of bytes and the
+-- `lister::packet::is_same` meets its contract: it is true only where the test of the number of bytes and the
 -- comparison are. Assumes nothing.
 use Prim.Native.Nat.{ℕ, _-_}
 use mathlib.Core.Path.{_≡_, sym, subst}
