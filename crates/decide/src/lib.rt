@@ -42,10 +42,10 @@ pub fn decision(
     ensures { λ r. ⌜ r ≡ cond (unformed p (pair .setup .timer)) (noReply Status.OutOfRange) (packetDecision pair (now (regions .entry)) (now (entries .entry)) (now (saved .entry)) p) ⌝ }
 {
     let none = execute::unformed(p, pair.setup.timer);
+    let uc = unreliable(pair.setup.service);
     if none {
         return reply::no_reply(Status::OutOfRange);
     }
-    let uc = unreliable(pair.setup.service);
     let class = class_of(uc, p.psn, pair.expected);
     match class {
         Class::Expected => execute::decision(uc, pair, regions, entries, p),

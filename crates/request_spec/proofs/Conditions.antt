@@ -9,6 +9,7 @@ use lib.Dec.{leb, eqb, ltb}
 use lib.ListN.{getD}
 use borrow.Author.Tests.{leb-false, lt-leb, eqb-true, eqb-false, ltb-true, ltb-false, eq-eqb, ne-eqb, lt-ltb, le-ltb}
 use Rattle.lemmas.proofs.Tests.{or-left, or-right, neither}
+use Rattle.header.proofs.Reasons.{of-not}
 use Rattle.pmtu.specs.Pieces.{starts, ends}
 use Rattle.table.specs.Table.{outside, addresses, pastTop}
 use Rattle.pair.specs.Sound.{memoryLimit}
@@ -27,14 +28,6 @@ by-place P a b c d place (inr (inr e)) = subst P (sym e) c
 apart : (n a b : ℕ) → eqb n a ≡ false → eqb n b ≡ false → (n ≡ a) ⊎ (n ≡ b) → ⊥
 apart n a b x y (inl e) = eqb-false n a x e
 apart n a b x y (inr e) = eqb-false n b y e
-
--- a test of equality that names the failing case
-pub of-not : (a b : ℕ) → not (eqb a b) ≡ false → a ≡ b
-of-not a b h = go (eqb a b) refl h
-  where
-    go : (t : Bool) → eqb a b ≡ t → not t ≡ false → a ≡ b
-    go true e h = eqb-true a b e
-    go false e h = absurd (true≢false h)
 
 not-of : (a b : ℕ) → a ≡ b → not (eqb a b) ≡ false
 not-of a b e = rw (eq-eqb a b e)

@@ -30,7 +30,8 @@ use Rattle.pair.proofs.Known.{sound}
 use Rattle.request_spec.specs.Packet.{packetOf}
 use Rattle.request_spec.specs.Verdict.{carrying, outOfSequence, notEnabled, padEarly, overLimit, noneWaiting, entryOutside, rightOf, lacks, bytesToCome, keyLacking, keyFails, lengthsOff, current, requestCode, expectedCode}
 use Rattle.request_spec.specs.Claims.{Place, Carries, IsAtomic, Served, KeyGood, IsCurrent, Tells, JudgedBy}
-use Rattle.request_spec.proofs.Conditions.{limit-tested, key-tested, of-not}
+use Rattle.request_spec.proofs.Conditions.{limit-tested, key-tested}
+use Rattle.header.proofs.Reasons.{of-not}
 use Rattle.request_spec.proofs.Order.{current-one, order}
 use Rattle.request_spec.proofs.Taken.{any-place}
 use Rattle.request_spec.specs.declared.Packet.{Packet}

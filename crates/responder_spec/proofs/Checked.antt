@@ -13,7 +13,7 @@ use Rattle.pmtu.specs.Pieces.{starts}
 use Rattle.table.specs.Table.{addresses, pastTop, outside, memoryOffset}
 use Rattle.pair.specs.declared.Setup.{Setup}
 use Rattle.pair.specs.declared.OpenMessage.{OpenMessage}
-use Rattle.request_spec.proofs.Conditions.{of-not}
+use Rattle.header.proofs.Reasons.{of-not}
 use Rattle.request_spec.specs.declared.Packet.{Packet}
 use Rattle.request_spec.specs.Verdict.{carrying, outOfSequence, notEnabled, padEarly, overLimit, noneWaiting, entryOutside, rightOf, lacks, keyLacking, keyFails, lengthsOff, current, requestCode, expectedCode}
 

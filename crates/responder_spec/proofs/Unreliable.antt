@@ -23,7 +23,8 @@ use Rattle.pair.specs.declared.Pair.{Pair}
 use Rattle.request_spec.specs.Packet.{packetOf}
 use Rattle.request_spec.specs.Verdict.{requestCode, expectedCode}
 use Rattle.request_spec.specs.Claims.{GoesOn, Place, Carries, IsCurrent, JudgedBy}
-use Rattle.request_spec.proofs.Conditions.{begins-starts, of-not}
+use Rattle.request_spec.proofs.Conditions.{begins-starts}
+use Rattle.header.proofs.Reasons.{of-not}
 use Rattle.request_spec.proofs.Order.{current-one, order}
 use Rattle.request_spec.proofs.Taken.{any-place}
 use Rattle.request_spec.specs.declared.Packet.{Packet}

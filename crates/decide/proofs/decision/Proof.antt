@@ -17,14 +17,14 @@ use Rattle.reply.proofs.no_reply.Reads as no-reply-reads
 unformed-requires : tie.Need-unformed-requires
 unformed-requires c κs = search needs
 
+unreliable-requires : tie.Need-unreliable-requires
+unreliable-requires c κs = search needs
+
 no-reply-requires : tie.Need-no-reply-requires
 no-reply-requires c κs = search needs
 
 returns : tie.Need-returns
-returns c = simp (← c .before .before .unformed .ensures, c .before .if1 .taken, ← c .no-reply .ensures)
-
-unreliable-requires : tie.Need-unreliable-requires
-unreliable-requires c κs = search needs
+returns c = simp (← c .before .before .before .unformed .ensures, c .before .if1 .taken, ← c .no-reply .ensures)
 
 class-of-requires : tie.Need-class-of-requires
 class-of-requires c κs = search needs
@@ -50,38 +50,38 @@ answer-requires c κs = search needs
 returns-2 : tie.Need-returns-2
 returns-2 c =
     let c3 = c .before .before .before in
-    let c5 = c3 .before .before in
-    let A = c5 .before .before .args in
+    let c4 = c3 .before in
+    let A = c4 .before .before .before .args in
     let class = sym (c3 .class-of .ensures) ∙ c .before .enum-told .given .1 in
-    simp (← c5 .before .unformed .ensures, c5 .if1 .left)
-    (formed _ _ _ _ (c .decision .ensures) (sym (c5 .before .unformed .ensures) ∙ c5 .if1 .left) ∙ expected (A .pair) (A .regions .now) (A .entries .now) (A .saved .now) (A .p) (c3 .before .unreliable .result) (c3 .before .unreliable .ensures) class)
+    simp (← c4 .before .before .unformed .ensures, c4 .if1 .left)
+    (formed _ _ _ _ (c .decision .ensures) (sym (c4 .before .before .unformed .ensures) ∙ c4 .if1 .left) ∙ expected (A .pair) (A .regions .now) (A .entries .now) (A .saved .now) (A .p) (c4 .before .unreliable .result) (c4 .before .unreliable .ensures) class)
 
 returns-3 : tie.Need-returns-3
 returns-3 c =
     let c3 = c .before .before .before in
-    let c5 = c3 .before .before in
-    let A = c5 .before .before .args in
+    let c4 = c3 .before in
+    let A = c4 .before .before .before .args in
     let class = sym (c3 .class-of .ensures) ∙ c .before .enum-told2 .given .1 in
-    simp (← c5 .before .unformed .ensures, c5 .if1 .left)
-    (c .ahead .ensures ∙ ahead (A .pair) (A .regions .now) (A .entries .now) (A .saved .now) (A .p) (c3 .before .unreliable .result) (c3 .before .unreliable .ensures) class)
+    simp (← c4 .before .before .unformed .ensures, c4 .if1 .left)
+    (c .ahead .ensures ∙ ahead (A .pair) (A .regions .now) (A .entries .now) (A .saved .now) (A .p) (c4 .before .unreliable .result) (c4 .before .unreliable .ensures) class)
 
 returns-4 : tie.Need-returns-4
 returns-4 c =
     let c3 = c .before .before .before in
-    let c5 = c3 .before .before in
-    let A = c5 .before .before .args in
+    let c4 = c3 .before in
+    let A = c4 .before .before .before .args in
     let class = sym (c3 .class-of .ensures) ∙ c .before .enum-told3 .given .1 in
-    simp (← c5 .before .unformed .ensures, c5 .if1 .left)
-    (formed _ _ _ _ (c .answer .ensures) (whole (A .p) (A .pair .setup .timer) (c5 .before .unformed .result) (c5 .before .unformed .ensures) (c5 .if1 .left)) ∙ duplicate (A .pair) (A .regions .now) (A .entries .now) (A .saved .now) (A .p) (c3 .before .unreliable .result) (c3 .before .unreliable .ensures) class)
+    simp (← c4 .before .before .unformed .ensures, c4 .if1 .left)
+    (formed _ _ _ _ (c .answer .ensures) (whole (A .p) (A .pair .setup .timer) (c4 .before .before .unformed .result) (c4 .before .before .unformed .ensures) (c4 .if1 .left)) ∙ duplicate (A .pair) (A .regions .now) (A .entries .now) (A .saved .now) (A .p) (c4 .before .unreliable .result) (c4 .before .unreliable .ensures) class)
 
 pub decision-spec : {M : Type 1} → statement M
 decision-spec =
     tie.close
     (tie.spec
     unformed-requires
+    unreliable-requires
     no-reply-requires
     returns
-    unreliable-requires
     class-of-requires
     enum-told
     decision-requires

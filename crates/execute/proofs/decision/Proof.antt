@@ -61,17 +61,10 @@ is-requires-2 c κs = search needs
 execute-requires : tie.Need-execute-requires
 unfolding statusNumber
 execute-requires c κs =
-    let c3 = c .before .before in
-    let c7 = c3 .before .before .before .before in
-    let c10 = c7 .before .before .before in
-    let c12 = c10 .before .before in
-    let S = c12 .before .before .before in
-    let A = S .args in
-    let s = A .pair .setup in
-    let opened = A .pair .message in
-    let entry = c3 .before .before .before .entry-at in
-    let region = c3 .before .before .key-region in
-    let kind = c3 .before .open-kind in
+    let c3 = c .before .before in let c7 = c3 .before .before .before .before in let c10 = c7 .before .before .before in
+    let c12 = c10 .before .before in let S = c12 .before .before .before in let A = S .args in let s = A .pair .setup in
+    let opened = A .pair .message in let entry = c3 .before .before .before .entry-at in
+    let region = c3 .before .before .key-region in let kind = c3 .before .open-kind in
     let found = sym (c7 .before .before .is .ensures) ∙ c7 .before .if2 .taken in
     let P = passed (A .p) s (A .pair .expected) opened (A .pair .entries .count) (entry .result) (region .result) (A .uc) (c10 .lost .result) (c10 .lost .ensures) found (c7 .current .result) (c7 .current .ensures) (kind .result) (kind .ensures) (c3 .expected-status .result) (c3 .expected-status .ensures) (sym (c .before .is2 .ensures) ∙ c .if3 .taken) in
     let memory : s .memory < 2 ^ 64 = omega (arith, S .good .1 .0) in
@@ -85,17 +78,10 @@ execute-requires c κs =
 returns-2 : tie.Need-returns-2
 unfolding statusNumber
 returns-2 c =
-    let c3 = c .before .before .before in
-    let c7 = c3 .before .before .before .before in
-    let c10 = c7 .before .before .before in
-    let c12 = c10 .before .before in
-    let S = c12 .before .before .before in
-    let A = S .args in
-    let s = A .pair .setup in
-    let opened = A .pair .message in
-    let entry = c3 .before .before .before .entry-at in
-    let region = c3 .before .before .key-region in
-    let kind = c3 .before .open-kind in
+    let c3 = c .before .before .before in let c7 = c3 .before .before .before .before in let c10 = c7 .before .before .before in
+    let c12 = c10 .before .before in let S = c12 .before .before .before in let A = S .args in let s = A .pair .setup in
+    let opened = A .pair .message in let entry = c3 .before .before .before .entry-at in
+    let region = c3 .before .before .key-region in let kind = c3 .before .open-kind in
     let found = sym (c7 .before .before .is .ensures) ∙ c7 .before .if2 .taken in
     let passed = sym (c .before .before .is2 .ensures) ∙ c .before .if3 .taken in
     simp (← c12 .before .unformed .ensures, c12 .if1 .left)
@@ -112,17 +98,10 @@ refused-requires c κs =
 returns-3 : tie.Need-returns-3
 unfolding statusNumber
 returns-3 c =
-    let c3 = c .before .before .before in
-    let c7 = c3 .before .before .before .before in
-    let c10 = c7 .before .before .before in
-    let c12 = c10 .before .before in
-    let S = c12 .before .before .before in
-    let A = S .args in
-    let s = A .pair .setup in
-    let opened = A .pair .message in
-    let entry = c3 .before .before .before .entry-at in
-    let region = c3 .before .before .key-region in
-    let kind = c3 .before .open-kind in
+    let c3 = c .before .before .before in let c7 = c3 .before .before .before .before in let c10 = c7 .before .before .before in
+    let c12 = c10 .before .before in let S = c12 .before .before .before in let A = S .args in let s = A .pair .setup in
+    let opened = A .pair .message in let entry = c3 .before .before .before .entry-at in
+    let region = c3 .before .before .key-region in let kind = c3 .before .open-kind in
     let found = sym (c7 .before .before .is .ensures) ∙ c7 .before .if2 .taken in
     let passed = sym (c .before .before .is2 .ensures) ∙ c .before .if3 .left in
     simp (← c12 .before .unformed .ensures, c12 .if1 .left)
