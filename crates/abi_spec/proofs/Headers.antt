@@ -26,7 +26,10 @@ pub extension-back : ExtensionBack
 unfolding extensionFrom extensionWords remoteWords atomicWords aethWords immediateWords rethFrom atomicFrom aethFrom ExtensionFields
 extension-back Bare f = refl
 extension-back (Remote r) f = λ i. Remote (record { address = r .address; key = low-back (r .key) (2 ^ 32) (f .0) i; length = low-back (r .length) (2 ^ 32) (f .1) i })
-extension-back (RemoteImmediate r x) f = λ i. RemoteImmediate (record { address = r .address; key = low-back (r .key) (2 ^ 32) (f .0 .0) i; length = low-back (r .length) (2 ^ 32) (f .0 .1) i }) (low-back x (2 ^ 32) (f .1) i)
+extension-back (RemoteImmediate r x) f =
+    λ i. RemoteImmediate
+    (record { address = r .address; key = low-back (r .key) (2 ^ 32) (f .0 .0) i; length = low-back (r .length) (2 ^ 32) (f .0 .1) i })
+    (low-back x (2 ^ 32) (f .1) i)
 extension-back (Immediate x) f = λ i. Immediate (low-back x (2 ^ 32) f i)
 extension-back (Atomic a) f = λ i. Atomic (record { address = a .address; key = low-back (a .key) (2 ^ 32) f i; swap = a .swap; compare = a .compare })
 extension-back (Acknowledge a) f = λ i. Acknowledge (record { syndrome = low-back (a .syndrome) (2 ^ 8) (f .0) i; msn = record { 0 = low-back (a .msn .0) (2 ^ 32) (f .1) i } })

@@ -24,7 +24,9 @@ put-all (x ∷ xs) [] e = absurd (omega arith)
 put-all (x ∷ xs) (y ∷ ys) e = ap (λ (l : List ℕ). x ∷ l) (put-all xs ys (omega arith))
 
 -- two lists from a position on, where both have a word: equal words, then the rest
-pub same-next : (a b : List ℕ) (i : ℕ) → i < length a → i < length b → eqWords (drop i a) (drop i b) ≡ cond (eqb (getD a i 0) (getD b i 0)) (eqWords (drop (suc i) a) (drop (suc i) b)) false
+pub same-next :
+    (a b : List ℕ) (i : ℕ) → i < length a → i < length b
+    → eqWords (drop i a) (drop i b) ≡ cond (eqb (getD a i 0) (getD b i 0)) (eqWords (drop (suc i) a) (drop (suc i) b)) false
 unfolding eqWords
 same-next [] b i h k = absurd (omega arith)
 same-next (x ∷ xs) [] i h k = absurd (omega arith)

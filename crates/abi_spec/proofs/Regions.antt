@@ -37,13 +37,20 @@ none k w x y l o t r =
     let b = or-right w (x || (y || (l || (o || t)))) a in
     let c = or-right x (y || (l || (o || t))) b in
     let d = or-right y (l || (o || t)) c in
-    let e = or-right l (o || t) d in
-    (or-left k (w || (x || (y || (l || (o || t))))) r, (or-left w (x || (y || (l || (o || t)))) a, (or-left x (y || (l || (o || t))) b, (or-left y (l || (o || t)) c, (or-left o t e, or-right o t e)))))
+    let e = or-right l (o || t) d in (
+      or-left k (w || (x || (y || (l || (o || t))))) r,
+      (
+        or-left w (x || (y || (l || (o || t)))) a,
+        (or-left x (y || (l || (o || t))) b, (or-left y (l || (o || t)) c, (or-left o t e, or-right o t e))),
+      ),
+    )
 
 tests-of : (memory : ℕ) (row : List ℕ) → noRegionsRow row memory ≡ false → RegionNumbers memory row
 unfolding noRegionsRow regionOutside outside pastTop
 tests-of memory row r =
-    let f = none (leb (2 ^ 32) (getD row 0 0)) (ltb 1 (getD row 4 0)) (ltb 1 (getD row 5 0)) (ltb 1 (getD row 6 0)) (eqb (getD row 2 0) 0) (ltb memory (getD row 3 0 + getD row 2 0)) (leb (2 ^ 64) (getD row 1 0 + getD row 2 0)) r in
+    let f =
+    none (leb (2 ^ 32) (getD row 0 0)) (ltb 1 (getD row 4 0)) (ltb 1 (getD row 5 0)) (ltb 1 (getD row 6 0))
+    (eqb (getD row 2 0) 0) (ltb memory (getD row 3 0 + getD row 2 0)) (leb (2 ^ 64) (getD row 1 0 + getD row 2 0)) r in
     record {
       key = leb-false (2 ^ 32) (getD row 0 0) (f .0);
       within = ltb-false memory (getD row 3 0 + getD row 2 0) (f .1 .1 .1 .1 .0);

@@ -22,8 +22,13 @@ use Rattle.cut_spec.specs.Message.{carries, carried, carriedLength, messageLeng
 use Rattle.cut_spec.specs.Next.{psnsOf, nextPsn, nextRefusal, followingBy, nextAnswer}
 use Rattle.cut_spec.specs.Cut.{lowFor, extensionFor, bthAt, sizeAt, headerAt, payloadAt, cutBytes}
 use Rattle.request_spec.specs.Packet.{operandsOf, packetOf}
-use Rattle.request_spec.specs.Verdict.{carrying, outOfSequence, notEnabled, padEarly, overLimit, needsEntry, entriesWaiting, noneWaiting, usesEntry, entryOutside, keyLacking, keyFails, sizeOff, totalOff, payloadSize, lengthsOff, current, requestCode, expectedCode}
-use Rattle.responder_spec.specs.Decide.{acknowledging, completes, completionOf, messageAfter, targetOffset, storePayload, execute, checkedDecision, expectedDecision, psnBefore, duplicateDecision, rcDecision, packetDecision, readsFull, inboundRefusal, decided}
+use Rattle.request_spec.specs.Verdict.{carrying, outOfSequence, notEnabled, padEarly, overLimit, needsEntry}
+use Rattle.request_spec.specs.Verdict.{entriesWaiting, noneWaiting, usesEntry, entryOutside, keyLacking, keyFails}
+use Rattle.request_spec.specs.Verdict.{sizeOff, totalOff, payloadSize, lengthsOff, current, requestCode, expectedCode}
+use Rattle.responder_spec.specs.Decide.{acknowledging, completes, completionOf, messageAfter, targetOffset}
+use Rattle.responder_spec.specs.Decide.{storePayload, execute, checkedDecision, expectedDecision, psnBefore}
+use Rattle.responder_spec.specs.Decide.{duplicateDecision, rcDecision, packetDecision, readsFull, inboundRefusal}
+use Rattle.responder_spec.specs.Decide.{decided}
 use Rattle.responder_spec.specs.Apply.{memoryBy, actsAtomic, savedRingBy, ringTaken, entriesBy, msnBy, readBy, executedPair, after, pairBy}
 use Rattle.responder_spec.specs.Reply.{replyHeader, ackHeader, answerBytes, over, outBy}
 use Rattle.responder_spec.specs.Inbound.{outcomeBy, decision, inbound, inboundMemory, inboundOut}
@@ -76,7 +81,20 @@ unfolding fullMember pkeysMatch found said
 w11 = refl
 
 w12 : found W12 ≡ said W12
-unfolding classAt psnClass opcode.placeOf kindOf placeIn sendWriteFollows followsOf lengthOf lowClass classOf read.readBy bthOf extensionOf headerOf badLength otherService bthBytes aethBytes extensionBytes headerBytes headerLength fullMember pkeysMatch wrongService isResponse beyondService headerReason admitted overwrite store padOf packetBytes pmtuFits pieces placeAt ends starts pieceAt partAt outside pastTop regionOutside regionRow entryRow sought firstFrom slotAt regionOf statusNumber executed freshPair setupUnfit setupUnsound numbersUnsound ringUnsound messageUnsound readUnsound pairUnsound setUpStatus setUp setUpRegions readyStatus madeReady addStatus addRegions postStatus posted postEntries begun called calledAll carries carried carriedLength packetsOf lowFor extensionFor bthAt sizeAt headerAt payloadAt cutBytes operandsOf packetOf carrying outOfSequence notEnabled padEarly overLimit needsEntry entriesWaiting noneWaiting usesEntry entryOutside keyLacking keyFails sizeOff totalOff payloadSize lengthsOff current requestCode expectedCode acknowledging completes completionOf messageAfter targetOffset storePayload execute checkedDecision expectedDecision psnBefore duplicateDecision rcDecision packetDecision readsFull inboundRefusal decided memoryBy actsAtomic savedRingBy ringTaken entriesBy msnBy readBy executedPair after pairBy replyHeader ackHeader answerBytes over outBy outcomeBy decision inbound inboundMemory inboundOut received posts ready standing zeros completionNumbers outcomeNumbers left given found said
+unfolding classAt psnClass opcode.placeOf kindOf placeIn sendWriteFollows followsOf lengthOf lowClass classOf
+    read.readBy bthOf extensionOf headerOf badLength otherService bthBytes aethBytes extensionBytes headerBytes
+    headerLength fullMember pkeysMatch wrongService isResponse beyondService headerReason admitted overwrite store padOf
+    packetBytes pmtuFits pieces placeAt ends starts pieceAt partAt outside pastTop regionOutside regionRow entryRow
+    sought firstFrom slotAt regionOf statusNumber executed freshPair setupUnfit setupUnsound numbersUnsound ringUnsound
+    messageUnsound readUnsound pairUnsound setUpStatus setUp setUpRegions readyStatus madeReady addStatus addRegions
+    postStatus posted postEntries begun called calledAll carries carried carriedLength packetsOf lowFor extensionFor
+    bthAt sizeAt headerAt payloadAt cutBytes operandsOf packetOf carrying outOfSequence notEnabled padEarly overLimit
+    needsEntry entriesWaiting noneWaiting usesEntry entryOutside keyLacking keyFails sizeOff totalOff payloadSize
+    lengthsOff current requestCode expectedCode acknowledging completes completionOf messageAfter targetOffset
+    storePayload execute checkedDecision expectedDecision psnBefore duplicateDecision rcDecision packetDecision
+    readsFull inboundRefusal decided memoryBy actsAtomic savedRingBy ringTaken entriesBy msnBy readBy executedPair after
+    pairBy replyHeader ackHeader answerBytes over outBy outcomeBy decision inbound inboundMemory inboundOut received
+    posts ready standing zeros completionNumbers outcomeNumbers left given found said
 w12 = refl
 
 pub cases : Cases

@@ -23,7 +23,9 @@ use Rattle.pmtu.proofs.Counting.{pmtus, pmtu-bounds}
 use Rattle.pmtu.proofs.Cuts.{joins, full, rest, at-most}
 use Rattle.cut_spec.specs.Message.{carries, carried, carriedLength, packetsOf}
 use Rattle.cut_spec.specs.Cut.{lowFor, bthAt, headerAt, payloadAt, cutBytes, cutRefusal, cutAnswer, cutWritten, cutOut}
-use Rattle.cut_spec.specs.Claims.{Carrier, Fit, Cuttable, Refuses, CutUnfit, CutOver, CutShort, Cuts, CutNumbers, CutReads, CutAdmitted, CutPayload, CutPad, CutJoins, CutFull, CutLast, CutEmpty}
+use Rattle.cut_spec.specs.Claims.{Carrier, Fit, Cuttable, Refuses, CutUnfit, CutOver, CutShort, Cuts}
+use Rattle.cut_spec.specs.Claims.{CutNumbers, CutReads, CutAdmitted, CutPayload, CutPad, CutJoins, CutFull}
+use Rattle.cut_spec.specs.Claims.{CutLast, CutEmpty}
 use Rattle.cut_spec.specs.declared.Connection.{Connection}
 use Rattle.cut_spec.specs.declared.Request.{Request}
 use Rattle.cut_spec.specs.declared.Request.the-variants.{Send, SendImmediate, Write, WriteImmediate, Read, CmpSwap, FetchAdd}

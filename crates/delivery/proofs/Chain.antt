@@ -90,8 +90,14 @@ module _ (s : Setup) (regions : List (List ℕ)) (m : Message) (first : Psn) (p 
   unfolding slotsFrom
   walk-slots i zero rest e o w = w
   walk-slots i (suc n) rest e o w =
-      let f : suc (i + n) ≡ packetCount m = omega arith in
-      (record { allowed = p .allowed; outgoing = record { addressed = p .addressed; served = v; inside = omega arith; first = b } }, turn-slots i n rest f o, walk-slots (suc i) n rest (omega arith) o w)
+      let f : suc (i + n) ≡ packetCount m = omega arith in (
+        record {
+          allowed = p .allowed;
+          outgoing = record { addressed = p .addressed; served = v; inside = omega arith; first = b };
+        },
+        turn-slots i n rest f o,
+        walk-slots (suc i) n rest (omega arith) o w,
+      )
 
 stream-walk : (s : Setup) (regions : List (List ℕ)) (first : Psn) (ms : List Message) → first .0 < 2 ^ 24 → AllServed s ms
     → AllPermitted s regions ms

@@ -135,7 +135,9 @@ module _ (s : Setup) (regions : List (List ℕ)) (f : SetupFit s) (t : Slot) (h 
         sequence = sequence-is;
         enabled = enabled-is s regions (t .message .request) (length (t .message .bytes)) (h .allowed);
         pad = pad-is (decide (t .message .request));
-        limit = says s regions f t h opened .limit (subst (λ n. n ≤ 1048576) (sym (named-is (t .message .request) (length (t .message .bytes)))) (named-limit (t .message .request) (length (t .message .bytes)) (h .outgoing .addressed .limit)));
+        limit =
+            says s regions f t h opened .limit (subst (λ n. n ≤ 1048576) (sym (named-is (t .message .request) (length (t .message .bytes))))
+            (named-limit (t .message .request) (length (t .message .bytes)) (h .outgoing .addressed .limit)));
       }
 
   -- an entry is wanting exactly where the plain run says so
@@ -143,7 +145,8 @@ module _ (s : Setup) (regions : List (List ℕ)) (f : SetupFit s) (t : Slot) (h 
       → noneWaiting (kindNumber (t .message .request)) (placeFor t) (cutPacket t .operands .immediate) (opened .kind) count ≡ (needsEntry t && none waiting)
   unfolding noneWaiting
   waiting-is waiting count e =
-      rw (needs-is (t .message .request) (placeFor t) (t .index) (packetCount (t .message)) (cutPacket t .operands .immediate) (starts-is s regions f t h opened) ends-is (says s regions f t h opened .immediate))
+      rw (needs-is (t .message .request) (placeFor t) (t .index) (packetCount (t .message)) (cutPacket t .operands .immediate)
+      (starts-is s regions f t h opened) ends-is (says s regions f t h opened .immediate))
       (go (needsEntry t) refl)
     where
       go : (b : Bool) → needsEntry t ≡ b → (b && eqb (entriesWaiting (opened .kind) count) 0) ≡ (b && none waiting)
@@ -156,7 +159,8 @@ module _ (s : Setup) (regions : List (List ℕ)) (f : SetupFit s) (t : Slot) (h 
       (namedOf (t .message .request) (length (t .message .bytes))) (current opened (cutPacket t))
   now-here =
       subst
-      (λ z. Is (kindNumber (t .message .request)) (t .index * z) (addressOf (t .message .request)) (keyOf (t .message .request)) (namedOf (t .message .request) (length (t .message .bytes))) (current opened (cutPacket t)))
+      (λ z. Is (kindNumber (t .message .request)) (t .index * z) (addressOf (t .message .request)) (keyOf (t .message .request))
+      (namedOf (t .message .request) (length (t .message .bytes))) (current opened (cutPacket t)))
       (h .outgoing .addressed .pmtu) now
 
   sizes-here : Carrier (t .message .request) → Sizes (t .index) (packetCount (t .message)) (netFor t) (s .pmtu) (length (t .message .bytes))

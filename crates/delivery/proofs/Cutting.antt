@@ -140,6 +140,9 @@ module _ (s : Setup) (f : SetupFit s) (t : Slot) (h : Sent s t) where
             let g = cut-full (t .message .connection) (t .message .request) (t .message .bytes) (t .first) (t .index) cuttable l in
             (ap length (sym payload-is) ∙ g .0, g .1);
         last = λ l.
-            let g = cut-last (t .message .connection) (t .message .request) (t .message .bytes) (t .first) (t .index) cuttable l in
-            (subst (λ x. length x ≤ t .message .connection .pmtu) payload-is (g .0), (λ o. subst (λ x. 0 < length x) payload-is (g .1 o)), subst (λ x. t .index * t .message .connection .pmtu + length x ≡ length (t .message .bytes)) payload-is (g .2 r));
+            let g = cut-last (t .message .connection) (t .message .request) (t .message .bytes) (t .first) (t .index) cuttable l in (
+              subst (λ x. length x ≤ t .message .connection .pmtu) payload-is (g .0),
+              (λ o. subst (λ x. 0 < length x) payload-is (g .1 o)),
+              subst (λ x. t .index * t .message .connection .pmtu + length x ≡ length (t .message .bytes)) payload-is (g .2 r),
+            );
       }

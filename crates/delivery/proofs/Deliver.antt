@@ -32,7 +32,10 @@ use Rattle.cut_spec.proofs.Shapes.{cut-one}
 use Rattle.request_spec.specs.Verdict.{carrying, notEnabled, overLimit, keyFails, current}
 use Rattle.responder_spec.specs.Kept.{Steady}
 use Rattle.responder_spec.specs.Syndrome as Syndrome
-use Rattle.responder_spec.specs.Decide.{noReply, acknowledging, beginRead, psnBefore, aheadDecision, duplicateReadFails, duplicateRead, duplicateAtomic, isAtomic, duplicateDecision, headEntry, regionFor, expectedDecision, decisionByClass, rcDecision, packetDecision}
+use Rattle.responder_spec.specs.Decide.{noReply, acknowledging, beginRead, psnBefore, aheadDecision}
+use Rattle.responder_spec.specs.Decide.{duplicateReadFails, duplicateRead, duplicateAtomic, isAtomic}
+use Rattle.responder_spec.specs.Decide.{duplicateDecision, headEntry, regionFor, expectedDecision, decisionByClass}
+use Rattle.responder_spec.specs.Decide.{rcDecision, packetDecision}
 use Rattle.responder_spec.specs.Apply.{memoryBy, actsAtomic, savedBy, pairBy, readBy}
 use Rattle.responder_spec.specs.Apply as apply
 use Rattle.responder_spec.specs.declared.Decision.{Decision}
@@ -150,7 +153,8 @@ module _ (ms : List Message) (S : List Slot) (p : Plain) (x : Run) (L : Link ms 
       unfolding duplicateReadFails
       again-passes =
           let en : notEnabled (x .whole .pair .setup) 12 ≡ false =
-          subst (λ k. notEnabled (x .whole .pair .setup) k ≡ false) (R .kind) (enabled-is (x .whole .pair .setup) (x .whole .regions) (t .message .request) (length (t .message .bytes)) (H .allowed)) in
+          subst (λ k. notEnabled (x .whole .pair .setup) k ≡ false) (R .kind)
+          (enabled-is (x .whole .pair .setup) (x .whole .regions) (t .message .request) (length (t .message .bytes)) (H .allowed)) in
           let lim : overLimit (M .length) ≡ false =
           over-no (M .length) (subst (λ k. k ≤ 1048576) (sym (N .length)) (named-limit (t .message .request) (length (t .message .bytes)) (H .outgoing .addressed .limit))) in
           let w : eqb (netFor t + padOf (netFor t)) 0 ≡ true = eq-eqb (netFor t + padOf (netFor t)) 0 raw-none in
@@ -229,12 +233,16 @@ module _ (ms : List Message) (S : List Slot) (p : Plain) (x : Run) (L : Link ms 
     arrives R ml D = subst (λ d. Link ms S (deliver (x .whole .regions) S p j) (stepBy x d (packetAt t))) (sym (reliably R ∙ ap by (class-is D))) (go (eqb j (p .k)) (ltb j (p .k)) refl refl)
       where
         go : (a b : Bool) → eqb j (p .k) ≡ a → ltb j (p .k) ≡ b
-            → Link ms S (cond a (executeNext (x .whole .regions) p t) (cond (b && isRead (t .message .request)) (withResponses p (psnCount t)) p)) (stepBy x (by (order (numberAlong S j) (numberAlong S (p .k)))) (packetAt t))
+            → Link ms S
+            (cond a (executeNext (x .whole .regions) p t) (cond (b && isRead (t .message .request)) (withResponses p (psnCount t)) p))
+            (stepBy x (by (order (numberAlong S j) (numberAlong S (p .k)))) (packetAt t))
         go true b e f =
             let q : j ≡ p .k = eqb-true j (p .k) e in
             rw (eq-eqb (numberAlong S j) (numberAlong S (p .k)) (ap (numberAlong S) q))
             (subst
-            (λ n. Link ms S (executeNext (x .whole .regions) p (slot S n)) (stepBy x (expectedDecision (cutPacket (slot S n)) (x .whole .pair .setup) (x .whole .pair .message) (x .whole .pair .entries .count) (headEntry (x .whole .pair) (x .whole .entries)) (regionFor (kindNumber (slot S n .message .request)) (current (x .whole .pair .message) (cutPacket (slot S n)) .key) (x .whole .regions))) (packetAt (slot S n))))
+            (λ n. Link ms S (executeNext (x .whole .regions) p (slot S n)) (stepBy x (expectedDecision (cutPacket (slot S n)) (x .whole .pair .setup) (x .whole .pair .message)
+            (x .whole .pair .entries .count) (headEntry (x .whole .pair) (x .whole .entries))
+            (regionFor (kindNumber (slot S n .message .request)) (current (x .whole .pair .message) (cutPacket (slot S n)) .key) (x .whole .regions))) (packetAt (slot S n))))
             (sym q) (here ms S p x L Y G (omega arith) ml))
         go false true e f =
             let l = along-less S j (p .k) (ltb-true j (p .k) f) (L .within) in

@@ -56,9 +56,17 @@ module _ (ms : List Message) (S : List Slot) (p : Plain) (x : Run) (d : Decision
     pub psns : d .psns ≡ psnCount (slot S (p .k))
     pub ends : d .ends ≡ isLast (slot S (p .k))
     pub reads : readBy d (x .whole .pair .read) (msnBy (d .ends) (x .whole .pair .msn)) .remaining ≡ cond (isRead (slot S (p .k) .message .request)) (psnCount (slot S (p .k))) (p .r)
-    pub memory : memoryBy d (x .memory) b ≡ memoryAfter (slot S (p .k) .message .request) (x .whole .regions) (slot S (p .k) .message .connection .pmtu) (slot S (p .k) .message .bytes) (slot S (p .k) .index) e (p .memory)
-    pub completion : reports (d .completion) ≡ cond (isLast (slot S (p .k)) && takesEntry (slot S (p .k) .message .request)) (completionFor (slot S (p .k) .message .request) e (length (slot S (p .k) .message .bytes)) ∷ []) []
-    pub entries : map entryOf (inRing (x .whole .entries) (entriesBy (d .completion .some) (x .whole .pair .entries))) ≡ cond (isLast (slot S (p .k))) [] (heldNow p (slot S (p .k))) ++ waitingNow p (slot S (p .k))
+    pub memory :
+        memoryBy d (x .memory) b
+        ≡ memoryAfter (slot S (p .k) .message .request) (x .whole .regions) (slot S (p .k) .message .connection .pmtu)
+        (slot S (p .k) .message .bytes) (slot S (p .k) .index) e (p .memory)
+    pub completion :
+        reports (d .completion)
+        ≡ cond (isLast (slot S (p .k)) && takesEntry (slot S (p .k) .message .request))
+        (completionFor (slot S (p .k) .message .request) e (length (slot S (p .k) .message .bytes)) ∷ []) []
+    pub entries :
+        map entryOf (inRing (x .whole .entries) (entriesBy (d .completion .some) (x .whole .pair .entries)))
+        ≡ cond (isLast (slot S (p .k))) [] (heldNow p (slot S (p .k))) ++ waitingNow p (slot S (p .k))
     pub opened : Under (eqb (slot S (suc (p .k)) .index) 0) (slot S (suc (p .k))) (d .message) (cond (isLast (slot S (p .k))) [] (heldNow p (slot S (p .k))))
 
   module _ (L : Link ms S p x) (lt : p .k < length S) (e : Entry) (D : Does e) where
@@ -73,7 +81,12 @@ module _ (ms : List Message) (S : List Slot) (p : Plain) (x : Run) (d : Decision
     unfolding executeWith executedPair msnBy
     executes =
         subst
-        (λ q. Link ms S (executeWith (x .whole .regions) p (slot S (p .k)) e) (record { whole = record { pair = q; regions = x .whole .regions; entries = x .whole .entries; saved = stepBy x d b .whole .saved }; memory = stepBy x d b .memory; completions = stepBy x d b .completions }))
+        (λ q. Link ms S (executeWith (x .whole .regions) p (slot S (p .k)) e) (record {
+          whole = record
+              { pair = q; regions = x .whole .regions; entries = x .whole .entries; saved = stepBy x d b .whole .saved };
+          memory = stepBy x d b .memory;
+          completions = stepBy x d b .completions;
+        }))
         (sym (executed-by (x .whole .pair) d (D .status)))
         (record {
           ready = L .ready;

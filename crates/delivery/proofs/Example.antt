@@ -30,12 +30,18 @@ unfolding setup
 sound = (record { pmtu = inl refl; service = inl refl; ours = omega arith; theirs = omega arith; start = omega arith; pkey = λ e. absurd (omega arith); timer = omega arith }, omega arith)
 
 is-fresh : Fresh made
-unfolding made setup calls region calledAll called begun setUp setUpStatus setUpRegions addStatus addRegions postStatus posted postEntries readyStatus madeReady executed statusNumber freshPair setupUnfit setupUnsound numbersUnsound ringUnsound messageUnsound readUnsound pairUnsound pmtuFits otherService outside pastTop regionOutside firstFrom sought regionRow entryRow slotAt
+unfolding made setup calls region calledAll called begun setUp setUpStatus setUpRegions addStatus addRegions
+    postStatus posted postEntries readyStatus madeReady executed statusNumber freshPair setupUnfit setupUnsound
+    numbersUnsound ringUnsound messageUnsound readUnsound pairUnsound pmtuFits otherService outside pastTop
+    regionOutside firstFrom sought regionRow entryRow slotAt
 is-fresh = fresh-made setup [] (replicate 16 (replicate 3 0)) (replicate 16 (replicate 2 0)) calls sound refl refl refl (tt, (tt, (tt, tt))) .1 refl
 
 -- every request, permitted by computation
 pub is-met : Met
-unfolding made setup calls region messages message calledAll called begun setUp setUpStatus setUpRegions addStatus addRegions postStatus posted postEntries readyStatus madeReady executed statusNumber freshPair setupUnfit setupUnsound numbersUnsound ringUnsound messageUnsound readUnsound pairUnsound pmtuFits otherService outside pastTop regionOutside firstFrom sought regionRow entryRow slotAt regionOf ringFrom pkeysMatch fullMember
+unfolding made setup calls region messages message calledAll called begun setUp setUpStatus setUpRegions addStatus
+    addRegions postStatus posted postEntries readyStatus madeReady executed statusNumber freshPair setupUnfit
+    setupUnsound numbersUnsound ringUnsound messageUnsound readUnsound pairUnsound pmtuFits otherService outside pastTop
+    regionOutside firstFrom sought regionRow entryRow slotAt regionOf ringFrom pkeysMatch fullMember
 is-met =
     record {
       fresh = is-fresh;
@@ -44,15 +50,35 @@ is-met =
         (
           record { allowed = refl; addressed = record { limit = omega arith; service = refl; pmtu = refl; dest = refl; match = refl; pkey = omega arith; widths = omega arith } },
           (
-            record { allowed = (refl, inr (region, refl, refl, omega arith, omega arith)); addressed = record { limit = omega arith; service = refl; pmtu = refl; dest = refl; match = refl; pkey = omega arith; widths = (omega arith, omega arith) } },
+            record {
+              allowed = (refl, inr (region, refl, refl, omega arith, omega arith));
+              addressed = record
+                  { limit = omega arith; service = refl; pmtu = refl; dest = refl; match = refl; pkey = omega arith; widths = (omega arith, omega arith) };
+            },
             (
-              record { allowed = (refl, inl refl); addressed = record { limit = omega arith; service = refl; pmtu = refl; dest = refl; match = refl; pkey = omega arith; widths = ((omega arith, omega arith), omega arith) } },
+              record {
+                allowed = (refl, inl refl);
+                addressed = record
+                    { limit = omega arith; service = refl; pmtu = refl; dest = refl; match = refl; pkey = omega arith; widths = ((omega arith, omega arith), omega arith) };
+              },
               (
-                record { allowed = (refl, inr (region, refl, refl, omega arith, omega arith)); addressed = record { limit = omega arith; service = refl; pmtu = refl; dest = refl; match = refl; pkey = omega arith; widths = (omega arith, omega arith, omega arith) } },
+                record {
+                  allowed = (refl, inr (region, refl, refl, omega arith, omega arith));
+                  addressed = record
+                      { limit = omega arith; service = refl; pmtu = refl; dest = refl; match = refl; pkey = omega arith; widths = (omega arith, omega arith, omega arith) };
+                },
                 (
-                  record { allowed = (refl, inr (region, refl, refl, omega arith, omega arith), refl); addressed = record { limit = tt; service = refl; pmtu = refl; dest = refl; match = refl; pkey = omega arith; widths = (omega arith, omega arith, omega arith, omega arith) } },
+                  record {
+                    allowed = (refl, inr (region, refl, refl, omega arith, omega arith), refl);
+                    addressed = record
+                        { limit = tt; service = refl; pmtu = refl; dest = refl; match = refl; pkey = omega arith; widths = (omega arith, omega arith, omega arith, omega arith) };
+                  },
                   (
-                    record { allowed = (refl, inr (region, refl, refl, omega arith, omega arith), refl); addressed = record { limit = tt; service = refl; pmtu = refl; dest = refl; match = refl; pkey = omega arith; widths = ((omega arith, omega arith), omega arith) } },
+                    record {
+                      allowed = (refl, inr (region, refl, refl, omega arith, omega arith), refl);
+                      addressed = record
+                          { limit = tt; service = refl; pmtu = refl; dest = refl; match = refl; pkey = omega arith; widths = ((omega arith, omega arith), omega arith) };
+                    },
                     tt,
                   ),
                 ),
@@ -69,7 +95,11 @@ long-output : 4112 ≤ length (replicate {A = ℕ} 4112 0)
 long-output = subst (λ n. 4112 ≤ n) (sym (length-replicate {A = ℕ} 4112 0)) (omega arith)
 
 pub executed-all : Executed
-unfolding packets memory made setup calls region messages message calledAll called begun setUp setUpStatus setUpRegions addStatus addRegions postStatus posted postEntries readyStatus madeReady executed statusNumber freshPair setupUnfit setupUnsound numbersUnsound ringUnsound messageUnsound readUnsound pairUnsound pmtuFits otherService outside pastTop regionOutside firstFrom sought regionRow entryRow slotAt stream slotsFrom nextPsn psnsOf messageLength packetsOf carriedLength carries pieces
+unfolding packets memory made setup calls region messages message calledAll called begun setUp setUpStatus
+    setUpRegions addStatus addRegions postStatus posted postEntries readyStatus madeReady executed statusNumber
+    freshPair setupUnfit setupUnsound numbersUnsound ringUnsound messageUnsound readUnsound pairUnsound pmtuFits
+    otherService outside pastTop regionOutside firstFrom sought regionRow entryRow slotAt stream slotsFrom nextPsn
+    psnsOf messageLength packetsOf carriedLength carries pieces
 executed-all =
     let W = witness made messages memory (replicate 4112 0) is-fresh (is-met .permitted) (is-met .waiting) (is-met .fits) refl long-output in
     (refl, (W .0, W .2, delivery made messages memory (W .0) is-fresh (is-met .permitted) (is-met .waiting) (W .1)))

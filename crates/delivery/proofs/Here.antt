@@ -31,7 +31,10 @@ use Rattle.delivery.proofs.Fitting.{and-false, Suits}
 use Rattle.delivery.proofs.Checks.{ends-is, says, before, waiting-is, behind}
 use Rattle.delivery.proofs.Entries.{count-is, entry-fits}
 use Rattle.delivery.proofs.Effects.{Does, executes}
-use Rattle.delivery.proofs.Requests.{Carries, Sends, Writes, Single, Reads, Swaps, send-carries, send-imm-carries, write-carries, write-imm-carries, send-sends, send-imm-sends, write-writes, write-imm-writes, read-single, swap-single, add-single, reads-reads, adds-swaps, swaps-swaps}
+use Rattle.delivery.proofs.Requests.{Carries, Sends, Writes, Single, Reads, Swaps, send-carries}
+use Rattle.delivery.proofs.Requests.{send-imm-carries, write-carries, write-imm-carries, send-sends}
+use Rattle.delivery.proofs.Requests.{send-imm-sends, write-writes, write-imm-writes, read-single, swap-single}
+use Rattle.delivery.proofs.Requests.{add-single, reads-reads, adds-swaps, swaps-swaps}
 use Rattle.delivery.proofs.Sending.{entered, sends}
 use Rattle.delivery.proofs.Writing.{taken, writes}
 use Rattle.delivery.proofs.Singles.{reads, swaps}
@@ -63,7 +66,9 @@ module _ (ms : List Message) (S : List Slot) (p : Plain) (x : Run) (L : Link ms 
   passed : Before (x .whole .pair .setup) (x .whole .pair .message) (cutPacket t)
   passed = before (x .whole .pair .setup) (x .whole .regions) fits t H (x .whole .pair .message) (p .held) (L .opened)
 
-  wanting : noneWaiting (kindNumber (t .message .request)) (placeFor t) (cutPacket t .operands .immediate) (x .whole .pair .message .kind) (x .whole .pair .entries .count) ≡ (needsEntry t && none (p .waiting))
+  wanting :
+      noneWaiting (kindNumber (t .message .request)) (placeFor t) (cutPacket t .operands .immediate) (x .whole .pair .message .kind) (x .whole .pair .entries .count)
+      ≡ (needsEntry t && none (p .waiting))
   wanting =
       waiting-is (x .whole .pair .setup) (x .whole .regions) fits t H (x .whole .pair .message) (p .held) (L .opened) (p .waiting) (x .whole .pair .entries .count)
       (count-is (x .whole .entries) (x .whole .pair .entries) (p .held ++ p .waiting) (L .entries))
@@ -89,7 +94,8 @@ module _ (ms : List Message) (S : List Slot) (p : Plain) (x : Run) (L : Link ms 
   unfolding expectedDecision checkedDecision
   goes d e b q D =
       subst
-      (λ c. Link ms S (executeWith (x .whole .regions) p t (firstOf (heldNow p t))) (stepBy x (checkedDecision c (cutPacket t) (x .whole .pair .setup) (x .whole .pair .message) entry region) (packetAt t)))
+      (λ c. Link ms S (executeWith (x .whole .regions) p t (firstOf (heldNow p t)))
+      (stepBy x (checkedDecision c (cutPacket t) (x .whole .pair .setup) (x .whole .pair .message) entry region) (packetAt t)))
       (sym (passes (x .whole .pair .setup) (x .whole .pair .message) (cutPacket t) (x .whole .pair .entries .count) entry region passed (wanting ∙ e) b))
       (subst (λ c. Link ms S (executeWith (x .whole .regions) p t (firstOf (heldNow p t))) (stepBy x c (packetAt t))) (sym q)
       (executes ms S p x d (packetAt t) L lt (firstOf (heldNow p t)) D))
@@ -149,7 +155,8 @@ module _ (ms : List Message) (S : List Slot) (p : Plain) (x : Run) (L : Link ms 
     read-here O R =
         goes (acceptRead (cutPacket t) M (x .whole .pair .message) region (x .whole .pair .setup .pmtu)) free
         (behinds (unused 12 (R .kind) refl O) (O .suits (length (t .message .bytes)) (getD entry 2 0)))
-        (ap (λ k. cond (ltb k 12) (storePayload (cutPacket t) M entry region) (cond (eqb k 12) (acceptRead (cutPacket t) M (x .whole .pair .message) region (x .whole .pair .setup .pmtu)) (runAtomic (cutPacket t) M (x .whole .pair .message) region))) (R .kind))
+        (ap (λ k. cond (ltb k 12) (storePayload (cutPacket t) M entry region)
+        (cond (eqb k 12) (acceptRead (cutPacket t) M (x .whole .pair .message) region (x .whole .pair .setup .pmtu)) (runAtomic (cutPacket t) M (x .whole .pair .message) region))) (R .kind))
         (reads ms S p x L Y G lt O R)
 
     swap-here : (k act : ℕ) (does : List ℕ → ℕ → ℕ → ℕ → List ℕ) → Single (t .message .request) → Swaps (t .message .request) k act does → eqb k 0 ≡ false → Executed
@@ -157,7 +164,8 @@ module _ (ms : List Message) (S : List Slot) (p : Plain) (x : Run) (L : Link ms 
     swap-here k act does O W z =
         goes (runAtomic (cutPacket t) M (x .whole .pair .message) region) free
         (behinds (unused k (W .kind) z O) (O .suits (length (t .message .bytes)) (getD entry 2 0)))
-        (ap (λ j. cond (ltb j 12) (storePayload (cutPacket t) M entry region) (cond (eqb j 12) (acceptRead (cutPacket t) M (x .whole .pair .message) region (x .whole .pair .setup .pmtu)) (runAtomic (cutPacket t) M (x .whole .pair .message) region))) (W .kind)
+        (ap (λ j. cond (ltb j 12) (storePayload (cutPacket t) M entry region)
+        (cond (eqb j 12) (acceptRead (cutPacket t) M (x .whole .pair .message) region (x .whole .pair .setup .pmtu)) (runAtomic (cutPacket t) M (x .whole .pair .message) region))) (W .kind)
         ∙ rw (W .apart .0, W .apart .1))
         (swaps ms S p x L Y G lt O k act does W z)
 

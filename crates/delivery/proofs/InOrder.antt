@@ -11,7 +11,9 @@ use Rattle.sequence.specs.Sequence.{space, psnAfter, msnNext}
 use Rattle.table.specs.declared.Entry.{Entry}
 use Rattle.pair.specs.declared.Setup.{Setup}
 use Rattle.delivery.specs.Stream.{Message, Slot, slot, psnCount, stream, numberAlong}
-use Rattle.delivery.specs.Plain.{Plain, Call, needsEntry, none, firstOf, isRead, isLast, takesEntry, completionFor, memoryAfter, withResponses, withWaiting, executeWith, executeNext, plainStep, plain, start}
+use Rattle.delivery.specs.Plain.{Plain, Call, needsEntry, none, firstOf, isRead, isLast, takesEntry}
+use Rattle.delivery.specs.Plain.{completionFor, memoryAfter, withResponses, withWaiting, executeWith}
+use Rattle.delivery.specs.Plain.{executeNext, plainStep, plain, start}
 use Rattle.delivery.specs.Plain.Call.{Hand, Next, Post}
 use Rattle.delivery.specs.Demand.{AllCallsPermitted, CallPermitted, waitingAt}
 use Rattle.delivery.specs.InOrder.{acceptedNow, accepted, executedNext, inOrder, supplied, InOrder, Counts, ExpectedAlong, Supplied, ExactlyOnce}

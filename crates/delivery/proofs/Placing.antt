@@ -119,7 +119,9 @@ module _ (s : Setup) (regions : List (List ℕ)) (f : SetupFit s) (t : Slot) (h 
         })
         ∙ sym (C .completion e (length (t .message .bytes)))
 
-    pub placing-told : (reports (completionOf (cutPacket t) M (getD entry 0 0)) ≡ cond (isLast t && takesEntry (t .message .request)) (completionFor (t .message .request) e (length (t .message .bytes)) ∷ []) [])
+    pub placing-told :
+        (reports (completionOf (cutPacket t) M (getD entry 0 0))
+        ≡ cond (isLast t && takesEntry (t .message .request)) (completionFor (t .message .request) e (length (t .message .bytes)) ∷ []) [])
         × (completionOf (cutPacket t) M (getD entry 0 0) .some ≡ (isLast t && takesEntry (t .message .request)))
     unfolding completionOf
     placing-told = rw completing (go (isLast t && takesEntry (t .message .request)) refl)

@@ -44,7 +44,9 @@ pub record Sends (r : Request) : Type 0 where
   pub kind : kindNumber r ≡ 0
   pub takesEntry : takesEntry r ≡ true
   pub needsEntryAt : (i n : ℕ) → needsEntryAt r i n ≡ eqb i 0
-  pub lands : (regions : List (List ℕ)) (pmtu : ℕ) (d : List ℕ) (i : ℕ) (e : Entry) (m : List ℕ) → memoryAfter r regions pmtu d i e m ≡ overwrite m (e .offset + i * pmtu) (pieceAt d pmtu i)
+  pub lands :
+      (regions : List (List ℕ)) (pmtu : ℕ) (d : List ℕ) (i : ℕ) (e : Entry) (m : List ℕ)
+      → memoryAfter r regions pmtu d i e m ≡ overwrite m (e .offset + i * pmtu) (pieceAt d pmtu i)
   pub holding : (n : ℕ) (held : List Entry) (e : Entry) → held ≡ e ∷ [] → n ≤ e .length → Holding r n held
   pub held : (n : ℕ) (held : List Entry) → Holding r n held → (e : Entry) × (held ≡ e ∷ []) × (n ≤ e .length)
   pub suits : (n most : ℕ) → n ≤ most → Suits r n most
@@ -54,7 +56,9 @@ pub record Writes (r : Request) : Type 0 where
   pub kind : kindNumber r ≡ 6
   pub takesEntry : takesEntry r ≡ immediateOf r
   pub needsEntryAt : (i n : ℕ) → needsEntryAt r i n ≡ (eqb (suc i) n && immediateOf r)
-  pub lands : (regions : List (List ℕ)) (pmtu : ℕ) (d : List ℕ) (i : ℕ) (e : Entry) (m : List ℕ) → memoryAfter r regions pmtu d i e m ≡ overwrite m (regionOffset regions (keyOf r) (addressOf r) + i * pmtu) (pieceAt d pmtu i)
+  pub lands :
+      (regions : List (List ℕ)) (pmtu : ℕ) (d : List ℕ) (i : ℕ) (e : Entry) (m : List ℕ)
+      → memoryAfter r regions pmtu d i e m ≡ overwrite m (regionOffset regions (keyOf r) (addressOf r) + i * pmtu) (pieceAt d pmtu i)
   pub holding : (n : ℕ) (held : List Entry) → held ≡ [] → Holding r n held
   pub held : (n : ℕ) (held : List Entry) → Holding r n held → held ≡ []
   pub suits : (n most : ℕ) → Suits r n most
@@ -176,7 +180,10 @@ pub record Swaps (r : Request) (k act : ℕ) (does : List ℕ → ℕ → ℕ �
   pub named : (n : ℕ) → namedOf r n ≡ 8
   pub right : (s : Setup) (regions : List (List ℕ)) (n : ℕ) → Allowed s regions r n → InRegion regions (λ x. x .atomic) (keyOf r) (addressOf r) 8
   pub rights : (x : Region) → rightOf k (regionRow x) ≡ cond (x .atomic) 1 0
-  pub lands : (n place : ℕ) (regions : List (List ℕ)) (pmtu : ℕ) (d : List ℕ) (i : ℕ) (e : Entry) (m : List ℕ) → memoryAfter r regions pmtu d i e m ≡ does m (regionOffset regions (keyOf r) (addressOf r)) (operandsOf (extensionFor r n place) .compare) (operandsOf (extensionFor r n place) .swap)
+  pub lands :
+      (n place : ℕ) (regions : List (List ℕ)) (pmtu : ℕ) (d : List ℕ) (i : ℕ) (e : Entry) (m : List ℕ)
+      → memoryAfter r regions pmtu d i e m
+      ≡ does m (regionOffset regions (keyOf r) (addressOf r)) (operandsOf (extensionFor r n place) .compare) (operandsOf (extensionFor r n place) .swap)
 
 pub adds-swaps : (t : Target) (v : ℕ) → Swaps (FetchAdd t v) 20 2 (λ m at c w. fetchAdded m at w)
 unfolding memoryBy operandsOf extensionFor fetchAddEth

@@ -89,7 +89,8 @@ module _ (inbound-steady : InboundSteady) (next-steady : NextSteady) (post-stead
       let H : Going (x .whole .pair .setup) (x .whole .regions) = subst (λ r. Going (x .whole .pair .setup) r) (sym er) (subst (λ z. Going z regions) (sym es) G) in
       let n : CallPermitted (x .whole .pair .setup) ms S p c = subst (λ z. CallPermitted z ms S p c) (sym es) (m .0) in
       let L1 : Link ms S (plainStep s regions S p c) (step S x c) =
-      subst (λ r. Link ms S (plainStep s r S p c) (step S x c)) er (subst (λ z. Link ms S (plainStep z (x .whole .regions) S p c) (step S x c)) es (linked p x L Y H (ap (λ z. z .service) es ∙ R) c n)) in
+      subst (λ r. Link ms S (plainStep s r S p c) (step S x c)) er
+      (subst (λ z. Link ms S (plainStep z (x .whole .regions) S p c) (step S x c)) es (linked p x L Y H (ap (λ z. z .service) es ∙ R) c n)) in
       all s regions G R cs (plainStep s regions S p c) (step S x c) (setup-kept S x c .is ∙ es) (regions-kept S x c ∙ er) L1 (steady-next p x Y H c n) (m .1)
 
 -- a fresh pair stands where the plain run starts

@@ -121,7 +121,8 @@ module _ (ms : List Message) (S : List Slot) (p : Plain) (x : Run) (L : Link ms 
   lands =
       let d = pieceAt (t .message .bytes) (t .message .connection .pmtu) (t .index) in
       let o : getD entry 1 0 + getD entry 2 0 ≤ x .whole .pair .setup .memory =
-      ltb-false (x .whole .pair .setup .memory) (getD entry 1 0 + getD entry 2 0) (entry-fits (x .whole .pair .setup .memory) (x .whole .entries) (x .whole .pair .entries) (Y .entries) (entered .some)) in
+      ltb-false (x .whole .pair .setup .memory) (getD entry 1 0 + getD entry 2 0)
+      (entry-fits (x .whole .pair .setup .memory) (x .whole .entries) (x .whole .pair .entries) (Y .entries) (entered .some)) in
       ap (λ m. memoryBy (storePayload (cutPacket t) M entry region) m (packetAt t)) (L .memory)
       ∙ (send-lands (x .whole .pair .setup) (x .whole .regions) fits t H (x .whole .pair .message) (p .held) (L .opened) C entry Z (p .memory) (omega (arith, o, ml)) (entered .large)
       ∙ ap (λ e. overwrite (p .memory) (e .offset + t .index * t .message .connection .pmtu) d) (sym first-is))
@@ -168,7 +169,9 @@ module _ (ms : List Message) (S : List Slot) (p : Plain) (x : Run) (L : Link ms 
             ));
       }
     where
-      completionWith : (reports (completionOf (cutPacket t) M (getD entry 0 0)) ≡ cond (isLast t && takesEntry (t .message .request)) (completionFor (t .message .request) (firstOf (heldNow p t)) (length (t .message .bytes)) ∷ []) [])
+      completionWith :
+          (reports (completionOf (cutPacket t) M (getD entry 0 0))
+          ≡ cond (isLast t && takesEntry (t .message .request)) (completionFor (t .message .request) (firstOf (heldNow p t)) (length (t .message .bytes)) ∷ []) [])
           × (completionOf (cutPacket t) M (getD entry 0 0) .some ≡ (isLast t && takesEntry (t .message .request)))
       completionWith =
           placing-told (x .whole .pair .setup) (x .whole .regions) fits t H (x .whole .pair .message) (p .held) (L .opened) C entry region

@@ -117,14 +117,18 @@ module _ (ms : List Message) (S : List Slot) (p : Plain) (x : Run) (L : Link ms 
   at-is k act does W z =
       let eight : M .length ≡ 8 = N .length ∙ W .named (length (t .message .bytes)) in
       let r : region ≡ regionOf (keyOf (t .message .request)) (x .whole .regions) =
-      ap (λ j. cond (eqb j 0) noRegion (regionOf (M .key) (x .whole .regions))) (W .kind) ∙ (ap (λ b. cond b noRegion (regionOf (M .key) (x .whole .regions))) z ∙ ap (λ j. regionOf j (x .whole .regions)) (N .key)) in
+      ap (λ j. cond (eqb j 0) noRegion (regionOf (M .key) (x .whole .regions))) (W .kind)
+      ∙ (ap (λ b. cond b noRegion (regionOf (M .key) (x .whole .regions))) z ∙ ap (λ j. regionOf j (x .whole .regions)) (N .key)) in
       let w =
       spot-is (x .whole .pair .setup .memory) k (keyOf (t .message .request)) (addressOf (t .message .request)) 8 0
       (x .whole .regions) (λ y. y .atomic) M (Y .regions) (W .rights) (N .address) placed-none eight (omega arith)
       (W .right (x .whole .pair .setup) (x .whole .regions) (length (t .message .bytes)) (H .allowed)) (omega arith) in
       let a : M .address ≡ M .address + M .stored = omega (arith, placed-none) in
       let l : M .length ≡ M .length - M .stored = omega (arith, placed-none) in
-      let none : regionOffset (x .whole .regions) (keyOf (t .message .request)) (addressOf (t .message .request)) + 0 ≡ regionOffset (x .whole .regions) (keyOf (t .message .request)) (addressOf (t .message .request)) = omega arith in
+      let none :
+      regionOffset (x .whole .regions) (keyOf (t .message .request)) (addressOf (t .message .request)) + 0
+      ≡ regionOffset (x .whole .regions) (keyOf (t .message .request)) (addressOf (t .message .request)) =
+      omega arith in
       (λ i. memoryOffset (r i) (a i) (l i)) ∙ (w .0 ∙ none)
 
   pub swaps : (k act : ℕ) (does : List ℕ → ℕ → ℕ → ℕ → List ℕ) → Swaps (t .message .request) k act does → (eqb k 0 ≡ false)

@@ -18,7 +18,9 @@ use Rattle.pair.specs.declared.OpenMessage.{OpenMessage}
 use Rattle.request_spec.specs.declared.Packet.{Packet}
 use Rattle.delivery.specs.Plain.{regionOffset}
 use Rattle.delivery.specs.Demand.{InRegion}
-use Rattle.request_spec.specs.Verdict.{outOfSequence, notEnabled, padEarly, overLimit, noneWaiting, entryOutside, keyFails, keyLacking, bytesToCome, rightOf, lacks, lengthsOff, current, requestCode, expectedCode}
+use Rattle.request_spec.specs.Verdict.{outOfSequence, notEnabled, padEarly, overLimit, noneWaiting, entryOutside}
+use Rattle.request_spec.specs.Verdict.{keyFails, keyLacking, bytesToCome, rightOf, lacks, lengthsOff, current}
+use Rattle.request_spec.specs.Verdict.{requestCode, expectedCode}
 
 -- the checks before that of the entry, and those after
 pub record Before (s : Setup) (opened : OpenMessage) (p : Packet) : Type 0 where
@@ -82,8 +84,12 @@ module _ (memory kind key address n off : ℕ) (rows : List (List ℕ)) (right :
   unfolding lacks outside pastTop bytesToCome regionRow
   held-span r e g low high o =
       let inside = region-in memory key rows r sound e (omega arith) in
-      rw
-      (is r ∙ ap (λ b. cond b 1 0) g, le-ltb memory (r .offset + r .length) (inside .0), lt-leb addresses (r .address + r .length) (inside .1), le-ltb (m .address + m .stored) (r .address) (omega arith))
+      rw (
+        is r ∙ ap (λ b. cond b 1 0) g,
+        le-ltb memory (r .offset + r .length) (inside .0),
+        lt-leb addresses (r .address + r .length) (inside .1),
+        le-ltb (m .address + m .stored) (r .address) (omega arith),
+      )
       (le-ltb (r .address + r .length) (m .address + m .stored + (m .length - m .stored)) (omega arith))
 
   pub key-passes : InRegion rows right key address n → keyFails memory kind m (regionOf key rows) ≡ false

@@ -94,7 +94,9 @@ module _ (s : Setup) (regions : List (List ℕ)) (ms : List Message) (S : List S
       record {
         setup = setup-kept S x c .is ∙ T .setup;
         tables = regions-kept S x c ∙ T .tables;
-        link = subst (λ r. Link ms S (plainStep s r S p c) (step S x c)) (T .tables) (subst (λ z. Link ms S (plainStep z (x .whole .regions) S p c) (step S x c)) (T .setup) (linked inbound-steady next-steady post-steady ms S p x (T .link) (T .sound) H (ap (λ z. z .service) (T .setup) ∙ rc) c n));
+        link =
+            subst (λ r. Link ms S (plainStep s r S p c) (step S x c)) (T .tables) (subst (λ z. Link ms S (plainStep z (x .whole .regions) S p c) (step S x c)) (T .setup)
+            (linked inbound-steady next-steady post-steady ms S p x (T .link) (T .sound) H (ap (λ z. z .service) (T .setup) ∙ rc) c n));
         sound = steady-next inbound-steady next-steady post-steady ms S p x (T .sound) H c n;
         bytes = step-long S x c ∙ T .bytes;
       }

@@ -14,7 +14,9 @@ use Rattle.pair.specs.declared.Status.{Status}
 use Rattle.pair.specs.declared.Status.the-variants as status
 use Rattle.request_spec.specs.Verdict.{carrying, current, requestCode, expectedCode, expectedCodeOf}
 use Rattle.request_spec.specs.declared.Packet.{Packet}
-use Rattle.responder_spec.specs.Decide.{noReply, failed, storePayload, answered, execute, checkedDecision, expectedDecision, orphaned, strays, closedBy, abandoning, ucExecute, ucCheckedDecision, ucDecision}
+use Rattle.responder_spec.specs.Decide.{noReply, failed, storePayload, answered, execute, checkedDecision}
+use Rattle.responder_spec.specs.Decide.{expectedDecision, orphaned, strays, closedBy, abandoning, ucExecute}
+use Rattle.responder_spec.specs.Decide.{ucCheckedDecision, ucDecision}
 use Rattle.responder_spec.specs.declared.Decision.{Decision}
 use Rattle.responder_spec.proofs.Codes.{Passed, passes}
 use Rattle.responder_spec.proofs.Views.{current-closed, same-code}

@@ -145,7 +145,18 @@ module _ {A B C D E F G H I : Type 0} {r₁ r₂ r₃ r₄ r₅ r₆ r₇ r₈ r
         whole = λ x y z u v w s n. a .holds x ∙ (b .holds y ∙ (c .holds z ∙ (d .holds u ∙ (e .holds v ∙ (f .holds w ∙ (g .holds s ∙ h .fails n))))));
         ready = λ x y z u v w s t n. a .holds x ∙ (b .holds y ∙ (c .holds z ∙ (d .holds u ∙ (e .holds v ∙ (f .holds w ∙ (g .holds s ∙ (h .holds t ∙ i .fails n)))))));
         good = λ x y z u v w s t o. a .holds x ∙ (b .holds y ∙ (c .holds z ∙ (d .holds u ∙ (e .holds v ∙ (f .holds w ∙ (g .holds s ∙ (h .holds t ∙ i .holds o)))))));
-        only = λ q. (past1 q refl .0, past2 q refl .0, past3 q refl .0, past4 q refl .0, past5 q refl .0, past6 q refl .0, past7 q refl .0, past8 q refl .0, goes i (omega arith) (past8 q refl .1) .0);
+        only =
+            λ q. (
+              past1 q refl .0,
+              past2 q refl .0,
+              past3 q refl .0,
+              past4 q refl .0,
+              past5 q refl .0,
+              past6 q refl .0,
+              past7 q refl .0,
+              past8 q refl .0,
+              goes i (omega arith) (past8 q refl .1) .0,
+            );
         only1 = λ q. stops a from2 (omega arith) q;
         only2 = λ q. (past1 q refl .0, stops b from3 (omega arith) (past1 q refl .1));
         only3 = λ q. (past1 q refl .0, past2 q refl .0, stops c from4 (omega arith) (past2 q refl .1));
@@ -154,7 +165,18 @@ module _ {A B C D E F G H I : Type 0} {r₁ r₂ r₃ r₄ r₅ r₆ r₇ r₈ r
         only6 = λ q. (past1 q refl .0, past2 q refl .0, past3 q refl .0, past4 q refl .0, past5 q refl .0, stops f from7 (omega arith) (past5 q refl .1));
         only7 = λ q. (past1 q refl .0, past2 q refl .0, past3 q refl .0, past4 q refl .0, past5 q refl .0, past6 q refl .0, stops g from8 (omega arith) (past6 q refl .1));
         only8 = λ q. (past1 q refl .0, past2 q refl .0, past3 q refl .0, past4 q refl .0, past5 q refl .0, past6 q refl .0, past7 q refl .0, stops h from9 (omega arith) (past7 q refl .1));
-        only9 = λ q. (past1 q refl .0, past2 q refl .0, past3 q refl .0, past4 q refl .0, past5 q refl .0, past6 q refl .0, past7 q refl .0, past8 q refl .0, stops i (inl refl) (omega arith) (past8 q refl .1));
+        only9 =
+            λ q. (
+              past1 q refl .0,
+              past2 q refl .0,
+              past3 q refl .0,
+              past4 q refl .0,
+              past5 q refl .0,
+              past6 q refl .0,
+              past7 q refl .0,
+              past8 q refl .0,
+              stops i (inl refl) (omega arith) (past8 q refl .1),
+            );
         numbers = most r₁ from1;
       }
 

@@ -11,7 +11,9 @@ use lib.Seq.{drop-drop, take-add, getD-drop, getD-take}
 use borrow.Author.Tests.{le-leb, lt-leb, leb-true, leb-false, eq-eqb, ne-eqb}
 use Rattle.memory.specs.Memory.{overwrite, store}
 use Rattle.memory.specs.Word.{lowBytes, lowNumber, wordAt, wordPut, fetchAdded, swapped}
-use Rattle.memory.specs.Claims.{Bytes, LowLength, BytesNumber, NumberBytes, WordBelow, LowFirst, WordBack, WordKept, WordOver, OnlyWord, PutWithin, FetchWithin, SwapWithin, Fetched, FetchWraps, SwapEqual, SwapUnequal}
+use Rattle.memory.specs.Claims.{Bytes, LowLength, BytesNumber, NumberBytes, WordBelow, LowFirst, WordBack}
+use Rattle.memory.specs.Claims.{WordKept, WordOver, OnlyWord, PutWithin, FetchWithin, SwapWithin, Fetched}
+use Rattle.memory.specs.Claims.{FetchWraps, SwapEqual, SwapUnequal}
 use Rattle.memory.proofs.Put.{placed-put, placed-over, length-placed, placed-found, placed-before, placed-after}
 
 -- a part that lies in memory has its whole length

@@ -29,7 +29,9 @@ module _ (memory kind : ℕ) (m : OpenMessage) (region : List ℕ) (k : kind ≡
       → true ≡ keyFails memory kind m region
   unfolding pastTop
   past stored p t e f =
-      sym (keyed ∙ lacks-past region (rightOf kind region) memory (m .address + m .stored) needed (leb-true addresses (m .address + m .stored) (ap (λ x. pastTop (m .address) x) (sym p) ∙ (sym e ∙ f))))
+      sym (keyed
+      ∙ lacks-past region (rightOf kind region) memory (m .address + m .stored) needed
+      (leb-true addresses (m .address + m .stored) (ap (λ x. pastTop (m .address) x) (sym p) ∙ (sym e ∙ f))))
 
   pub judged : (stored : ℕ) → stored ≡ m .stored → (right : ℕ) → right ≡ rightOf kind region → (n : ℕ) → n ≡ needed → (r : Bool)
       → r ≡ lacks region right memory (m .address + stored) n → r ≡ keyFails memory kind m region

@@ -14,8 +14,15 @@ use Rattle.pmtu.specs.Pieces.{starts, ends}
 use Rattle.table.specs.Table.{outside, addresses, pastTop}
 use Rattle.pair.specs.Sound.{memoryLimit}
 use Rattle.request_spec.specs.declared.Packet.{Packet}
-use Rattle.request_spec.specs.Verdict.{carrying, outOfSequence, notEnabled, padEarly, overLimit, needsEntry, entriesWaiting, noneWaiting, usesEntry, entryOutside, rightOf, lacks, bytesToCome, keyLacking, keyFails, sizeOff, totalOff, bareOff, payloadSize, lengthsOff, current}
-use Rattle.request_spec.specs.Claims.{Carries, Begins, HasMore, Ends, Place, IsAtomic, Served, InSequence, Enabled, PadAtEnd, TakesEntry, Waits, Gives, GivesRest, KeyGood, LengthsGood, IsCurrent, Tells, CurrentTested, SequenceTested, EnabledTested, PadTested, LimitTested, EntryTested, InsideTested, KeyTested, LengthsTested}
+use Rattle.request_spec.specs.Verdict.{carrying, outOfSequence, notEnabled, padEarly, overLimit, needsEntry}
+use Rattle.request_spec.specs.Verdict.{entriesWaiting, noneWaiting, usesEntry, entryOutside, rightOf, lacks}
+use Rattle.request_spec.specs.Verdict.{bytesToCome, keyLacking, keyFails, sizeOff, totalOff, bareOff}
+use Rattle.request_spec.specs.Verdict.{payloadSize, lengthsOff, current}
+use Rattle.request_spec.specs.Claims.{Carries, Begins, HasMore, Ends, Place, IsAtomic, Served, InSequence}
+use Rattle.request_spec.specs.Claims.{Enabled, PadAtEnd, TakesEntry, Waits, Gives, GivesRest, KeyGood}
+use Rattle.request_spec.specs.Claims.{LengthsGood, IsCurrent, Tells, CurrentTested, SequenceTested}
+use Rattle.request_spec.specs.Claims.{EnabledTested, PadTested, LimitTested, EntryTested, InsideTested}
+use Rattle.request_spec.specs.Claims.{KeyTested, LengthsTested}
 
 -- a fact at each place
 pub by-place : (P : ℕ → Type 0) → P 0 → P 1 → P 2 → P 4 → (place : ℕ) → Place place → P place

@@ -102,7 +102,9 @@ module _ (q : Pair) (m out : List ℕ) (t : Status) (is : t ≡ nextStatus q (le
       unfolding bytes
       many =
           let I = inside i x part in
-          let l : length bytes ≡ min (q .read .offset + x .end - (q .read .offset + x .start)) (length m - (q .read .offset + x .start)) = length-take (q .read .offset + x .end - (q .read .offset + x .start)) (drop (q .read .offset + x .start) m) ∙ ap (min (q .read .offset + x .end - (q .read .offset + x .start))) (length-drop (q .read .offset + x .start) m) in
+          let l : length bytes ≡ min (q .read .offset + x .end - (q .read .offset + x .start)) (length m - (q .read .offset + x .start)) =
+          length-take (q .read .offset + x .end - (q .read .offset + x .start)) (drop (q .read .offset + x .start) m)
+          ∙ ap (min (q .read .offset + x .end - (q .read .offset + x .start))) (length-drop (q .read .offset + x .start) m) in
           sym (ap length carried) ∙ omega (arith, l, I .0, I .1)
 
       executes : status.Executed ≡ nextStatus q (length m) (length out)
@@ -121,7 +123,8 @@ module _ (q : Pair) (m out : List ℕ) (t : Status) (is : t ≡ nextStatus q (le
           let is-h : h ≡ responseHeader (q .setup) (q .read) i (length (responsePayload (q .read) (q .setup .pmtu) m i)) = head ∙ ap (responseHeader (q .setup) (q .read) i) (sym many) in
           let is-a : a ≡ Done (length (responseBytes (q .setup) (q .read) m i)) = writes ∙ ((λ z. packetWritten (is-h z) (length (carried z)) (length out)) ∙ W .0) in
           let is-out : out' ≡ over (responseBytes (q .setup) (q .read) m i) out = output ∙ ((λ z. packetOut (is-h z) (carried z) out) ∙ W .1) in
-          let is-size : size ≡ length (responseBytes (q .setup) (q .read) m (indexOf (q .read) (q .setup .pmtu))) = count ∙ (ap doneBytes is-a ∙ ap (λ k. length (responseBytes (q .setup) (q .read) m k)) at) in
+          let is-size : size ≡ length (responseBytes (q .setup) (q .read) m (indexOf (q .read) (q .setup .pmtu))) =
+          count ∙ (ap doneBytes is-a ∙ ap (λ k. length (responseBytes (q .setup) (q .read) m k)) at) in
           rw taken (
             outcomeWith ∙ (λ z. record { status = executes z; pair = one z; completion = noCompletion; outgoing = is-size z }),
             is-out ∙ ap (λ k. over (responseBytes (q .setup) (q .read) m k) out) at,

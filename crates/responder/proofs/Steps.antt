@@ -174,7 +174,9 @@ module _ (q : Pair) (regions entries saved : List (List ℕ)) (m p out : List �
       → decision q regions entries saved m p out ≡ orDrop f (λ h. packetDecision q regions entries saved (packetOf h (length p)))
   unfolding decision decided
   decided-by f e =
-      ap (λ b. cond b (orDrop (headerBy q p) (λ h. packetDecision q regions entries saved (packetOf h (length p)))) (noReply (inboundRefusal q (length m) (length out)))) (willing q m out t is n number none .taken)
+      ap
+      (λ b. cond b (orDrop (headerBy q p) (λ h. packetDecision q regions entries saved (packetOf h (length p)))) (noReply (inboundRefusal q (length m) (length out))))
+      (willing q m out t is n number none .taken)
       ∙ ap (λ x. orDrop x (λ h. packetDecision q regions entries saved (packetOf h (length p)))) e
 
   -- a header that does not pass is left at once

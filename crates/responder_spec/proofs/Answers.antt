@@ -28,14 +28,20 @@ use Rattle.pair.specs.Pair.{noMessage}
 use Rattle.pair.specs.declared.Status.the-variants as status
 use Rattle.pair.proofs.Known.{sound}
 use Rattle.request_spec.specs.Packet.{packetOf}
-use Rattle.request_spec.specs.Verdict.{carrying, outOfSequence, notEnabled, padEarly, overLimit, noneWaiting, entryOutside, rightOf, lacks, bytesToCome, keyLacking, keyFails, lengthsOff, current, requestCode, expectedCode}
+use Rattle.request_spec.specs.Verdict.{carrying, outOfSequence, notEnabled, padEarly, overLimit, noneWaiting}
+use Rattle.request_spec.specs.Verdict.{entryOutside, rightOf, lacks, bytesToCome, keyLacking, keyFails, lengthsOff}
+use Rattle.request_spec.specs.Verdict.{current, requestCode, expectedCode}
 use Rattle.request_spec.specs.Claims.{Place, Carries, IsAtomic, Served, KeyGood, IsCurrent, Tells, JudgedBy}
 use Rattle.request_spec.proofs.Conditions.{limit-tested, key-tested}
 use Rattle.header.proofs.Reasons.{of-not}
 use Rattle.request_spec.proofs.Order.{current-one, order}
 use Rattle.request_spec.proofs.Taken.{any-place}
 use Rattle.request_spec.specs.declared.Packet.{Packet}
-use Rattle.responder_spec.specs.Decide.{beginRead, noReply, acknowledging, aheadDecision, failed, storePayload, runAtomic, acceptRead, execute, checkedDecision, expectedDecision, duplicateReadFails, duplicateRead, isAtomic, duplicateDecision, regionFor, headEntry, decisionByClass, rcDecision, packetDecision, readsFull, inboundRefusal, decided}
+use Rattle.responder_spec.specs.Decide.{beginRead, noReply, acknowledging, aheadDecision, failed, storePayload}
+use Rattle.responder_spec.specs.Decide.{runAtomic, acceptRead, execute, checkedDecision, expectedDecision}
+use Rattle.responder_spec.specs.Decide.{duplicateReadFails, duplicateRead, isAtomic, duplicateDecision}
+use Rattle.responder_spec.specs.Decide.{regionFor, headEntry, decisionByClass, rcDecision, packetDecision}
+use Rattle.responder_spec.specs.Decide.{readsFull, inboundRefusal, decided}
 use Rattle.responder_spec.specs.Inbound.{outcomeBy, decision, inbound}
 use Rattle.responder_spec.specs.Answers.{Willing, headerBy, HeaderDropped, entryAtHead, Expects, Aheads, Again, Repeats, Classed, HeaderPassed, SentAgain, RepeatedSent}
 use Rattle.responder_spec.proofs.Codes.{Codes, codes}
@@ -276,7 +282,8 @@ duplicate-by : (q : Pair) (regions : List (List ℕ)) (rows : List (List ℕ)) (
     (statusNumber (duplicateDecision k (q .setup) (q .expected) (current (q .message) k) (regionFor (k .kind) (current (q .message) k .key) regions) (newestSaved (k .psn .0) rows (q .saved)) .status))
 unfolding duplicateDecision duplicateRead statusNumber noReply acknowledging
 duplicate-by q regions rows k t K e =
-    subst (λ x. Repeats q regions rows k t (statusNumber (duplicateDecision k (q .setup) (q .expected) x (regionFor (k .kind) (x .key) regions) (newestSaved (k .psn .0) rows (q .saved)) .status))) (sym e)
+    subst (λ x. Repeats q regions rows k t
+    (statusNumber (duplicateDecision k (q .setup) (q .expected) x (regionFor (k .kind) (x .key) regions) (newestSaved (k .psn .0) rows (q .saved)) .status))) (sym e)
     (record {
       carried = λ c. rw (carry (k .kind) c);
       reads = λ r A. rw (bare (k .kind) (omega arith), eq-eqb (k .kind) 12 r, region-read (k .kind) (t .key) regions r, again-tested q regions k t .1 A);
@@ -331,7 +338,11 @@ read-sent : (k : Packet) (q : Pair) (t : OpenMessage) (region : List ℕ) → du
 unfolding duplicateRead noReply
 read-sent k q t region = go (duplicateReadFails k (q .setup) t (q .expected) region)
   where
-    go : (b : Bool) → cond b (noReply status.Dropped) (beginRead status.DuplicateAnswered noMessage (memoryOffset region (t .address) (t .length)) (t .length) 0 false (pieces (t .length) (q .setup .pmtu)) (k .psn)) .outgoing ≡ 0
+    go :
+        (b : Bool)
+        → cond b (noReply status.Dropped)
+        (beginRead status.DuplicateAnswered noMessage (memoryOffset region (t .address) (t .length)) (t .length) 0 false (pieces (t .length) (q .setup .pmtu)) (k .psn)) .outgoing
+        ≡ 0
     go true = refl
     go false = refl
 

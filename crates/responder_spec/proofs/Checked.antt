@@ -15,7 +15,9 @@ use Rattle.pair.specs.declared.Setup.{Setup}
 use Rattle.pair.specs.declared.OpenMessage.{OpenMessage}
 use Rattle.header.proofs.Reasons.{of-not}
 use Rattle.request_spec.specs.declared.Packet.{Packet}
-use Rattle.request_spec.specs.Verdict.{carrying, outOfSequence, notEnabled, padEarly, overLimit, noneWaiting, entryOutside, rightOf, lacks, keyLacking, keyFails, lengthsOff, current, requestCode, expectedCode}
+use Rattle.request_spec.specs.Verdict.{carrying, outOfSequence, notEnabled, padEarly, overLimit, noneWaiting}
+use Rattle.request_spec.specs.Verdict.{entryOutside, rightOf, lacks, keyLacking, keyFails, lengthsOff, current}
+use Rattle.request_spec.specs.Verdict.{requestCode, expectedCode}
 
 -- each check, passed
 pub record Checked (s : Setup) (opened : OpenMessage) (p : Packet) (count : ℕ) (entry region : List ℕ) : Type 0 where

@@ -18,7 +18,9 @@ use Rattle.pair.specs.Claims.{Sound, MessageSound}
 use Rattle.pair.specs.declared.Setup.{Setup}
 use Rattle.pair.specs.declared.OpenMessage.{OpenMessage}
 use Rattle.pair.specs.declared.Pair.{Pair}
-use Rattle.request_spec.specs.Verdict.{outOfSequence, notEnabled, padEarly, overLimit, needsEntry, entriesWaiting, noneWaiting, usesEntry, entryOutside, keyFails, lengthsOff, current, requestCode, expectedCode}
+use Rattle.request_spec.specs.Verdict.{outOfSequence, notEnabled, padEarly, overLimit, needsEntry, entriesWaiting}
+use Rattle.request_spec.specs.Verdict.{noneWaiting, usesEntry, entryOutside, keyFails, lengthsOff, current}
+use Rattle.request_spec.specs.Verdict.{requestCode, expectedCode}
 use Rattle.request_spec.specs.declared.Packet.{Packet}
 use Rattle.responder_spec.specs.Decide.{headEntry}
 use Rattle.responder_spec.specs.Effects.{OneOf}
@@ -113,7 +115,13 @@ never-34 q entries p region S E h =
     let opened = q .message in
     let s = q .setup in
     let entry = headEntry q entries in
-    let T = only-34 (outOfSequence (opened .kind) (p .kind) (p .place)) (notEnabled s (p .kind)) (padEarly (p .place) (p .pad)) (overLimit (p .operands .length)) (noneWaiting (p .kind) (p .place) (p .operands .immediate) (opened .kind) (q .entries .count)) (entryOutside (p .kind) (p .operands .immediate) entry (s .memory)) (keyFails (s .memory) (p .kind) (current opened p) region) (lengthsOff p (s .pmtu) (current opened p) (getD entry 2 0)) h in
+    let T =
+    only-34 (outOfSequence (opened .kind) (p .kind) (p .place)) (notEnabled s (p .kind)) (padEarly (p .place) (p .pad))
+    (overLimit (p .operands .length))
+    (noneWaiting (p .kind) (p .place) (p .operands .immediate) (opened .kind) (q .entries .count))
+    (entryOutside (p .kind) (p .operands .immediate) entry (s .memory))
+    (keyFails (s .memory) (p .kind) (current opened p) region)
+    (lengthsOff p (s .pmtu) (current opened p) (getD entry 2 0)) h in
     let u = and-left (usesEntry (p .kind) (p .operands .immediate)) (outside (getD entry 1 0) (getD entry 2 0) (s .memory)) (T .2) in
     let o = and-right (usesEntry (p .kind) (p .operands .immediate)) (outside (getD entry 1 0) (getD entry 2 0) (s .memory)) (T .2) in
     row-inside (s .memory) entry (E .each 0 (some-entry q p S (T .0) (T .1) u)) o
@@ -141,7 +149,12 @@ pub request-passes : (s : Setup) (opened : OpenMessage) (p : Packet) (count : �
     → Passed s opened p entry region
 unfolding requestCode
 request-passes s opened p count entry region h =
-    let T = passed-all false (notEnabled s (p .kind)) (padEarly (p .place) (p .pad)) (overLimit (p .operands .length)) (noneWaiting (p .kind) (p .place) (p .operands .immediate) (opened .kind) count) (entryOutside (p .kind) (p .operands .immediate) entry (s .memory)) (keyFails (s .memory) (p .kind) (current opened p) region) (lengthsOff p (s .pmtu) (current opened p) (getD entry 2 0)) h in
+    let T =
+    passed-all false (notEnabled s (p .kind)) (padEarly (p .place) (p .pad)) (overLimit (p .operands .length))
+    (noneWaiting (p .kind) (p .place) (p .operands .immediate) (opened .kind) count)
+    (entryOutside (p .kind) (p .operands .immediate) entry (s .memory))
+    (keyFails (s .memory) (p .kind) (current opened p) region)
+    (lengthsOff p (s .pmtu) (current opened p) (getD entry 2 0)) h in
     record { enabled = T .0; entries = T .1; key = T .2; lengths = T .3 }
 
 pub passes : (s : Setup) (opened : OpenMessage) (p : Packet) (count : ℕ) (entry region : List ℕ) → expectedCode s opened p count entry region ≡ 0

@@ -30,7 +30,12 @@ use Rattle.request_spec.specs.Packet.{packetOf}
 use Rattle.request_spec.specs.declared.Packet.{Packet}
 use Rattle.request_spec.specs.Verdict.{carrying, notEnabled, overLimit, keyFails, current, requestCode, expectedCode}
 use Rattle.responder_spec.specs.Syndrome as Syndrome
-use Rattle.responder_spec.specs.Decide.{aheadDecision, failed, checkedDecision, expectedDecision, psnBefore, duplicateReadFails, duplicateRead, duplicateAtomic, isAtomic, duplicateDecision, regionFor, headEntry, decisionByClass, rcDecision, orphaned, strays, closedBy, abandoning, unanswered, storePayload, ucExecute, ucCheckedDecision, ucDecision, packetDecision, orDrop, readsFull, inboundRefusal, decided}
+use Rattle.responder_spec.specs.Decide.{aheadDecision, failed, checkedDecision, expectedDecision, psnBefore}
+use Rattle.responder_spec.specs.Decide.{duplicateReadFails, duplicateRead, duplicateAtomic, isAtomic}
+use Rattle.responder_spec.specs.Decide.{duplicateDecision, regionFor, headEntry, decisionByClass, rcDecision}
+use Rattle.responder_spec.specs.Decide.{orphaned, strays, closedBy, abandoning, unanswered, storePayload}
+use Rattle.responder_spec.specs.Decide.{ucExecute, ucCheckedDecision, ucDecision, packetDecision, orDrop}
+use Rattle.responder_spec.specs.Decide.{readsFull, inboundRefusal, decided}
 use Rattle.responder_spec.specs.Kept.{Steady}
 use Rattle.responder_spec.proofs.Checked.{Checked, checked, begins}
 use Rattle.responder_spec.proofs.Leads.{beside, Leads, branch, Does, does-leads, still-leads, quiet-leads, ack-leads, again-leads}

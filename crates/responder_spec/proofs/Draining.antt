@@ -17,6 +17,7 @@ use Rattle.responder_spec.specs.Apply.{with}
 use Rattle.responder_spec.specs.Response.{indexOf, responseExtension, responsePayload, responseHeader, responseBytes, oneFewer, nextBytes, nextResponse, nextOut}
 use Rattle.responder_spec.specs.Effects.{Left, inboundLeft, Fixed, Begun, AnsweredOr, Table, NextDone}
 use Rattle.responder_spec.specs.Reads.{Answering, Drain, drain, flat, Drains, ReadDrained, ReadServed}
+use Rattle.responder_spec.proofs.Views.{sound-with}
 use Rattle.responder_spec.proofs.Effects.{inbound-table}
 use Rattle.responder_spec.proofs.Refusals.{next-answers}
 use Rattle.responder_spec.proofs.Responses.{responses-join}
@@ -41,17 +42,7 @@ pair-of q m out D =
 
 -- it is sound too
 still-sound : (q : Pair) → Sound q → Sound (stepped q)
-still-sound q S =
-    record {
-      setup = S .setup;
-      state = S .state;
-      expected = S .expected;
-      msn = S .msn;
-      entries = S .entries;
-      saved = S .saved;
-      message = S .message;
-      read = go (S .read);
-    }
+still-sound q S = sound-with q (stepped q) S refl refl refl refl refl refl (S .message) (go (S .read))
   where
     go : ReadSound q → ReadSound (stepped q)
     go (inl z) = inl (omega arith)
@@ -132,7 +123,8 @@ from [] q m i S e r c R =
 from (out ∷ outs) q m i S e r c R =
     let D = next-answers q m out (λ z. omega arith) (R 0 (omega arith)) e S in
     let I = from outs (stepped q) m (suc i) (still-sound q S) e (omega arith) (omega arith) (λ k h. R (suc k) (omega arith)) in
-    more q m (drain (nextResponse q m out .pair) m outs) (length outs) i (statusNumber (nextResponse q m out .status)) (take (nextResponse q m out .outgoing) (nextOut q m out)) (D .number) (packet-of q m out i D (omega arith))
+    more q m (drain (nextResponse q m out .pair) m outs) (length outs) i (statusNumber (nextResponse q m out .status))
+    (take (nextResponse q m out .outgoing) (nextOut q m out)) (D .number) (packet-of q m out i D (omega arith))
     (subst (λ x. From (stepped q) m (drain x m outs) (length outs) (suc i)) (sym (pair-of q m out D)) I)
 
 pub read-drained : ReadDrained

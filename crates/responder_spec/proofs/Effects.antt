@@ -35,11 +35,15 @@ use Rattle.request_spec.specs.Verdict.{payloadSize}
 use Rattle.request_spec.specs.declared.Operands.{Operands}
 use Rattle.request_spec.specs.declared.Packet.{Packet}
 use Rattle.responder_spec.specs.declared.Decision.{Decision}
-use Rattle.responder_spec.specs.Decide.{noCompletion, noPsn, replyOnly, noReply, acknowledging, psnBefore, completes, completionOf, messageAfter, targetOffset, beginRead, storePayload, runAtomic, unanswered, decided}
+use Rattle.responder_spec.specs.Decide.{noCompletion, noPsn, replyOnly, noReply, acknowledging, psnBefore}
+use Rattle.responder_spec.specs.Decide.{completes, completionOf, messageAfter, targetOffset, beginRead}
+use Rattle.responder_spec.specs.Decide.{storePayload, runAtomic, unanswered, decided}
 use Rattle.responder_spec.specs.Apply.{memoryBy, actsAtomic, savedBy, savedRingBy, ringTaken, entriesBy, msnBy, readBy, executedPair, with, after, pairBy}
 use Rattle.responder_spec.specs.Reply.{answerBytes, valueBy, over, outBy}
 use Rattle.responder_spec.specs.Inbound.{outcomeBy, decision, inbound, inboundMemory, inboundSaved, inboundOut}
-use Rattle.responder_spec.specs.Effects.{Left, leaving, Silent, Unexecuted, Unchanged, Fixed, MarkAlone, ErrorAlone, Begun, Repeated, Abandons, Executes, Places, Accepts, OnWord, Swaps, Table, InboundTable}
+use Rattle.responder_spec.specs.Effects.{Left, leaving, Silent, Unexecuted, Unchanged, Fixed, MarkAlone}
+use Rattle.responder_spec.specs.Effects.{ErrorAlone, Begun, Repeated, Abandons, Executes, Places, Accepts}
+use Rattle.responder_spec.specs.Effects.{OnWord, Swaps, Table, InboundTable}
 use Rattle.responder_spec.proofs.Codes.Bare.{reads, swaps, adds}
 use Rattle.responder_spec.proofs.Codes.{Bare, class-is}
 use Rattle.responder_spec.proofs.Rows.Quiet.{dropped, short, range, unfinished}
@@ -289,7 +293,10 @@ module _ (q : Pair) (regions saved : List (List ℕ)) (m p out : List ℕ) where
         fetch = λ e. ap (λ x. memory (cond (eqb x 20) 2 3)) e ∙ ap (fetchAdded m (d .at)) (operand-by (λ o. o .swap) 20 adds e);
         swap = λ e. ap (λ x. memory (cond (eqb x 20) 2 3)) e
             ∙ (λ i. swapped m (d .at) (operand-by (λ o. o .compare) 19 swaps e i) (operand-by (λ o. o .swap) 19 swaps e i));
-        saved = act-by (λ a. cond (actsAtomic a) (savedRows saved (q .saved) (d .psn .0) (wordAt m (d .at))) saved ≡ savedRows saved (q .saved) (d .psn .0) (wordAt m (d .at))) refl refl (eqb (k .kind) 20);
+        saved =
+            act-by
+            (λ a. cond (actsAtomic a) (savedRows saved (q .saved) (d .psn .0) (wordAt m (d .at))) saved ≡ savedRows saved (q .saved) (d .psn .0) (wordAt m (d .at)))
+            refl refl (eqb (k .kind) 20);
       }
     where
       memory : ℕ → List ℕ
@@ -338,15 +345,49 @@ module _ (q : Pair) (regions saved : List (List ℕ)) (m p out : List ℕ) where
   unfolding leftBy outcomeBy acknowledging pairBy after statusNumber memoryBy savedBy actsAtomic noReply storePayload runAtomic outBy over answerBytes readBy packetOf headerOf
   effect c d (quiet a k) = quiet-by a k
   effect c d ahead =
-      record { nakmark = refl; fixed = fixed-by d (omega arith) (λ e. absurd (omega arith)); state = refl; read = refl; unexecuted = unexecuted-by status.SequenceNak 16 (q .expected) 96 0; outgoing = refl }
+      record {
+        nakmark = refl;
+        fixed = fixed-by d (omega arith) (λ e. absurd (omega arith));
+        state = refl;
+        read = refl;
+        unexecuted = unexecuted-by status.SequenceNak 16 (q .expected) 96 0;
+        outgoing = refl;
+      }
   effect c d invalid =
-      record { state = refl; fixed = fixed-by d (omega arith) (λ e. absurd (omega arith)); nakmark = refl; read = refl; unexecuted = unexecuted-by status.InvalidRequestNak 16 (bthOf p .psn) 97 0; outgoing = refl }
+      record {
+        state = refl;
+        fixed = fixed-by d (omega arith) (λ e. absurd (omega arith));
+        nakmark = refl;
+        read = refl;
+        unexecuted = unexecuted-by status.InvalidRequestNak 16 (bthOf p .psn) 97 0;
+        outgoing = refl;
+      }
   effect c d access =
-      record { state = refl; fixed = fixed-by d (omega arith) (λ e. absurd (omega arith)); nakmark = refl; read = refl; unexecuted = unexecuted-by status.AccessNak 16 (bthOf p .psn) 98 0; outgoing = refl }
+      record {
+        state = refl;
+        fixed = fixed-by d (omega arith) (λ e. absurd (omega arith));
+        nakmark = refl;
+        read = refl;
+        unexecuted = unexecuted-by status.AccessNak 16 (bthOf p .psn) 98 0;
+        outgoing = refl;
+      }
   effect c d unready =
-      record { nakmark = refl; fixed = fixed-by d (omega arith) (λ e. absurd (omega arith)); state = refl; read = refl; unexecuted = unexecuted-by status.NotReadyNak 16 (bthOf p .psn) (32 + q .setup .timer) 0; outgoing = refl }
+      record {
+        nakmark = refl;
+        fixed = fixed-by d (omega arith) (λ e. absurd (omega arith));
+        state = refl;
+        read = refl;
+        unexecuted = unexecuted-by status.NotReadyNak 16 (bthOf p .psn) (32 + q .setup .timer) 0;
+        outgoing = refl;
+      }
   effect c d again =
-      record { fixed = fixed-by d (omega arith) (λ e. absurd (omega arith)); state = refl; nakmark = refl; unexecuted = unexecuted-by status.DuplicateAnswered 16 (psnBefore (q .expected)) 31 0; answer = inl (inl refl, refl) }
+      record {
+        fixed = fixed-by d (omega arith) (λ e. absurd (omega arith));
+        state = refl;
+        nakmark = refl;
+        unexecuted = unexecuted-by status.DuplicateAnswered 16 (psnBefore (q .expected)) 31 0;
+        answer = inl (inl refl, refl);
+      }
   effect c d (reread at n a s) =
       record {
         fixed = fixed-by d (omega arith) (λ e. absurd (omega arith));
@@ -356,7 +397,13 @@ module _ (q : Pair) (regions saved : List (List ℕ)) (m p out : List ℕ) where
         answer = inr (refl, refl, begun-by d (q .read) (q .msn) s refl refl a);
       }
   effect c d (reswap v e) =
-      record { fixed = fixed-by d (omega arith) (λ e. absurd (omega arith)); state = refl; nakmark = refl; unexecuted = unexecuted-by status.DuplicateAnswered 24 (bthOf p .psn) 31 v; answer = inl (inr refl, refl) }
+      record {
+        fixed = fixed-by d (omega arith) (λ e. absurd (omega arith));
+        state = refl;
+        nakmark = refl;
+        unexecuted = unexecuted-by status.DuplicateAnswered 24 (bthOf p .psn) 31 v;
+        answer = inl (inr refl, refl);
+      }
   effect c d (place t entry region w) = place-by c t entry region w
   effect c d (begin at n a s) = begin-by at n a s
   effect c d (swap t region w) = swap-by t region w

@@ -20,7 +20,9 @@ use Rattle.pair.proofs.Posting.{held-some}
 use Rattle.pair.specs.declared.OpenMessage.{OpenMessage}
 use Rattle.pair.specs.declared.Status.the-variants as status
 use Rattle.request_spec.specs.declared.Packet.{Packet}
-use Rattle.request_spec.specs.Verdict.{carrying, overLimit, needsEntry, entriesWaiting, noneWaiting, usesEntry, entryOutside, bytesToCome, keyFails, sizeOff, totalOff, bareOff, payloadSize, lengthsOff, current}
+use Rattle.request_spec.specs.Verdict.{carrying, overLimit, needsEntry, entriesWaiting, noneWaiting, usesEntry}
+use Rattle.request_spec.specs.Verdict.{entryOutside, bytesToCome, keyFails, sizeOff, totalOff, bareOff, payloadSize}
+use Rattle.request_spec.specs.Verdict.{lengthsOff, current}
 use Rattle.responder_spec.specs.Decide.{noCompletion, completes, completionOf, messageAfter, storePayload, runAtomic, acceptRead, execute, regionFor, headEntry}
 use Rattle.responder_spec.specs.Apply.{actsAtomic}
 use Rattle.responder_spec.specs.Kept.{Steady}
@@ -128,7 +130,10 @@ module _ (w : Whole) (W : Steady w) where
       total c = go (carrying (p .kind)) c (or-right (ltb (p .padded) (p .pad)) _ (C .lengths))
         where
           go : (t : Bool) → t ≡ true
-              → cond t (sizeOff (p .place) (w .pair .setup .pmtu) (payloadSize p) || totalOff (p .kind) (p .place) (message .stored) (payloadSize p) (message .length) (getD entry 2 0)) (bareOff (p .kind) (p .padded) (message .address)) ≡ false
+              → cond t
+              (sizeOff (p .place) (w .pair .setup .pmtu) (payloadSize p) || totalOff (p .kind) (p .place) (message .stored) (payloadSize p) (message .length) (getD entry 2 0))
+              (bareOff (p .kind) (p .padded) (message .address))
+              ≡ false
               → totalOff (p .kind) (p .place) (message .stored) (payloadSize p) (message .length) (getD entry 2 0) ≡ false
           go true e h = or-right (sizeOff (p .place) (w .pair .setup .pmtu) (payloadSize p)) _ h
           go false e h = absurd (true≢false (sym e))
@@ -148,7 +153,9 @@ module _ (w : Whole) (W : Steady w) where
       send-fits z c = go (eqb (p .kind) 0) (eq-eqb (p .kind) 0 z) (total c)
         where
           go : (a : Bool) → a ≡ true
-              → cond a (ltb (getD entry 2 0) (message .stored + payloadSize p)) (cond (ends (p .place)) (not (eqb (message .stored + payloadSize p) (message .length))) (not (ltb (message .stored + payloadSize p) (message .length)))) ≡ false
+              → cond a (ltb (getD entry 2 0) (message .stored + payloadSize p))
+              (cond (ends (p .place)) (not (eqb (message .stored + payloadSize p) (message .length))) (not (ltb (message .stored + payloadSize p) (message .length))))
+              ≡ false
               → message .stored + payloadSize p ≤ getD entry 2 0
           go true e h = ltb-false (getD entry 2 0) (message .stored + payloadSize p) h
           go false e h = absurd (true≢false (sym e))

@@ -46,7 +46,8 @@ unfolding lengthsOff
 total p pmtu m most c h =
     let x = or-right (ltb (p .padded) (p .pad)) _ h in
     or-right (sizeOff (p .place) pmtu (payloadSize p)) (totalOff (p .kind) (p .place) (m .stored) (payloadSize p) (m .length) most)
-    (subst (λ b. cond b (sizeOff (p .place) pmtu (payloadSize p) || totalOff (p .kind) (p .place) (m .stored) (payloadSize p) (m .length) most) (bareOff (p .kind) (p .padded) (m .address)) ≡ false) c x)
+    (subst (λ b. cond b (sizeOff (p .place) pmtu (payloadSize p) || totalOff (p .kind) (p .place) (m .stored) (payloadSize p) (m .length) most) (bareOff (p .kind) (p .padded) (m .address))
+    ≡ false) c x)
 
 send-total : (kind place stored size length most : ℕ) → eqb kind 0 ≡ true → totalOff kind place stored size length most ≡ false → stored + size ≤ most
 unfolding totalOff

@@ -29,7 +29,7 @@ use Rattle.responder_spec.specs.declared.Decision.{Decision}
 use Rattle.responder_spec.specs.Decide.{noPsn, replyOnly, noReply, acknowledging, beginRead, headEntry}
 use Rattle.responder_spec.specs.Apply.{actsAtomic, savedRingBy, ringTaken, entriesBy, msnBy, readBy, executedPair, with, closing, after, pairBy}
 use Rattle.responder_spec.specs.Kept.{Steady}
-use Rattle.responder_spec.proofs.Views.{closes}
+use Rattle.responder_spec.proofs.Views.{closes, sound-with}
 
 -- the same tables beside another pair
 abbrev pub beside : Whole → Pair → Whole
@@ -84,17 +84,7 @@ closed-steady w W =
     let S = W .pair in
     subst (λ q. Steady (beside w q)) (sym (closes (w .pair)))
     (record {
-      pair =
-          record {
-            setup = S .setup;
-            state = S .state;
-            expected = S .expected;
-            msn = S .msn;
-            entries = S .entries;
-            saved = S .saved;
-            message = inl refl;
-            read = S .read;
-          };
+      pair = sound-with (w .pair) (closing (w .pair)) S refl refl refl refl refl refl (inl refl) (S .read);
       regions = W .regions;
       entries = W .entries;
       held = λ e. absurd (omega arith);

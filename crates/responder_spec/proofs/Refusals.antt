@@ -22,7 +22,9 @@ use Rattle.responder_spec.specs.Decide.{noReply, acknowledging, storePay
 use Rattle.responder_spec.specs.Reply.{over}
 use Rattle.responder_spec.specs.Response.{nextStatus, nextResponse, nextOut}
 use Rattle.responder_spec.specs.Inbound.{outcomeBy, decision, inbound}
-use Rattle.responder_spec.specs.Effects.{InboundShort, InboundRange, InboundUnfinished, InboundTaken, InboundAnswered, InboundMeant, NextRefused, NextNone, NextShort, NextRange, NextDone, NextAnswers}
+use Rattle.responder_spec.specs.Effects.{InboundShort, InboundRange, InboundUnfinished, InboundTaken}
+use Rattle.responder_spec.specs.Effects.{InboundAnswered, InboundMeant, NextRefused, NextNone, NextShort}
+use Rattle.responder_spec.specs.Effects.{NextRange, NextDone, NextAnswers}
 use Rattle.responder_spec.proofs.Rows.Late.{unread, outside}
 use Rattle.responder_spec.proofs.Rows.Row.{quiet, ahead, invalid, access, unready, again, reread, reswap, place, begin, swap}
 use Rattle.responder_spec.proofs.Rows.UcRow.{unheard, abandon, deliver}

@@ -171,7 +171,8 @@ msn-small : (q : Pair) (d : Decision) → Sound q → Fine (pairBy q d)
 unfolding pairBy after
 msn-small q d S =
     let n = statusNumber (d .status) in
-    either Fine (leb n 3) (executed-small q d S) (either Fine (eqb n 4) (S .msn) (either Fine (eqb n 16 || eqb n 19) (S .msn) (either Fine (eqb n 17 || eqb n 18) (S .msn) (either Fine (eqb n 6) (S .msn) (S .msn)))))
+    either Fine (leb n 3) (executed-small q d S)
+    (either Fine (eqb n 4) (S .msn) (either Fine (eqb n 16 || eqb n 19) (S .msn) (either Fine (eqb n 17 || eqb n 18) (S .msn) (either Fine (eqb n 6) (S .msn) (S .msn)))))
 
 module _ (q : Pair) (saved : List (List ℕ)) (m p out : List ℕ) (S : Sound q) (P : q .setup .pkey < 2 ^ 16) where
   wide : (d : Decision) → d .psn .0 < 2 ^ 24 → d .syndrome < 2 ^ 8 → Wide (q .setup) (d .psn) (d .syndrome) (pairBy q d .msn)
@@ -259,7 +260,12 @@ module _ (q : Pair) (saved : List (List ℕ)) (m p out : List ℕ) where
         inl (ack-sent q saved m p out S P (acknowledging status.DuplicateAnswered (psnBefore (q .expected)) 31) refl (after-below (q .expected) _) (omega arith))
     reply regions d (reread at n a s) = inr (inr refl)
     reply regions d (reswap v e) =
-        inr (inl (v, e, value-sent q saved m p out S P (replyOnly status.DuplicateAnswered 24 (bthOf p .psn) 31 v) v refl (psn-small p B) refl refl (subst Small e (saved-small (bthOf p .psn .0) saved (q .saved) W))))
+        inr (inl (
+          v,
+          e,
+          value-sent q saved m p out S P (replyOnly status.DuplicateAnswered 24 (bthOf p .psn) 31 v) v refl (psn-small p B)
+              refl refl (subst Small e (saved-small (bthOf p .psn .0) saved (q .saved) W)),
+        ))
     reply regions d (place t entry region w) = place-reply t entry region (numbersOf p .ackreq) refl
     reply regions d (begin at n a s) = tt
     reply regions d (swap t region w) = swap-reply t region
@@ -315,7 +321,8 @@ inbound-replies q regions entries saved m p out P M B W =
 
     go : (b : Bool) → executed (inboundRefusal q (length m) (length out)) ≡ b → Reply q saved m p out (d .status) (leftBy q saved m p out d)
     go true e =
-        any-reply q saved m p out (passed q (length m) (length out) e .1) P M B W regions d (taken-row Late unread q regions entries saved (length m) p (length out) (record { rc = λ region z. outside; uc = λ region z. outside }) e)
+        any-reply q saved m p out (passed q (length m) (length out) e .1) P M B W regions d
+        (taken-row Late unread q regions entries saved (length m) p (length out) (record { rc = λ region z. outside; uc = λ region z. outside }) e)
     go false e =
         subst (λ a. Reply q saved m p out a (leftBy q saved m p out d)) (sym (refused-status q regions entries saved (length m) p (length out) e))
         (quiet-reply q saved m p out (inboundRefusal q (length m) (length out)) (leftBy q saved m p out d) (refusal-quiet q (length m) (length out) e))

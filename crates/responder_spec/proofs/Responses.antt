@@ -138,8 +138,11 @@ module _ (q : Pair) (m : List ℕ) (A : Answering q m) (i : ℕ) where
 
   -- the packet writer accepts it, and writes it whole
   pub written : (out : List ℕ) → 16 + q .setup .pmtu ≤ length out
-      → (packetWritten (responseHeader (q .setup) (q .read) i (length (responsePayload (q .read) (q .setup .pmtu) m i))) (length (responsePayload (q .read) (q .setup .pmtu) m i)) (length out) ≡ Done (length (responseBytes (q .setup) (q .read) m i)))
-      × (packetOut (responseHeader (q .setup) (q .read) i (length (responsePayload (q .read) (q .setup .pmtu) m i))) (responsePayload (q .read) (q .setup .pmtu) m i) out ≡ over (responseBytes (q .setup) (q .read) m i) out)
+      → (packetWritten (responseHeader (q .setup) (q .read) i (length (responsePayload (q .read) (q .setup .pmtu) m i)))
+      (length (responsePayload (q .read) (q .setup .pmtu) m i)) (length out)
+      ≡ Done (length (responseBytes (q .setup) (q .read) m i)))
+      × (packetOut (responseHeader (q .setup) (q .read) i (length (responsePayload (q .read) (q .setup .pmtu) m i))) (responsePayload (q .read) (q .setup .pmtu) m i) out
+      ≡ over (responseBytes (q .setup) (q .read) m i) out)
   unfolding h payload responseBytes over
   written out room =
       let W = writes h payload out good pad short (omega (arith, size)) in

@@ -39,7 +39,13 @@ use Rattle.request_spec.specs.Verdict.{carrying, notEnabled, overLimit, keyFail
 use Rattle.table.specs.Table.{memoryOffset}
 use Rattle.request_spec.specs.declared.Packet.{Packet}
 use Rattle.responder_spec.specs.declared.Decision.{Decision}
-use Rattle.responder_spec.specs.Decide.{replyOnly, noReply, acknowledging, aheadDecision, failed, targetOffset, storePayload, runAtomic, beginRead, acceptRead, execute, checkedDecision, expectedDecision, psnBefore, duplicateReadFails, duplicateRead, duplicateAtomic, isAtomic, duplicateDecision, regionFor, headEntry, decisionByClass, rcDecision, orphaned, strays, closedBy, abandoning, unanswered, ucExecute, ucCheckedDecision, ucDecision, packetDecision, orDrop, readsFull, inboundRefusal, decided}
+use Rattle.responder_spec.specs.Decide.{replyOnly, noReply, acknowledging, aheadDecision, failed, targetOffset}
+use Rattle.responder_spec.specs.Decide.{storePayload, runAtomic, beginRead, acceptRead, execute}
+use Rattle.responder_spec.specs.Decide.{checkedDecision, expectedDecision, psnBefore, duplicateReadFails}
+use Rattle.responder_spec.specs.Decide.{duplicateRead, duplicateAtomic, isAtomic, duplicateDecision, regionFor}
+use Rattle.responder_spec.specs.Decide.{headEntry, decisionByClass, rcDecision, orphaned, strays, closedBy}
+use Rattle.responder_spec.specs.Decide.{abandoning, unanswered, ucExecute, ucCheckedDecision, ucDecision}
+use Rattle.responder_spec.specs.Decide.{packetDecision, orDrop, readsFull, inboundRefusal, decided}
 use Rattle.responder_spec.proofs.Codes.Bare.{reads, swaps, adds}
 use Rattle.responder_spec.proofs.Codes.{Codes, codes, Passed, passes, Bare, class-is}
 use Rattle.responder_spec.proofs.Inside.{own-inside, place-inside}

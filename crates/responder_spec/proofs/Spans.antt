@@ -44,7 +44,9 @@ use Rattle.responder_spec.proofs.Refusals.{inbound-meant}
 use Rattle.responder_spec.proofs.Effects.{silent, leftBy}
 use Rattle.responder_spec.proofs.Answers.{head-first, code-by, high}
 use Rattle.responder_spec.proofs.Ways.Way.{away, places, exchanges, delivers}
-use Rattle.responder_spec.proofs.Ways.{acts, regionBy, codeBy, decided-way, only-by, only-placed, payload-size, payload-is, ends-true, ends-false, few, which, which-atomic, region-is, or-true, and-false, Way}
+use Rattle.responder_spec.proofs.Ways.{acts, regionBy, codeBy, decided-way, only-by, only-placed, payload-size}
+use Rattle.responder_spec.proofs.Ways.{payload-is, ends-true, ends-false, few, which, which-atomic, region-is}
+use Rattle.responder_spec.proofs.Ways.{or-true, and-false, Way}
 use Rattle.responder_spec.proofs.Views.{viewed, viewed-sound, current-closed}
 
 -- Storing

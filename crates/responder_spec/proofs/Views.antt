@@ -1,7 +1,7 @@
 -- A packet of the unreliable connection meets the message that it leaves open: the laws of the reliable one serve
 -- there.
-use Prim.Native.Nat.{ℕ, _+_, _%_}
-use mathlib.Core.Path.{_≡_, refl, sym, ap}
+use Prim.Native.Nat.{ℕ, _+_, _%_, _^_, _≤_, _<_}
+use mathlib.Core.Path.{_≡_, refl, sym, ap, subst}
 use mathlib.Core.Bool.{Bool, true, false, cond, not, _&&_, _||_, true≢false}
 use mathlib.Core.List.{List}
 use mathlib.Core.Logic.{inl}
@@ -14,7 +14,7 @@ use Rattle.sequence.specs.declared.Psn.{Psn}
 use Rattle.sequence.proofs.Circle.{after-distance}
 use Rattle.pmtu.specs.Pieces.{starts}
 use Rattle.pair.specs.Pair.{noMessage}
-use Rattle.pair.specs.Claims.{Sound, MessageSound}
+use Rattle.pair.specs.Claims.{Sound, SetupSound, MessageSound, ReadSound}
 use Rattle.pair.specs.declared.Setup.{Setup}
 use Rattle.pair.specs.declared.OpenMessage.{OpenMessage}
 use Rattle.pair.specs.declared.Pair.{Pair}
@@ -105,18 +105,27 @@ closed-message place q M = go (starts place)
     go true = inl refl
     go false = M
 
-pub viewed-sound : (place : ℕ) (q : Pair) → Sound q → Sound (viewed place q)
-viewed-sound place q S =
+-- with another message and another read answer a pair stays sound, if these two are
+pub sound-with : (q r : Pair) → Sound q → r .setup ≡ q .setup → r .state ≡ q .state → r .expected ≡ q .expected → r .msn ≡ q .msn
+    → r .entries ≡ q .entries
+    → r .saved ≡ q .saved
+    → MessageSound r
+    → ReadSound r
+    → Sound r
+sound-with q r S a b c d e f m n =
     record {
-      setup = S .setup;
-      state = S .state;
-      expected = S .expected;
-      msn = S .msn;
-      entries = S .entries;
-      saved = S .saved;
-      message = closed-message place q (S .message);
-      read = S .read;
+      setup = subst SetupSound (sym a) (S .setup);
+      state = subst (λ x. x ≤ 2) (sym b) (S .state);
+      expected = subst (λ x. x .0 < 2 ^ 24) (sym c) (S .expected);
+      msn = subst (λ x. x .0 < 2 ^ 24) (sym d) (S .msn);
+      entries = subst (λ x. (x .head < 16) × (x .count ≤ 16)) (sym e) (S .entries);
+      saved = subst (λ x. (x .head < 16) × (x .count ≤ 16)) (sym f) (S .saved);
+      message = m;
+      read = n;
     }
+
+pub viewed-sound : (place : ℕ) (q : Pair) → Sound q → Sound (viewed place q)
+viewed-sound place q S = sound-with q (viewed place q) S refl refl refl refl refl refl (closed-message place q (S .message)) (S .read)
 
 -- it is of the same message
 pub current-closed : (opened : OpenMessage) (p : Packet) → current (closedBy (p .place) opened) p ≡ current opened p

@@ -38,7 +38,13 @@ use Rattle.request_spec.specs.Claims.{Served, Enabled, HasMore, Ends, Carries, 
 use Rattle.request_spec.proofs.Order.{served}
 use Rattle.request_spec.specs.declared.Packet.{Packet}
 use Rattle.responder_spec.specs.declared.Decision.{Decision}
-use Rattle.responder_spec.specs.Decide.{noReply, acknowledging, aheadDecision, failed, duplicateReadFails, storePayload, runAtomic, acceptRead, execute, checkedDecision, expectedDecision, duplicateRead, duplicateAtomic, isAtomic, duplicateDecision, regionFor, headEntry, decisionByClass, rcDecision, orphaned, strays, closedBy, abandoning, unanswered, ucExecute, ucCheckedDecision, ucDecision, packetDecision, orDrop, inboundRefusal, decided}
+use Rattle.responder_spec.specs.Decide.{noReply, acknowledging, aheadDecision, failed, duplicateReadFails}
+use Rattle.responder_spec.specs.Decide.{storePayload, runAtomic, acceptRead, execute, checkedDecision}
+use Rattle.responder_spec.specs.Decide.{expectedDecision, duplicateRead, duplicateAtomic, isAtomic}
+use Rattle.responder_spec.specs.Decide.{duplicateDecision, regionFor, headEntry, decisionByClass, rcDecision}
+use Rattle.responder_spec.specs.Decide.{orphaned, strays, closedBy, abandoning, unanswered, ucExecute}
+use Rattle.responder_spec.specs.Decide.{ucCheckedDecision, ucDecision, packetDecision, orDrop, inboundRefusal}
+use Rattle.responder_spec.specs.Decide.{decided}
 use Rattle.responder_spec.specs.Apply.{actsAtomic, after}
 use Rattle.responder_spec.specs.Answers.{OnlyBytes, packetIn}
 use Rattle.responder_spec.proofs.Rows.Quiet.{dropped, short, range, unfinished}

@@ -13,7 +13,9 @@ use Rattle.lemmas.proofs.Tests.{or-left, or-right}
 use Rattle.table.specs.declared.Region.{Region}
 use Rattle.table.specs.Table.{addresses, outside, pastTop, regionOutside, regionRow, noRegion, sought, firstFrom, keyRow, freeRow, entryRow}
 use Rattle.table.specs.View.{regionOf}
-use Rattle.table.specs.Claims.{RegionRows, EntryRows, RegionFits, RegionTested, EntryTested, Free, HasKey, First, KeyFound, FreeFound, RowSound, RegionsSound, Added, Removed, AddedSound, RemovedSound}
+use Rattle.table.specs.Claims.{RegionRows, EntryRows, RegionFits, RegionTested, EntryTested, Free, HasKey}
+use Rattle.table.specs.Claims.{First, KeyFound, FreeFound, RowSound, RegionsSound, Added, Removed, AddedSound}
+use Rattle.table.specs.Claims.{RemovedSound}
 
 pub entry-tested : EntryTested
 unfolding outside

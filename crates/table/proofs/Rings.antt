@@ -14,7 +14,9 @@ use Rattle.table.specs.declared.Saved.{Saved}
 use Rattle.table.specs.declared.Saved.the-variants.{Value, Nothing}
 use Rattle.table.specs.Table.{slotAt, entryRow}
 use Rattle.table.specs.View.{ringFrom, inRing, oneMore, later, newest, newestSaved, savedLimit, savedRing, savedRows}
-use Rattle.table.specs.Claims.{SavesSound, NewestNone, NewestSaved, SavedFound, SavedOther, SavedOtherFull, NewestOver, EntrySound, InUseKept, PostedSound, Appends, Takes, Saves, SavesFull, Newest}
+use Rattle.table.specs.Claims.{SavesSound, NewestNone, NewestSaved, SavedFound, SavedOther, SavedOtherFull}
+use Rattle.table.specs.Claims.{NewestOver, EntrySound, InUseKept, PostedSound, Appends, Takes, Saves, SavesFull}
+use Rattle.table.specs.Claims.{Newest}
 
 -- two positions less than 16 apart are different rows
 apart : (head i n : ℕ) → i < n → n < i + 16 → slotAt head i ≡ slotAt head n → ⊥

@@ -25,10 +25,16 @@ use Rattle.abi_spec.specs.Rows.{malformedFrom}
 use Rattle.abi_spec.specs.Claims.{PairFields}
 use Rattle.abi_spec.proofs.Laws.{let-in, pair-back, others-strange}
 use Rattle.abi_spec.proofs.Regions.{regions-let-in, row-strange}
-use Rattle.udalopek_spec.specs.Packets.{names, malformedFor, refused, inboundNumber, inboundWords, inboundRows, inboundBytes, inboundOutput, inboundReport, reportWords, nextNumber, nextWords, nextOutput, nextReport}
+use Rattle.udalopek_spec.specs.Packets.{names, malformedFor, refused, inboundNumber, inboundWords, inboundRows}
+use Rattle.udalopek_spec.specs.Packets.{inboundBytes, inboundOutput, inboundReport, reportWords, nextNumber}
+use Rattle.udalopek_spec.specs.Packets.{nextWords, nextOutput, nextReport}
 use Rattle.udalopek_spec.specs.Cutting.{requestOf, cutReport}
-use Rattle.udalopek_spec.specs.Host.{unmade, oddRegions, resetNumber, resetWords, resetTable, readyNumber, readyWords, addNumber, addTable, removeNumber, removeTable, postNumber, postWords, postTable}
-use Rattle.udalopek_spec.specs.Claims.{ToldSays, KindsAre, CutTells, InboundKeeps, NamesNone, WordsRefused, RowRefused, Keyed, Readable, InboundIs, NextIs, PostIs, ReadyIs, ResetIs, AddIs, RemoveIs}
+use Rattle.udalopek_spec.specs.Host.{unmade, oddRegions, resetNumber, resetWords, resetTable, readyNumber}
+use Rattle.udalopek_spec.specs.Host.{readyWords, addNumber, addTable, removeNumber, removeTable, postNumber}
+use Rattle.udalopek_spec.specs.Host.{postWords, postTable}
+use Rattle.udalopek_spec.specs.Claims.{ToldSays, KindsAre, CutTells, InboundKeeps, NamesNone, WordsRefused}
+use Rattle.udalopek_spec.specs.Claims.{RowRefused, Keyed, Readable, InboundIs, NextIs, PostIs, ReadyIs, ResetIs}
+use Rattle.udalopek_spec.specs.Claims.{AddIs, RemoveIs}
 use Rattle.udalopek_spec.proofs.Steps.{second, first, refused-words}
 
 -- nothing is reported of a completion that is none
@@ -54,7 +60,9 @@ inbound-keeps w regions entries saved m p out h =
       behind b _ saved _ (λ e g. t .quiet g .unexecuted .saved) h,
       behind b _ m _ (λ e g. t .quiet g .unexecuted .memory) h,
       behind b _ out _ (λ e g. t .quiet g .out) h,
-      behind b _ (replicate 6 0) _ (λ e g. ap (λ n. reportWords n (inbound (pairOf w) regions entries saved m p out .completion)) (t .quiet g .outgoing) ∙ silent _ (t .quiet g .unexecuted .completion)) h,
+      behind b _ (replicate 6 0) _
+          (λ e g. ap (λ n. reportWords n (inbound (pairOf w) regions entries saved m p out .completion)) (t .quiet g .outgoing) ∙ silent _ (t .quiet g .unexecuted .completion))
+          h,
     )
 
 -- the words of a pair are accepted, and its table

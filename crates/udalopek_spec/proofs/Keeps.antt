@@ -9,12 +9,16 @@ use borrow.Author.Tests.{ne-eqb}
 use Rattle.pair.specs.declared.Status.{Status}
 use Rattle.pair.specs.declared.Pair.{Pair}
 use Rattle.pair.specs.Answer.{statusNumber, executed}
-use Rattle.pair.specs.Host.{setUp, setUpStatus, setUpRegions, resetTo, resetStatus, resetRegions, madeReady, readyStatus, addStatus, addRegions, removeStatus, removeRegions, posted, postStatus, postEntries}
+use Rattle.pair.specs.Host.{setUp, setUpStatus, setUpRegions, resetTo, resetStatus, resetRegions, madeReady}
+use Rattle.pair.specs.Host.{readyStatus, addStatus, addRegions, removeStatus, removeRegions, posted, postStatus}
+use Rattle.pair.specs.Host.{postEntries}
 use Rattle.responder_spec.specs.Response.{nextResponse, nextStatus, nextOut}
 use Rattle.abi_spec.specs.Pair.{pairOf, pairWords, malformed}
 use Rattle.abi_spec.proofs.Laws.{let-in, others-strange}
 use Rattle.udalopek_spec.specs.Packets.{nextNumber, nextWords, nextOutput, nextReport}
-use Rattle.udalopek_spec.specs.Host.{otherLength, unmade, oddRegions, setUpNumber, setUpWords, setUpTable, resetNumber, resetWords, resetTable, readyNumber, readyWords, addNumber, addTable, removeNumber, removeTable, postNumber, postWords, postTable}
+use Rattle.udalopek_spec.specs.Host.{otherLength, unmade, oddRegions, setUpNumber, setUpWords, setUpTable}
+use Rattle.udalopek_spec.specs.Host.{resetNumber, resetWords, resetTable, readyNumber, readyWords, addNumber}
+use Rattle.udalopek_spec.specs.Host.{addTable, removeNumber, removeTable, postNumber, postWords, postTable}
 use Rattle.udalopek_spec.specs.Claims.{NextKeeps, SetUpKeeps, ResetKeeps, ReadyKeeps, AddKeeps, RemoveKeeps, PostKeeps, OthersRefused}
 use Rattle.udalopek_spec.proofs.Steps.{first}
 

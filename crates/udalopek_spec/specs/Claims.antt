@@ -21,7 +21,8 @@ use Rattle.abi_spec.specs.Pair.{pairOf, pairWords}
 use Rattle.abi_spec.specs.Claims.{PairFields, RegionNumbers}
 use Rattle.udalopek_spec.specs.Packets.{names, inboundNumber, inboundWords, inboundRows, inboundBytes, inboundOutput, inboundReport, reportWords, nextNumber, nextWords, nextOutput, nextReport}
 use Rattle.udalopek_spec.specs.Cutting.{requestOf, cutReport}
-use Rattle.udalopek_spec.specs.Host.{setUpNumber, setUpWords, setUpTable, resetNumber, resetWords, resetTable, readyNumber, readyWords, addNumber, addTable, removeNumber, removeTable, postNumber, postWords, postTable}
+use Rattle.udalopek_spec.specs.Host.{setUpNumber, setUpWords, setUpTable, resetNumber, resetWords, resetTable, readyNumber}
+use Rattle.udalopek_spec.specs.Host.{readyWords, addNumber, addTable, removeNumber, removeTable, postNumber, postWords, postTable}
 
 -- A packet dropped or a call refused leaves all words, rows and bytes as they were, and reports nothing.
 abbrev pub InboundKeeps : Type 0

@@ -17,7 +17,9 @@ same-requires c κs = search needs
 
 returns : tie.Need-returns
 unfolding malformed
-returns c = simp (← c .same .ensures, ← c .before .before .pair-words .ensures .0, ← c .before .before .before .pair-of .ensures)
+returns c =
+    let c2 = c .before .before in let c3 = c2 .before in
+    simp (← c .same .ensures, ← c2 .pair-words .ensures .0, ← c3 .pair-of .ensures)
 
 pub malformed-spec : {M : Type 1} → statement M
 malformed-spec =

@@ -58,7 +58,11 @@ flag-requires c κs = search needs
 
 returns-2 : tie.Need-returns-2
 unfolding pairOf
-returns-2 c = simp (le-ltb _ _ (c .before .before .before .before .before .before .before .before .before .before .before .before .before .before .before .if1 .left), le-leb _ _ (c .before .before .before .before .before .before .before .before .before .before .before .before .before .before .before .if1 .left), ← c .before .before .before .before .before .before .before .before .before .before .before .before .before .before .setup-of .ensures, ← c .before .before .before .before .before .before .before .before .before .before .before .before .before .message-of .ensures, ← c .before .before .before .before .before .before .before .before .before .before .read-of .ensures, ← c .before .before .before .before .before .before .low32 .ensures, ← c .before .before .before .before .low322 .ensures, ← c .before .before .low8 .ensures, ← c .flag .ensures)
+returns-2 c =
+    let c2 = c .before .before in let c4 = c2 .before .before in let c6 = c4 .before .before in
+    let c10 = c6 .before .before .before .before in let c13 = c10 .before .before .before in let c14 = c13 .before in
+    let c15 = c14 .before in
+    simp (le-ltb _ _ (c15 .if1 .left), le-leb _ _ (c15 .if1 .left), ← c14 .setup-of .ensures, ← c13 .message-of .ensures, ← c10 .read-of .ensures, ← c6 .low32 .ensures, ← c4 .low322 .ensures, ← c2 .low8 .ensures, ← c .flag .ensures)
 
 pub pair-of-spec : {M : Type 1} → statement M
 pair-of-spec =

@@ -71,7 +71,11 @@ flag-requires-4 c κs = search needs
 
 returns : tie.Need-returns
 unfolding setupOf
-returns c = simp (← c .before .before .before .before .before .before .before .before .before .before .before .before .before .before .before .before .before .before .before .before .low32 .ensures, ← c .before .before .before .before .before .before .before .before .before .before .before .before .before .before .before .before .low322 .ensures, ← c .before .before .before .before .before .before .before .before .before .before .before .before .before .before .low323 .ensures, ← c .before .before .before .before .before .before .before .before .before .before .before .before .low16 .ensures, ← c .before .before .before .before .before .before .before .before .before .before .low8 .ensures, ← c .before .before .before .before .before .before .before .before .low82 .ensures, ← c .before .before .before .before .before .before .flag .ensures, ← c .before .before .before .before .flag2 .ensures, ← c .before .before .flag3 .ensures, ← c .flag4 .ensures)
+returns c =
+    let c2 = c .before .before in let c4 = c2 .before .before in let c6 = c4 .before .before in
+    let c8 = c6 .before .before in let c10 = c8 .before .before in let c12 = c10 .before .before in
+    let c14 = c12 .before .before in let c16 = c14 .before .before in let c20 = c16 .before .before .before .before in
+    simp (← c20 .low32 .ensures, ← c16 .low322 .ensures, ← c14 .low323 .ensures, ← c12 .low16 .ensures, ← c10 .low8 .ensures, ← c8 .low82 .ensures, ← c6 .flag .ensures, ← c4 .flag2 .ensures, ← c2 .flag3 .ensures, ← c .flag4 .ensures)
 
 pub setup-of-spec : {M : Type 1} → statement M
 setup-of-spec =

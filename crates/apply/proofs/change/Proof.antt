@@ -14,8 +14,9 @@ same-length c = search needs
 returns : tie.Need-returns
 unfolding memoryBy actsAtomic valueBy
 returns c =
-    let is = c .before .before .before .before .if1 .taken in
-    (simp is, simp (eq-eqb _ _ is, ← c .before .before .store-part .ensures))
+    let c2 = c .before .before in let c4 = c2 .before .before in
+    let is = c4 .if1 .taken in
+    (simp is, simp (eq-eqb _ _ is, ← c2 .store-part .ensures))
 
 fetch-add-requires : tie.Need-fetch-add-requires
 fetch-add-requires c κs = search needs
@@ -26,9 +27,10 @@ same-length-2 c = search needs
 returns-2 : tie.Need-returns-2
 unfolding memoryBy actsAtomic valueBy
 returns-2 c =
-    let is = eq-eqb _ _ (c .before .before .before .before .if2 .taken) in
-    let E = c .before .before .fetch-add .ensures in
-    (simp (is, ← E .0), simp (ne-eqb _ _ (c .before .before .before .before .before .before .if1 .left), is, ← E .1))
+    let c2 = c .before .before in let c4 = c2 .before .before in let c6 = c4 .before .before in
+    let is = eq-eqb _ _ (c4 .if2 .taken) in
+    let E = c2 .fetch-add .ensures in
+    (simp (is, ← E .0), simp (ne-eqb _ _ (c6 .if1 .left), is, ← E .1))
 
 cmp-swap-requires : tie.Need-cmp-swap-requires
 cmp-swap-requires c κs = search needs
@@ -39,17 +41,20 @@ same-length-3 c = search needs
 returns-3 : tie.Need-returns-3
 unfolding memoryBy actsAtomic valueBy
 returns-3 c =
-    let other = ne-eqb _ _ (c .before .before .before .before .before .before .if2 .left) in
-    let is = eq-eqb _ _ (c .before .before .before .before .if3 .taken) in
-    let E = c .before .before .cmp-swap .ensures in
-    (simp (other, is, ← E .0), simp (ne-eqb _ _ (c .before .before .before .before .before .before .before .before .if1 .left), other, is, ← E .1))
+    let c2 = c .before .before in let c4 = c2 .before .before in let c6 = c4 .before .before in
+    let c8 = c6 .before .before in
+    let other = ne-eqb _ _ (c6 .if2 .left) in
+    let is = eq-eqb _ _ (c4 .if3 .taken) in
+    let E = c2 .cmp-swap .ensures in
+    (simp (other, is, ← E .0), simp (ne-eqb _ _ (c8 .if1 .left), other, is, ← E .1))
 
 returns-4 : tie.Need-returns-4
 unfolding memoryBy actsAtomic valueBy
 returns-4 c =
-    let other = ne-eqb _ _ (c .before .before .if2 .left) in
+    let c2 = c .before .before in let c4 = c2 .before .before in
+    let other = ne-eqb _ _ (c2 .if2 .left) in
     let last = ne-eqb _ _ (c .if3 .left) in
-    (simp (other, last), simp (ne-eqb _ _ (c .before .before .before .before .if1 .left), other, last))
+    (simp (other, last), simp (ne-eqb _ _ (c4 .if1 .left), other, last))
 
 pub change-spec : {M : Type 1} → statement M
 change-spec =

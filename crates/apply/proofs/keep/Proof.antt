@@ -9,7 +9,9 @@ save-requires : tie.Need-save-requires
 save-requires c κs = search needs
 
 returns : tie.Need-returns
-returns c = simp (← c .before .before .before .acts-atomic .ensures, c .before .before .if1 .taken, ← c .save .ensures)
+returns c =
+    let c2 = c .before .before in let c3 = c2 .before in
+    simp (← c3 .acts-atomic .ensures, c2 .if1 .taken, ← c .save .ensures)
 
 returns-2 : tie.Need-returns-2
 returns-2 c = simp (← c .before .acts-atomic .ensures, c .if1 .left)

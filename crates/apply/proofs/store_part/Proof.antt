@@ -38,9 +38,9 @@ same-length c = search needs
 
 returns : tie.Need-returns
 returns c =
-    let c5 = c .before .before .before .before .before in
-    let A = c5 .before .before .before .before .args in
-    c .before .before .store .ensures ∙ ap (store (A .mem .now) (A .at)) (part-cut (A .packet .now) (A .start) (A .size) _ _ (c5 .before .min .ensures) (c5 .min2 .ensures))
+    let c2 = c .before .before in let c5 = c2 .before .before .before in let c6 = c5 .before in
+    let A = c6 .before .before .before .args in
+    c2 .store .ensures ∙ ap (store (A .mem .now) (A .at)) (part-cut (A .packet .now) (A .start) (A .size) _ _ (c6 .min .ensures) (c5 .min2 .ensures))
 
 pub store-part-spec : {M : Type 1} → statement M
 store-part-spec =

@@ -7,7 +7,10 @@ refusal-requires : tie.Need-refusal-requires
 refusal-requires c κs = search needs
 
 returns : tie.Need-returns
-returns c = refused (c .before .before .before .before .args .connection) (c .before .before .before .before .args .request) (c .before .before .before .before .args .message .now) (c .before .before .before .before .args .out .now) (c .before .before .before .before .args .first) (c .before .before .before .before .args .index) _ (c .before .refusal .ensures) (c .if1 .taken)
+returns c =
+    let c1 = c .before in
+    let A = c1 .before .before .before .args in
+    refused (A .connection) (A .request) (A .message .now) (A .out .now) (A .first) (A .index) _ (c1 .refusal .ensures) (c .if1 .taken)
 
 header-at-requires : tie.Need-header-at-requires
 header-at-requires c κs = search needs
@@ -19,13 +22,19 @@ part-requires : tie.Need-part-requires
 part-requires c κs = search needs
 
 sub-write : tie.Need-sub-write
-sub-write c = span-inside (c .before .before .before .before .before .before .before .args .request) _ _ _ _ _ (c .before .carried-length .ensures) (c .part .ensures) .0
+sub-write c =
+    let c1 = c .before in let c7 = c1 .before .before .before .before .before .before in
+    span-inside (c7 .args .request) _ _ _ _ _ (c1 .carried-length .ensures) (c .part .ensures) .0
 
 part-write-start : tie.Need-part-write-start
-part-write-start c = span-inside (c .before .before .before .before .before .before .before .args .request) _ _ _ _ _ (c .before .carried-length .ensures) (c .part .ensures) .0
+part-write-start c =
+    let c1 = c .before in let c7 = c1 .before .before .before .before .before .before in
+    span-inside (c7 .args .request) _ _ _ _ _ (c1 .carried-length .ensures) (c .part .ensures) .0
 
 part-write-end : tie.Need-part-write-end
-part-write-end c = span-inside (c .before .before .before .before .before .before .before .args .request) _ _ _ _ _ (c .before .carried-length .ensures) (c .part .ensures) .1
+part-write-end c =
+    let c1 = c .before in let c7 = c1 .before .before .before .before .before .before in
+    span-inside (c7 .args .request) _ _ _ _ _ (c1 .carried-length .ensures) (c .part .ensures) .1
 
 write-requires : tie.Need-write-requires
 write-requires c κs = search needs
@@ -34,7 +43,11 @@ same-length : tie.Need-same-length
 same-length c = search needs
 
 returns-2 : tie.Need-returns-2
-returns-2 c = whole (c .before .before .before .before .before .before .before .before .before .before .before .before .args .connection) (c .before .before .before .before .before .before .before .before .before .before .before .before .args .request) (c .before .before .before .before .before .before .before .before .before .before .before .before .args .message .now) (c .before .before .before .before .before .before .before .before .before .before .before .before .args .out .now) (c .before .before .before .before .before .before .before .before .before .before .before .before .args .first) (c .before .before .before .before .before .before .before .before .before .before .before .before .args .index) _ _ _ _ _ _ (c .before .before .before .before .before .before .before .before .before .refusal .ensures) (c .before .before .before .before .before .before .before .before .if1 .left) (c .before .before .before .before .before .before .before .header-at .ensures) (c .before .before .before .before .before .before .carried-length .ensures) (c .before .before .before .before .before .part .ensures) (c .before .before .write .ensures .0) (c .before .before .write .ensures .1)
+returns-2 c =
+    let c2 = c .before .before in let c5 = c2 .before .before .before in let c6 = c5 .before in let c7 = c6 .before in
+    let c8 = c7 .before in let c9 = c8 .before in
+    let A = c9 .before .before .before .args in
+    whole (A .connection) (A .request) (A .message .now) (A .out .now) (A .first) (A .index) _ _ _ _ _ _ (c9 .refusal .ensures) (c8 .if1 .left) (c7 .header-at .ensures) (c6 .carried-length .ensures) (c5 .part .ensures) (c2 .write .ensures .0) (c2 .write .ensures .1)
 
 pub cut-spec : {M : Type 1} → statement M
 cut-spec =

@@ -18,20 +18,25 @@ length-refusal-requires c κs = search needs
 
 returns-2 : tie.Need-returns-2
 unfolding nextAnswer nextRefusal followingBy nextPsn psnsOf
-returns-2 c = simp (lt-leb _ _ (c .before .before .before .if1 .left), lt-ltb _ _ (c .before .before .before .if1 .left), ← c .before .before .message-length .ensures, ← c .before .length-refusal .ensures, ne-eqb _ _ (c .if2 .taken))
+returns-2 c =
+    let c1 = c .before in let c2 = c1 .before in let c3 = c2 .before in
+    simp (lt-leb _ _ (c3 .if1 .left), lt-ltb _ _ (c3 .if1 .left), ← c2 .message-length .ensures, ← c1 .length-refusal .ensures, ne-eqb _ _ (c .if2 .taken))
 
 count-requires : tie.Need-count-requires
 count-requires c κs = search needs
 
 cast-after : tie.Need-cast-after
-cast-after c = omega (arith, count-passed _ (c .before .before .before .before .before .before .args .pmtu) _ _ (c .before .before .length-refusal .ensures) (c .before .if2 .left) (c .count .ensures))
+cast-after c =
+    omega (arith, let c1 = c .before in let c2 = c1 .before in let c6 = c2 .before .before .before .before in count-passed _ (c6 .args .pmtu) _ _ (c2 .length-refusal .ensures) (c1 .if2 .left) (c .count .ensures))
 
 after-requires : tie.Need-after-requires
 after-requires c κs = search needs
 
 returns-3 : tie.Need-returns-3
 unfolding nextAnswer nextRefusal followingBy nextPsn psnsOf
-returns-3 c = simp (lt-leb _ _ (c .before .before .before .before .before .if1 .left), lt-ltb _ _ (c .before .before .before .before .before .if1 .left), ← c .before .before .before .before .message-length .ensures, ← c .before .before .before .length-refusal .ensures, eq-eqb _ _ (c .before .before .if2 .left), ← c .before .count .ensures, ← c .after .ensures)
+returns-3 c =
+    let c1 = c .before in let c2 = c1 .before in let c3 = c2 .before in let c4 = c3 .before in let c5 = c4 .before in
+    simp (lt-leb _ _ (c5 .if1 .left), lt-ltb _ _ (c5 .if1 .left), ← c4 .message-length .ensures, ← c3 .length-refusal .ensures, eq-eqb _ _ (c2 .if2 .left), ← c1 .count .ensures, ← c .after .ensures)
 
 pub next-psn-spec : {M : Type 1} → statement M
 next-psn-spec =

@@ -23,7 +23,9 @@ count-requires c κs = search needs
 
 returns-2 : tie.Need-returns-2
 unfolding packetsAnswer packetsOf answerBy
-returns-2 c = simp (← c .before .before .before .before .message-length .ensures, ← c .before .before .before .length-refusal .ensures, eq-eqb _ _ (c .before .before .if1 .left), ← c .before .carried-length .ensures, ← c .count .ensures)
+returns-2 c =
+    let c1 = c .before in let c2 = c1 .before in let c3 = c2 .before in let c4 = c3 .before in
+    simp (← c4 .message-length .ensures, ← c3 .length-refusal .ensures, eq-eqb _ _ (c2 .if1 .left), ← c1 .carried-length .ensures, ← c .count .ensures)
 
 pub packets-spec : {M : Type 1} → statement M
 packets-spec =

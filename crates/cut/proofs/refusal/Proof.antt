@@ -20,7 +20,9 @@ message-length-requires c κs = search needs
 
 returns-2 : tie.Need-returns-2
 unfolding cutRefusal packetsOf
-returns-2 c = simp (← c .before .before .before .before .carries .ensures, ← c .before .before .before .unfit .ensures, c .before .before .if1 .left, ← c .before .message-length .ensures, lt-leb _ _ (c .if2 .taken), lt-ltb _ _ (c .if2 .taken))
+returns-2 c =
+    let c1 = c .before in let c2 = c1 .before in let c3 = c2 .before in let c4 = c3 .before in
+    simp (← c4 .carries .ensures, ← c3 .unfit .ensures, c2 .if1 .left, ← c1 .message-length .ensures, lt-leb _ _ (c .if2 .taken), lt-ltb _ _ (c .if2 .taken))
 
 carried-length-requires : tie.Need-carried-length-requires
 carried-length-requires c κs = search needs
@@ -30,11 +32,17 @@ count-requires c κs = search needs
 
 returns-3 : tie.Need-returns-3
 unfolding cutRefusal packetsOf
-returns-3 c = simp (← c .before .before .before .before .before .before .before .carries .ensures, ← c .before .before .before .before .before .before .unfit .ensures, c .before .before .before .before .before .if1 .left, ← c .before .before .before .before .message-length .ensures, le-ltb _ _ (c .before .before .before .if2 .left), le-leb _ _ (c .before .before .before .if2 .left), ← c .before .before .carried-length .ensures, ← c .before .count .ensures, le-ltb _ _ (c .if3 .taken), le-leb _ _ (c .if3 .taken))
+returns-3 c =
+    let c1 = c .before in let c2 = c1 .before in let c3 = c2 .before in let c4 = c3 .before in let c5 = c4 .before in
+    let c6 = c5 .before in let c7 = c6 .before in
+    simp (← c7 .carries .ensures, ← c6 .unfit .ensures, c5 .if1 .left, ← c4 .message-length .ensures, le-ltb _ _ (c3 .if2 .left), le-leb _ _ (c3 .if2 .left), ← c2 .carried-length .ensures, ← c1 .count .ensures, le-ltb _ _ (c .if3 .taken), le-leb _ _ (c .if3 .taken))
 
 returns-4 : tie.Need-returns-4
 unfolding cutRefusal packetsOf
-returns-4 c = simp (← c .before .before .before .before .before .before .before .carries .ensures, ← c .before .before .before .before .before .before .unfit .ensures, c .before .before .before .before .before .if1 .left, ← c .before .before .before .before .message-length .ensures, le-ltb _ _ (c .before .before .before .if2 .left), le-leb _ _ (c .before .before .before .if2 .left), ← c .before .before .carried-length .ensures, ← c .before .count .ensures, lt-leb _ _ (c .if3 .left), lt-ltb _ _ (c .if3 .left))
+returns-4 c =
+    let c1 = c .before in let c2 = c1 .before in let c3 = c2 .before in let c4 = c3 .before in let c5 = c4 .before in
+    let c6 = c5 .before in let c7 = c6 .before in
+    simp (← c7 .carries .ensures, ← c6 .unfit .ensures, c5 .if1 .left, ← c4 .message-length .ensures, le-ltb _ _ (c3 .if2 .left), le-leb _ _ (c3 .if2 .left), ← c2 .carried-length .ensures, ← c1 .count .ensures, lt-leb _ _ (c .if3 .left), lt-ltb _ _ (c .if3 .left))
 
 pub refusal-spec : {M : Type 1} → statement M
 refusal-spec =

@@ -17,21 +17,32 @@ other-service-requires c κs = search needs
 
 returns-2 : tie.Need-returns-2
 unfolding cutUnfit
-returns-2 c = simp (← c .before .before .before .pmtu-unfit .ensures, c .before .before .if1 .left, ← c .before .other-service .ensures, c .if2 .taken)
+returns-2 c =
+    let c1 = c .before in let c2 = c1 .before in let c3 = c2 .before in
+    simp (← c3 .pmtu-unfit .ensures, c2 .if1 .left, ← c1 .other-service .ensures, c .if2 .taken)
 
 returns-3 : tie.Need-returns-3
 unfolding cutUnfit
-returns-3 c = simp (← c .before .before .before .before .before .pmtu-unfit .ensures, c .before .before .before .before .if1 .left, ← c .before .before .before .other-service .ensures, c .before .before .if2 .left, le-ltb _ _ (c .if3 .taken), le-leb _ _ (c .if3 .taken))
+returns-3 c =
+    let c2 = c .before .before in let c3 = c2 .before in let c4 = c3 .before in let c5 = c4 .before in
+    simp (← c5 .pmtu-unfit .ensures, c4 .if1 .left, ← c3 .other-service .ensures, c2 .if2 .left, le-ltb _ _ (c .if3 .taken), le-leb _ _ (c .if3 .taken))
 
 returns-4 : tie.Need-returns-4
 unfolding cutUnfit
-returns-4 c = simp (← c .before .before .before .before .before .before .before .pmtu-unfit .ensures, c .before .before .before .before .before .before .if1 .left, ← c .before .before .before .before .before .other-service .ensures, c .before .before .before .before .if2 .left, lt-leb _ _ (c .before .before .if3 .left), lt-ltb _ _ (c .before .before .if3 .left), le-ltb _ _ (c .if4 .taken), le-leb _ _ (c .if4 .taken))
+returns-4 c =
+    let c2 = c .before .before in let c4 = c2 .before .before in let c5 = c4 .before in let c6 = c5 .before in
+    let c7 = c6 .before in
+    simp (← c7 .pmtu-unfit .ensures, c6 .if1 .left, ← c5 .other-service .ensures, c4 .if2 .left, lt-leb _ _ (c2 .if3 .left), lt-ltb _ _ (c2 .if3 .left), le-ltb _ _ (c .if4 .taken), le-leb _ _ (c .if4 .taken))
 
 unserved-requires : tie.Need-unserved-requires
 unserved-requires c κs = search needs
 
 returns-5 : tie.Need-returns-5
-returns-5 c = unfit-last (c .before .before .before .before .before .before .before .before .before .args .connection) (c .before .before .before .before .before .before .before .before .before .args .carrying) (c .before .before .before .before .before .before .before .before .before .args .first .0) _ _ _ (c .before .before .before .before .before .before .before .before .pmtu-unfit .ensures) (c .before .before .before .before .before .before .before .if1 .left) (c .before .before .before .before .before .before .other-service .ensures) (c .before .before .before .before .before .if2 .left) (c .before .before .before .if3 .left) (c .before .if4 .left) (c .unserved .ensures)
+returns-5 c =
+    let c1 = c .before in let c3 = c1 .before .before in let c5 = c3 .before .before in let c6 = c5 .before in
+    let c7 = c6 .before in let c8 = c7 .before in
+    let A = c8 .before .args in
+    unfit-last (A .connection) (A .carrying) (A .first .0) _ _ _ (c8 .pmtu-unfit .ensures) (c7 .if1 .left) (c6 .other-service .ensures) (c5 .if2 .left) (c3 .if3 .left) (c1 .if4 .left) (c .unserved .ensures)
 
 pub unfit-spec : {M : Type 1} → statement M
 unfit-spec =

@@ -24,7 +24,9 @@ no-reply-requires : tie.Need-no-reply-requires
 no-reply-requires c κs = search needs
 
 returns : tie.Need-returns
-returns c = simp (← c .before .before .before .unformed .ensures, c .before .if1 .taken, ← c .no-reply .ensures)
+returns c =
+    let c1 = c .before in let c3 = c1 .before .before in
+    simp (← c3 .unformed .ensures, c1 .if1 .taken, ← c .no-reply .ensures)
 
 class-of-requires : tie.Need-class-of-requires
 class-of-requires c κs = search needs
@@ -49,30 +51,30 @@ answer-requires c κs = search needs
 
 returns-2 : tie.Need-returns-2
 returns-2 c =
-    let c3 = c .before .before .before in
-    let c4 = c3 .before in
-    let A = c4 .before .before .before .args in
-    let class = sym (c3 .class-of .ensures) ∙ c .before .enum-told .given .1 in
-    simp (← c4 .before .before .unformed .ensures, c4 .if1 .left)
-    (formed _ _ _ _ (c .decision .ensures) (sym (c4 .before .before .unformed .ensures) ∙ c4 .if1 .left) ∙ expected (A .pair) (A .regions .now) (A .entries .now) (A .saved .now) (A .p) (c4 .before .unreliable .result) (c4 .before .unreliable .ensures) class)
+    let c1 = c .before in let c3 = c1 .before .before in let c4 = c3 .before in let c5 = c4 .before in
+    let c6 = c5 .before in
+    let A = c6 .before .args in
+    let class = sym (c3 .class-of .ensures) ∙ c1 .enum-told .given .1 in
+    simp (← c6 .unformed .ensures, c4 .if1 .left)
+    (formed _ _ _ _ (c .decision .ensures) (sym (c6 .unformed .ensures) ∙ c4 .if1 .left) ∙ expected (A .pair) (A .regions .now) (A .entries .now) (A .saved .now) (A .p) (c5 .unreliable .result) (c5 .unreliable .ensures) class)
 
 returns-3 : tie.Need-returns-3
 returns-3 c =
-    let c3 = c .before .before .before in
-    let c4 = c3 .before in
-    let A = c4 .before .before .before .args in
-    let class = sym (c3 .class-of .ensures) ∙ c .before .enum-told2 .given .1 in
-    simp (← c4 .before .before .unformed .ensures, c4 .if1 .left)
-    (c .ahead .ensures ∙ ahead (A .pair) (A .regions .now) (A .entries .now) (A .saved .now) (A .p) (c4 .before .unreliable .result) (c4 .before .unreliable .ensures) class)
+    let c1 = c .before in let c3 = c1 .before .before in let c4 = c3 .before in let c5 = c4 .before in
+    let c6 = c5 .before in
+    let A = c6 .before .args in
+    let class = sym (c3 .class-of .ensures) ∙ c1 .enum-told2 .given .1 in
+    simp (← c6 .unformed .ensures, c4 .if1 .left)
+    (c .ahead .ensures ∙ ahead (A .pair) (A .regions .now) (A .entries .now) (A .saved .now) (A .p) (c5 .unreliable .result) (c5 .unreliable .ensures) class)
 
 returns-4 : tie.Need-returns-4
 returns-4 c =
-    let c3 = c .before .before .before in
-    let c4 = c3 .before in
-    let A = c4 .before .before .before .args in
-    let class = sym (c3 .class-of .ensures) ∙ c .before .enum-told3 .given .1 in
-    simp (← c4 .before .before .unformed .ensures, c4 .if1 .left)
-    (formed _ _ _ _ (c .answer .ensures) (whole (A .p) (A .pair .setup .timer) (c4 .before .before .unformed .result) (c4 .before .before .unformed .ensures) (c4 .if1 .left)) ∙ duplicate (A .pair) (A .regions .now) (A .entries .now) (A .saved .now) (A .p) (c4 .before .unreliable .result) (c4 .before .unreliable .ensures) class)
+    let c1 = c .before in let c3 = c1 .before .before in let c4 = c3 .before in let c5 = c4 .before in
+    let c6 = c5 .before in
+    let A = c6 .before .args in
+    let class = sym (c3 .class-of .ensures) ∙ c1 .enum-told3 .given .1 in
+    simp (← c6 .unformed .ensures, c4 .if1 .left)
+    (formed _ _ _ _ (c .answer .ensures) (whole (A .p) (A .pair .setup .timer) (c6 .unformed .result) (c6 .unformed .ensures) (c4 .if1 .left)) ∙ duplicate (A .pair) (A .regions .now) (A .entries .now) (A .saved .now) (A .p) (c5 .unreliable .result) (c5 .unreliable .ensures) class)
 
 pub decision-spec : {M : Type 1} → statement M
 decision-spec =

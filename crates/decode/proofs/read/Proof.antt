@@ -18,28 +18,39 @@ read-bth-requires c κs = whole _ (sym (c .before .bad-length .ensures) ∙ c .i
 
 returns-2 : tie.Need-returns-2
 unfolding readHeader readBy readReason headerOf
-returns-2 c = simp (← c .before .before .before .before .bad-length .ensures, c .before .before .before .if1 .left, ← c .before .before .read-bth .ensures, ne-eqb _ _ (c .if2 .taken))
+returns-2 c =
+    let c2 = c .before .before in let c3 = c2 .before in let c4 = c3 .before in
+    simp (← c4 .bad-length .ensures, c3 .if1 .left, ← c2 .read-bth .ensures, ne-eqb _ _ (c .if2 .taken))
 
 other-service-requires : tie.Need-other-service-requires
 other-service-requires c κs = search needs
 
 returns-3 : tie.Need-returns-3
 unfolding readHeader readBy readReason headerOf
-returns-3 c = simp (← c .before .before .before .before .before .before .before .bad-length .ensures, c .before .before .before .before .before .before .if1 .left, ← c .before .before .before .before .before .read-bth .ensures, eq-eqb _ _ (c .before .before .before .if2 .left), ← c .before .other-service .ensures, c .if3 .taken)
+returns-3 c =
+    let c1 = c .before in let c3 = c1 .before .before in let c5 = c3 .before .before in let c6 = c5 .before in
+    let c7 = c6 .before in
+    simp (← c7 .bad-length .ensures, c6 .if1 .left, ← c5 .read-bth .ensures, eq-eqb _ _ (c3 .if2 .left), ← c1 .other-service .ensures, c .if3 .taken)
 
 class-requires : tie.Need-class-requires
 class-requires c κs = search needs
 
 returns-4 : tie.Need-returns-4
 unfolding readHeader readBy readReason headerOf
-returns-4 c = simp (← c .before .before .before .before .before .before .before .before .before .before .bad-length .ensures, c .before .before .before .before .before .before .before .before .before .if1 .left, ← c .before .before .before .before .before .before .before .before .read-bth .ensures, eq-eqb _ _ (c .before .before .before .before .before .before .if2 .left), ← c .before .before .before .before .other-service .ensures, c .before .before .before .if3 .left, ← c .before .before .class .ensures, lt-leb _ _ (c .if4 .taken), lt-ltb _ _ (c .if4 .taken))
+returns-4 c =
+    let c2 = c .before .before in let c3 = c2 .before in let c4 = c3 .before in let c6 = c4 .before .before in
+    let c8 = c6 .before .before in let c9 = c8 .before in let c10 = c9 .before in
+    simp (← c10 .bad-length .ensures, c9 .if1 .left, ← c8 .read-bth .ensures, eq-eqb _ _ (c6 .if2 .left), ← c4 .other-service .ensures, c3 .if3 .left, ← c2 .class .ensures, lt-leb _ _ (c .if4 .taken), lt-ltb _ _ (c .if4 .taken))
 
 read-extension-requires : tie.Need-read-extension-requires
 read-extension-requires c κs = room-of-class (c .before .before .class .result) _ _ (c .before .before .class .ensures) (c .if4 .left)
 
 returns-5 : tie.Need-returns-5
 unfolding readHeader readBy readReason headerOf
-returns-5 c = simp (← c .before .before .before .before .before .before .before .before .before .before .before .bad-length .ensures, c .before .before .before .before .before .before .before .before .before .before .if1 .left, ← c .before .before .before .before .before .before .before .before .before .read-bth .ensures, eq-eqb _ _ (c .before .before .before .before .before .before .before .if2 .left), ← c .before .before .before .before .before .other-service .ensures, c .before .before .before .before .if3 .left, ← c .before .before .before .class .ensures, le-ltb _ _ (c .before .if4 .left), le-leb _ _ (c .before .if4 .left), ← c .read-extension .ensures)
+returns-5 c =
+    let c1 = c .before in let c3 = c1 .before .before in let c4 = c3 .before in let c5 = c4 .before in
+    let c7 = c5 .before .before in let c9 = c7 .before .before in let c10 = c9 .before in let c11 = c10 .before in
+    simp (← c11 .bad-length .ensures, c10 .if1 .left, ← c9 .read-bth .ensures, eq-eqb _ _ (c7 .if2 .left), ← c5 .other-service .ensures, c4 .if3 .left, ← c3 .class .ensures, le-ltb _ _ (c1 .if4 .left), le-leb _ _ (c1 .if4 .left), ← c .read-extension .ensures)
 
 pub read-spec : {M : Type 1} → statement M
 read-spec =

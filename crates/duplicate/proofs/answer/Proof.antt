@@ -35,14 +35,21 @@ acknowledging-requires c κs = search needs
 
 returns-2 : tie.Need-returns-2
 unfolding duplicateDecision
-returns-2 c = simp (← c .before .before .before .before .before .fragment .ensures, c .before .before .before .before .if1 .left, ← c .before .before .before .carrying .ensures, c .before .before .if2 .taken, ← c .before .psn-before .ensures, ← c .acknowledging .ensures)
+returns-2 c =
+    let c1 = c .before in let c2 = c1 .before in let c3 = c2 .before in let c4 = c3 .before in let c5 = c4 .before in
+    simp (← c5 .fragment .ensures, c4 .if1 .left, ← c3 .carrying .ensures, c2 .if2 .taken, ← c1 .psn-before .ensures, ← c .acknowledging .ensures)
 
 read-requires : tie.Need-read-requires
-read-requires c κs = (sym (c .before .before .before .before .before .fragment .ensures) ∙ c .before .before .before .before .if1 .left, c .if3 .taken)
+read-requires c κs =
+    let c4 = c .before .before .before .before in let c5 = c4 .before in
+    (sym (c5 .fragment .ensures) ∙ c4 .if1 .left, c .if3 .taken)
 
 returns-3 : tie.Need-returns-3
 unfolding duplicateDecision
-returns-3 c = simp (← c .before .before .before .before .before .before .fragment .ensures, c .before .before .before .before .before .if1 .left, ← c .before .before .before .before .carrying .ensures, c .before .before .before .if2 .left, eq-eqb _ _ (c .before .if3 .taken), ← c .read .ensures)
+returns-3 c =
+    let c1 = c .before in let c3 = c1 .before .before in let c4 = c3 .before in let c5 = c4 .before in
+    let c6 = c5 .before in
+    simp (← c6 .fragment .ensures, c5 .if1 .left, ← c4 .carrying .ensures, c3 .if2 .left, eq-eqb _ _ (c1 .if3 .taken), ← c .read .ensures)
 
 is-atomic-requires : tie.Need-is-atomic-requires
 is-atomic-requires c κs = search needs
@@ -55,14 +62,20 @@ duplicate-atomic-requires c κs = search needs
 
 returns-4 : tie.Need-returns-4
 unfolding duplicateDecision
-returns-4 c = simp (← c .before .before .before .before .before .before .before .before .before .before .fragment .ensures, c .before .before .before .before .before .before .before .before .before .if1 .left, ← c .before .before .before .before .before .before .before .before .carrying .ensures, c .before .before .before .before .before .before .before .if2 .left, ne-eqb _ _ (c .before .before .before .before .before .if3 .left), ← c .before .before .before .before .is-atomic .ensures, c .before .before .before .if4 .taken, ← c .before .newest .ensures, ← c .duplicate-atomic .ensures)
+returns-4 c =
+    let c1 = c .before in let c3 = c1 .before .before in let c4 = c3 .before in let c5 = c4 .before in
+    let c7 = c5 .before .before in let c8 = c7 .before in let c9 = c8 .before in let c10 = c9 .before in
+    simp (← c10 .fragment .ensures, c9 .if1 .left, ← c8 .carrying .ensures, c7 .if2 .left, ne-eqb _ _ (c5 .if3 .left), ← c4 .is-atomic .ensures, c3 .if4 .taken, ← c1 .newest .ensures, ← c .duplicate-atomic .ensures)
 
 no-reply-requires-2 : tie.Need-no-reply-requires-2
 no-reply-requires-2 c κs = search needs
 
 returns-5 : tie.Need-returns-5
 unfolding duplicateDecision
-returns-5 c = simp (← c .before .before .before .before .before .before .before .before .fragment .ensures, c .before .before .before .before .before .before .before .if1 .left, ← c .before .before .before .before .before .before .carrying .ensures, c .before .before .before .before .before .if2 .left, ne-eqb _ _ (c .before .before .before .if3 .left), ← c .before .before .is-atomic .ensures, c .before .if4 .left, ← c .no-reply2 .ensures)
+returns-5 c =
+    let c1 = c .before in let c2 = c1 .before in let c3 = c2 .before in let c5 = c3 .before .before in
+    let c6 = c5 .before in let c7 = c6 .before in let c8 = c7 .before in
+    simp (← c8 .fragment .ensures, c7 .if1 .left, ← c6 .carrying .ensures, c5 .if2 .left, ne-eqb _ _ (c3 .if3 .left), ← c2 .is-atomic .ensures, c1 .if4 .left, ← c .no-reply2 .ensures)
 
 pub answer-spec : {M : Type 1} → statement M
 answer-spec =

@@ -38,12 +38,13 @@ begin-read-requires c κs = search needs
 returns-2 : tie.Need-returns-2
 unfolding duplicateRead
 returns-2 c =
-    let c5 = c .before .before .before .before .before in
-    let A = c5 .before .args in
-    let memory : A .s .memory < 2 ^ 64 = omega (arith, c5 .before .good .1 .0) in
-    let at = c .before .before .before .memory-offset .ensures
-    ∙ answered-offset (A .p) (A .s) (A .m) (A .expected) (A .region) (c5 .duplicate-read-fails .result) (c5 .duplicate-read-fails .ensures) (c .before .before .before .before .if1 .left) memory (c5 .before .pre) in
-    simp (← c5 .duplicate-read-fails .ensures, c .before .before .before .before .if1 .left, ← at, ← c .before .before .count .ensures, ← c .before .no-message .ensures, ← c .begin-read .ensures)
+    let A = c .before .before .before .before .before .before .args in
+    let memory : A .s .memory < 2 ^ 64 = omega (arith, c .before .before .before .before .before .before .good .1 .0) in
+    let c1 = c .before in let c2 = c1 .before in let c3 = c2 .before in let c4 = c3 .before in let c5 = c4 .before in
+    let c6 = c5 .before in
+    let at = c3 .memory-offset .ensures
+    ∙ answered-offset (A .p) (A .s) (A .m) (A .expected) (A .region) (c5 .duplicate-read-fails .result) (c5 .duplicate-read-fails .ensures) (c4 .if1 .left) memory (c6 .pre) in
+    simp (← c5 .duplicate-read-fails .ensures, c4 .if1 .left, ← at, ← c2 .count .ensures, ← c1 .no-message .ensures, ← c .begin-read .ensures)
 
 pub duplicate-read-spec : {M : Type 1} → statement M
 duplicate-read-spec =

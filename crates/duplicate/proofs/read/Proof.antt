@@ -17,15 +17,15 @@ region-of-requires c κs = search needs
 
 duplicate-read-requires : tie.Need-duplicate-read-requires
 duplicate-read-requires c κs =
-    let c2 = c .before .before in
-    let S = c2 .before .before in
-    subst (λ x. x .stored ≡ 0) (sym (c2 .current .ensures)) (begun (S .args .pair .message) (S .args .p) (S .pre .0) (S .pre .1))
+    let S = c .before .before .before .before in
+    subst (λ x. x .stored ≡ 0) (sym (c .before .before .current .ensures)) (begun (S .args .pair .message) (S .args .p) (S .pre .0) (S .pre .1))
 
 returns : tie.Need-returns
 unfolding regionFor
 returns c =
+    let c2 = c .before .before in let c3 = c2 .before in
     let S = c .before .before .before .before .before in
-    simp (ap (λ k. eqb k 0) (S .pre .1), ← c .before .before .before .current .ensures, ← c .before .before .region-of .ensures, ← c .duplicate-read .ensures)
+    simp (ap (λ k. eqb k 0) (S .pre .1), ← c3 .current .ensures, ← c2 .region-of .ensures, ← c .duplicate-read .ensures)
 
 pub read-spec : {M : Type 1} → statement M
 read-spec =

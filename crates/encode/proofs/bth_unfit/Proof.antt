@@ -20,31 +20,53 @@ returns-2 : tie.Need-returns-2
 unfolding bthFits
 returns-2 c =
     let A = c .before .before .before .before .before .args in
-    simp (lt-ltb (A .b .opcode) (2 ^ 8) (omega arith), lt-ltb (A .b .pkey) (2 ^ 16) (omega arith), lt-ltb (A .b .reserved8) (2 ^ 8) (omega arith), ← c .before .before .before .other-service .ensures, c .before .before .if1 .left, le-ltb _ _ (c .if2 .taken), le-leb _ _ (c .if2 .taken))
+    let opcode = lt-ltb (A .b .opcode) (2 ^ 8) (omega arith) in
+    let pkey = lt-ltb (A .b .pkey) (2 ^ 16) (omega arith) in
+    let reserved8 = lt-ltb (A .b .reserved8) (2 ^ 8) (omega arith) in
+    let c2 = c .before .before in let c3 = c2 .before in
+    simp (opcode, pkey, reserved8, ← c3 .other-service .ensures, c2 .if1 .left, le-ltb _ _ (c .if2 .taken), le-leb _ _ (c .if2 .taken))
 
 returns-3 : tie.Need-returns-3
 unfolding bthFits
 returns-3 c =
     let A = c .before .before .before .before .before .before .before .args in
-    simp (lt-ltb (A .b .opcode) (2 ^ 8) (omega arith), lt-ltb (A .b .pkey) (2 ^ 16) (omega arith), lt-ltb (A .b .reserved8) (2 ^ 8) (omega arith), ← c .before .before .before .before .before .other-service .ensures, c .before .before .before .before .if1 .left, lt-leb _ _ (c .before .before .if2 .left), lt-ltb _ _ (c .before .before .if2 .left), ne-eqb _ _ (c .if3 .taken))
+    let opcode = lt-ltb (A .b .opcode) (2 ^ 8) (omega arith) in
+    let pkey = lt-ltb (A .b .pkey) (2 ^ 16) (omega arith) in
+    let reserved8 = lt-ltb (A .b .reserved8) (2 ^ 8) (omega arith) in
+    let c2 = c .before .before in let c4 = c2 .before .before in let c5 = c4 .before in
+    simp (opcode, pkey, reserved8, ← c5 .other-service .ensures, c4 .if1 .left, lt-leb _ _ (c2 .if2 .left), lt-ltb _ _ (c2 .if2 .left), ne-eqb _ _ (c .if3 .taken))
 
 returns-4 : tie.Need-returns-4
 unfolding bthFits
 returns-4 c =
     let A = c .before .before .before .before .before .before .before .before .before .args in
-    simp (lt-ltb (A .b .opcode) (2 ^ 8) (omega arith), lt-ltb (A .b .pkey) (2 ^ 16) (omega arith), lt-ltb (A .b .reserved8) (2 ^ 8) (omega arith), ← c .before .before .before .before .before .before .before .other-service .ensures, c .before .before .before .before .before .before .if1 .left, lt-leb _ _ (c .before .before .before .before .if2 .left), lt-ltb _ _ (c .before .before .before .before .if2 .left), eq-eqb _ _ (c .before .before .if3 .left), le-ltb _ _ (c .if4 .taken), le-leb _ _ (c .if4 .taken))
+    let opcode = lt-ltb (A .b .opcode) (2 ^ 8) (omega arith) in
+    let pkey = lt-ltb (A .b .pkey) (2 ^ 16) (omega arith) in
+    let reserved8 = lt-ltb (A .b .reserved8) (2 ^ 8) (omega arith) in
+    let c2 = c .before .before in let c4 = c2 .before .before in let c6 = c4 .before .before in let c7 = c6 .before in
+    simp (opcode, pkey, reserved8, ← c7 .other-service .ensures, c6 .if1 .left, lt-leb _ _ (c4 .if2 .left), lt-ltb _ _ (c4 .if2 .left), eq-eqb _ _ (c2 .if3 .left), le-ltb _ _ (c .if4 .taken), le-leb _ _ (c .if4 .taken))
 
 returns-5 : tie.Need-returns-5
 unfolding bthFits
 returns-5 c =
     let A = c .before .before .before .before .before .before .before .before .before .before .before .args in
-    simp (lt-ltb (A .b .opcode) (2 ^ 8) (omega arith), lt-ltb (A .b .pkey) (2 ^ 16) (omega arith), lt-ltb (A .b .reserved8) (2 ^ 8) (omega arith), ← c .before .before .before .before .before .before .before .before .before .other-service .ensures, c .before .before .before .before .before .before .before .before .if1 .left, lt-leb _ _ (c .before .before .before .before .before .before .if2 .left), lt-ltb _ _ (c .before .before .before .before .before .before .if2 .left), eq-eqb _ _ (c .before .before .before .before .if3 .left), lt-leb _ _ (c .before .before .if4 .left), lt-ltb _ _ (c .before .before .if4 .left), le-ltb _ _ (c .if5 .taken), le-leb _ _ (c .if5 .taken))
+    let opcode = lt-ltb (A .b .opcode) (2 ^ 8) (omega arith) in
+    let pkey = lt-ltb (A .b .pkey) (2 ^ 16) (omega arith) in
+    let reserved8 = lt-ltb (A .b .reserved8) (2 ^ 8) (omega arith) in
+    let c2 = c .before .before in let c4 = c2 .before .before in let c6 = c4 .before .before in
+    let c8 = c6 .before .before in let c9 = c8 .before in
+    simp (opcode, pkey, reserved8, ← c9 .other-service .ensures, c8 .if1 .left, lt-leb _ _ (c6 .if2 .left), lt-ltb _ _ (c6 .if2 .left), eq-eqb _ _ (c4 .if3 .left), lt-leb _ _ (c2 .if4 .left), lt-ltb _ _ (c2 .if4 .left), le-ltb _ _ (c .if5 .taken), le-leb _ _ (c .if5 .taken))
 
 returns-6 : tie.Need-returns-6
 unfolding bthFits
 returns-6 c =
     let A = c .before .before .before .before .before .before .before .before .before .before .before .before .before .args in
-    simp (lt-ltb (A .b .opcode) (2 ^ 8) (omega arith), lt-ltb (A .b .pkey) (2 ^ 16) (omega arith), lt-ltb (A .b .reserved8) (2 ^ 8) (omega arith), ← c .before .before .before .before .before .before .before .before .before .before .before .other-service .ensures, c .before .before .before .before .before .before .before .before .before .before .if1 .left, lt-leb _ _ (c .before .before .before .before .before .before .before .before .if2 .left), lt-ltb _ _ (c .before .before .before .before .before .before .before .before .if2 .left), eq-eqb _ _ (c .before .before .before .before .before .before .if3 .left), lt-leb _ _ (c .before .before .before .before .if4 .left), lt-ltb _ _ (c .before .before .before .before .if4 .left), lt-leb _ _ (c .before .before .if5 .left), lt-ltb _ _ (c .before .before .if5 .left), not-ltb (A .b .psn .0) (2 ^ 24))
+    let opcode = lt-ltb (A .b .opcode) (2 ^ 8) (omega arith) in
+    let pkey = lt-ltb (A .b .pkey) (2 ^ 16) (omega arith) in
+    let reserved8 = lt-ltb (A .b .reserved8) (2 ^ 8) (omega arith) in
+    let c2 = c .before .before in let c4 = c2 .before .before in let c6 = c4 .before .before in
+    let c8 = c6 .before .before in let c10 = c8 .before .before in let c11 = c10 .before in
+    simp (opcode, pkey, reserved8, ← c11 .other-service .ensures, c10 .if1 .left, lt-leb _ _ (c8 .if2 .left), lt-ltb _ _ (c8 .if2 .left), eq-eqb _ _ (c6 .if3 .left), lt-leb _ _ (c4 .if4 .left), lt-ltb _ _ (c4 .if4 .left), lt-leb _ _ (c2 .if5 .left), lt-ltb _ _ (c2 .if5 .left), not-ltb (A .b .psn .0) (2 ^ 24))
 
 pub bth-unfit-spec : {M : Type 1} → statement M
 bth-unfit-spec =

@@ -7,13 +7,17 @@ unfit-requires : tie.Need-unfit-requires
 unfit-requires c κs = search needs
 
 returns : tie.Need-returns
-returns c = by-fields (c .before .before .before .args .h) (c .before .before .before .args .out .now) _ (c .before .unfit .ensures) (c .if1 .taken)
+returns c =
+    let c1 = c .before in let c3 = c1 .before .before in
+    by-fields (c3 .args .h) (c3 .args .out .now) _ (c1 .unfit .ensures) (c .if1 .taken)
 
 class-requires : tie.Need-class-requires
 class-requires c κs = search needs
 
 returns-2 : tie.Need-returns-2
-returns-2 c = by-length (c .before .before .before .before .before .before .before .args .h) (c .before .before .before .before .before .before .before .args .out .now) _ (c .before .before .before .before .before .unfit .ensures) (c .before .before .before .before .if1 .left) _ (c .before .before .class .ensures) (c .if2 .taken)
+returns-2 c =
+    let c2 = c .before .before in let c4 = c2 .before .before in let c5 = c4 .before in let c7 = c5 .before .before in
+    by-length (c7 .args .h) (c7 .args .out .now) _ (c5 .unfit .ensures) (c4 .if1 .left) _ (c2 .class .ensures) (c .if2 .taken)
 
 bth-bytes-requires : tie.Need-bth-bytes-requires
 bth-bytes-requires c κs = search needs
@@ -25,13 +29,20 @@ store-requires : tie.Need-store-requires
 store-requires c κs = search needs
 
 write-extension-requires : tie.Need-write-extension-requires
-write-extension-requires c κs = room (c .before .before .before .before .before .before .before .before .before .before .before .before .before .before .args .h) (c .before .before .before .before .before .before .before .before .before .before .before .before .before .before .args .out .now) _ (c .before .before .before .before .before .before .before .before .before .before .before .before .unfit .ensures) (c .before .before .before .before .before .before .before .before .before .before .before .if1 .left) _ (c .before .before .before .before .before .before .before .before .before .class .ensures) _ _ (c .before .before .before .before .before .before .before .if2 .left) (c .before .before .before .store .ensures)
+write-extension-requires c κs =
+    let c3 = c .before .before .before in let c7 = c3 .before .before .before .before in let c9 = c7 .before .before in
+    let c11 = c9 .before .before in let c12 = c11 .before in let c14 = c12 .before .before in
+    room (c14 .args .h) (c14 .args .out .now) _ (c12 .unfit .ensures) (c11 .if1 .left) _ (c9 .class .ensures) _ _ (c7 .if2 .left) (c3 .store .ensures)
 
 same-length : tie.Need-same-length
 same-length c = search needs
 
 returns-3 : tie.Need-returns-3
-returns-3 c = whole (c .before .before .before .before .before .before .before .before .before .before .before .before .before .before .before .before .before .args .h) (c .before .before .before .before .before .before .before .before .before .before .before .before .before .before .before .before .before .args .out .now) _ (c .before .before .before .before .before .before .before .before .before .before .before .before .before .before .before .unfit .ensures) (c .before .before .before .before .before .before .before .before .before .before .before .before .before .before .if1 .left) _ (c .before .before .before .before .before .before .before .before .before .before .before .before .class .ensures) _ _ _ (c .before .before .before .before .before .before .before .before .before .before .if2 .left) (c .before .before .before .before .before .before .before .before .before .bth-bytes .ensures) (c .before .before .before .before .before .before .store .ensures) (c .before .before .write-extension .ensures)
+returns-3 c =
+    let c2 = c .before .before in let c6 = c2 .before .before .before .before in let c9 = c6 .before .before .before in
+    let c10 = c9 .before in let c12 = c10 .before .before in let c14 = c12 .before .before in let c15 = c14 .before in
+    let c17 = c15 .before .before in
+    whole (c17 .args .h) (c17 .args .out .now) _ (c15 .unfit .ensures) (c14 .if1 .left) _ (c12 .class .ensures) _ _ _ (c10 .if2 .left) (c9 .bth-bytes .ensures) (c6 .store .ensures) (c2 .write-extension .ensures)
 
 pub write-spec : {M : Type 1} → statement M
 write-spec =

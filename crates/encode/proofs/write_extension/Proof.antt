@@ -113,14 +113,18 @@ same-length c = search needs
 
 returns : tie.Need-returns
 unfolding extensionBytes
-returns c = simp (c .before .before .before .before .before .enum-told .given .1, ← c .before .before .store .ensures)
+returns c =
+    let c2 = c .before .before in let c5 = c2 .before .before .before in
+    simp (c5 .enum-told .given .1, ← c2 .store .ensures)
 
 same-length-2 : tie.Need-same-length-2
 same-length-2 c = search needs
 
 returns-2 : tie.Need-returns-2
 unfolding extensionBytes
-returns-2 c = simp (c .before .before .before .before .before .before .before .e .given .1, ← c .before .before .before .before .before .reth-bytes .ensures, ← c .before .before .store2 .ensures)
+returns-2 c =
+    let c2 = c .before .before in let c5 = c2 .before .before .before in let c7 = c5 .before .before in
+    simp (c7 .e .given .1, ← c5 .reth-bytes .ensures, ← c2 .store2 .ensures)
 
 same-length-3 : tie.Need-same-length-3
 same-length-3 c = search needs
@@ -128,32 +132,40 @@ same-length-3 c = search needs
 returns-3 : tie.Need-returns-3
 unfolding extensionBytes rethBytes
 returns-3 c =
-    let A = c .before .before .before .before .before .before .before .before .before .before .before .before .before .before .before .before .args in
-    let eb = c .before .before .before .before .before .before .before .before .before .before .before .reth-bytes2 .ensures in
-    let ec = c .before .before .before .before .before .immediate-bytes .ensures in
-    in-two (A .out .now) _ _ _ _ (A .e) 28 (ap extensionBytes (c .before .before .before .before .before .before .before .before .before .before .before .before .before .e2 .given .1) ∙ (λ i. sym eb i ++ sym ec i)) (ap (λ z. 12 + length z) eb)
-    (c .before .before .before .before .before .before .before .before .before .before .before .before .before .before .before .before .pre) (c .before .before .before .before .before .before .before .before .store3 .ensures) (c .before .before .store4 .ensures)
+    let c2 = c .before .before in let c5 = c2 .before .before .before in let c8 = c5 .before .before .before in
+    let c11 = c8 .before .before .before in let c13 = c11 .before .before in let c16 = c13 .before .before .before in
+    let A = c16 .args in
+    let eb = c11 .reth-bytes2 .ensures in
+    let ec = c5 .immediate-bytes .ensures in
+    in-two (A .out .now) _ _ _ _ (A .e) 28 (ap extensionBytes (c13 .e2 .given .1) ∙ (λ i. sym eb i ++ sym ec i)) (ap (λ z. 12 + length z) eb)
+    (c16 .pre) (c8 .store3 .ensures) (c2 .store4 .ensures)
 
 same-length-4 : tie.Need-same-length-4
 same-length-4 c = search needs
 
 returns-4 : tie.Need-returns-4
 unfolding extensionBytes
-returns-4 c = simp (c .before .before .before .before .before .before .before .e3 .given .1, ← c .before .before .before .before .before .immediate-bytes2 .ensures, ← c .before .before .store5 .ensures)
+returns-4 c =
+    let c2 = c .before .before in let c5 = c2 .before .before .before in let c7 = c5 .before .before in
+    simp (c7 .e3 .given .1, ← c5 .immediate-bytes2 .ensures, ← c2 .store5 .ensures)
 
 same-length-5 : tie.Need-same-length-5
 same-length-5 c = search needs
 
 returns-5 : tie.Need-returns-5
 unfolding extensionBytes
-returns-5 c = simp (c .before .before .before .before .before .before .before .e4 .given .1, ← c .before .before .before .before .before .atomic-bytes .ensures, ← c .before .before .store6 .ensures)
+returns-5 c =
+    let c2 = c .before .before in let c5 = c2 .before .before .before in let c7 = c5 .before .before in
+    simp (c7 .e4 .given .1, ← c5 .atomic-bytes .ensures, ← c2 .store6 .ensures)
 
 same-length-6 : tie.Need-same-length-6
 same-length-6 c = search needs
 
 returns-6 : tie.Need-returns-6
 unfolding extensionBytes
-returns-6 c = simp (c .before .before .before .before .before .before .before .e5 .given .1, ← c .before .before .before .before .before .aeth-bytes .ensures, ← c .before .before .store7 .ensures)
+returns-6 c =
+    let c2 = c .before .before in let c5 = c2 .before .before .before in let c7 = c5 .before .before in
+    simp (c7 .e5 .given .1, ← c5 .aeth-bytes .ensures, ← c2 .store7 .ensures)
 
 same-length-7 : tie.Need-same-length-7
 same-length-7 c = search needs
@@ -161,11 +173,13 @@ same-length-7 c = search needs
 returns-7 : tie.Need-returns-7
 unfolding extensionBytes aethBytes
 returns-7 c =
-    let A = c .before .before .before .before .before .before .before .before .before .before .before .before .before .before .before .before .args in
-    let eb = c .before .before .before .before .before .before .before .before .before .before .before .aeth-bytes2 .ensures in
-    let ec = c .before .before .before .before .before .value-bytes .ensures in
-    in-two (A .out .now) _ _ _ _ (A .e) 16 (ap extensionBytes (c .before .before .before .before .before .before .before .before .before .before .before .before .before .e6 .given .1) ∙ (λ i. sym eb i ++ sym ec i)) (ap (λ z. 12 + length z) eb)
-    (c .before .before .before .before .before .before .before .before .before .before .before .before .before .before .before .before .pre) (c .before .before .before .before .before .before .before .before .store8 .ensures) (c .before .before .store9 .ensures)
+    let c2 = c .before .before in let c5 = c2 .before .before .before in let c8 = c5 .before .before .before in
+    let c11 = c8 .before .before .before in let c13 = c11 .before .before in let c16 = c13 .before .before .before in
+    let A = c16 .args in
+    let eb = c11 .aeth-bytes2 .ensures in
+    let ec = c5 .value-bytes .ensures in
+    in-two (A .out .now) _ _ _ _ (A .e) 16 (ap extensionBytes (c13 .e6 .given .1) ∙ (λ i. sym eb i ++ sym ec i)) (ap (λ z. 12 + length z) eb)
+    (c16 .pre) (c8 .store8 .ensures) (c2 .store9 .ensures)
 
 pub write-extension-spec : {M : Type 1} → statement M
 write-extension-spec =

@@ -78,13 +78,14 @@ execute-requires c κs =
 returns-2 : tie.Need-returns-2
 unfolding statusNumber
 returns-2 c =
-    let c3 = c .before .before .before in let c7 = c3 .before .before .before .before in let c10 = c7 .before .before .before in
-    let c12 = c10 .before .before in let S = c12 .before .before .before in let A = S .args in let s = A .pair .setup in
-    let opened = A .pair .message in let entry = c3 .before .before .before .entry-at in
-    let region = c3 .before .before .key-region in let kind = c3 .before .open-kind in
-    let found = sym (c7 .before .before .is .ensures) ∙ c7 .before .if2 .taken in
-    let passed = sym (c .before .before .is2 .ensures) ∙ c .before .if3 .taken in
-    simp (← c12 .before .unformed .ensures, c12 .if1 .left)
+    let c1 = c .before in let c2 = c1 .before in let c3 = c2 .before in let c4 = c3 .before in let c5 = c4 .before in
+    let c6 = c5 .before in let c7 = c6 .before in let c8 = c7 .before in let c9 = c8 .before in let c10 = c9 .before in
+    let c12 = c10 .before .before in let c13 = c12 .before in
+    let S = c13 .before .before in let A = S .args in let s = A .pair .setup in
+    let opened = A .pair .message in let entry = c6 .entry-at in let region = c5 .key-region in let kind = c4 .open-kind in
+    let found = sym (c9 .is .ensures) ∙ c8 .if2 .taken in
+    let passed = sym (c2 .is2 .ensures) ∙ c1 .if3 .taken in
+    simp (← c13 .unformed .ensures, c12 .if1 .left)
     (c .execute .ensures
     ∙ (executes (A .p) s (A .pair .expected) opened (A .pair .entries .count) (entry .result) (region .result) (A .uc) (c10 .lost .result) (c10 .lost .ensures) found (c7 .current .result) (c7 .current .ensures) (kind .result) (kind .ensures) (c3 .expected-status .result) (c3 .expected-status .ensures) passed
     ∙ (λ i. either (A .uc) (A .p) s (A .pair .expected) opened (A .pair .entries .count) (entry .ensures i) ((region .ensures ∙ ap (λ x. regionFor (A .p .kind) (x .key) (A .regions .now)) (c7 .current .ensures)) i))))
@@ -92,19 +93,21 @@ returns-2 c =
 refused-requires : tie.Need-refused-requires
 refused-requires c κs =
     let c11 = c .before .before .before .before .before .before .before .before .before .before .before in
-    let A = c11 .before .before .before .args in
-    timed (A .p) (A .pair .setup .timer) (c11 .before .unformed .result) (c11 .before .unformed .ensures) (c11 .if1 .left)
+    let c12 = c11 .before in
+    let A = c12 .before .before .args in
+    timed (A .p) (A .pair .setup .timer) (c12 .unformed .result) (c12 .unformed .ensures) (c11 .if1 .left)
 
 returns-3 : tie.Need-returns-3
 unfolding statusNumber
 returns-3 c =
-    let c3 = c .before .before .before in let c7 = c3 .before .before .before .before in let c10 = c7 .before .before .before in
-    let c12 = c10 .before .before in let S = c12 .before .before .before in let A = S .args in let s = A .pair .setup in
-    let opened = A .pair .message in let entry = c3 .before .before .before .entry-at in
-    let region = c3 .before .before .key-region in let kind = c3 .before .open-kind in
-    let found = sym (c7 .before .before .is .ensures) ∙ c7 .before .if2 .taken in
-    let passed = sym (c .before .before .is2 .ensures) ∙ c .before .if3 .left in
-    simp (← c12 .before .unformed .ensures, c12 .if1 .left)
+    let c1 = c .before in let c2 = c1 .before in let c3 = c2 .before in let c4 = c3 .before in let c5 = c4 .before in
+    let c6 = c5 .before in let c7 = c6 .before in let c8 = c7 .before in let c9 = c8 .before in let c10 = c9 .before in
+    let c12 = c10 .before .before in let c13 = c12 .before in
+    let S = c13 .before .before in let A = S .args in let s = A .pair .setup in
+    let opened = A .pair .message in let entry = c6 .entry-at in let region = c5 .key-region in let kind = c4 .open-kind in
+    let found = sym (c9 .is .ensures) ∙ c8 .if2 .taken in
+    let passed = sym (c2 .is2 .ensures) ∙ c1 .if3 .left in
+    simp (← c13 .unformed .ensures, c12 .if1 .left)
     (c .refused .ensures
     ∙ (refuses (A .p) s (A .pair .expected) opened (A .pair .entries .count) (entry .result) (region .result) (A .uc) (c10 .lost .result) (c10 .lost .ensures) found (c7 .current .result) (c7 .current .ensures) (kind .result) (kind .ensures) (c3 .expected-status .result) (c3 .expected-status .ensures) passed
     ∙ (λ i. either (A .uc) (A .p) s (A .pair .expected) opened (A .pair .entries .count) (entry .ensures i) ((region .ensures ∙ ap (λ x. regionFor (A .p .kind) (x .key) (A .regions .now)) (c7 .current .ensures)) i))))
@@ -115,11 +118,11 @@ no-reply-requires-2 c κs = search needs
 returns-4 : tie.Need-returns-4
 unfolding statusNumber
 returns-4 c =
-    let c3 = c .before .before .before in
-    let c5 = c3 .before .before in
-    let A = c5 .before .before .before .args in
-    let found = sym (c .before .before .is .ensures) ∙ c .before .if2 .left in
-    simp (← c5 .before .unformed .ensures, c5 .if1 .left)
+    let c1 = c .before in let c2 = c1 .before in let c3 = c2 .before in let c5 = c3 .before .before in
+    let c6 = c5 .before in
+    let A = c6 .before .before .args in
+    let found = sym (c2 .is .ensures) ∙ c1 .if2 .left in
+    simp (← c6 .unformed .ensures, c5 .if1 .left)
     (c .no-reply2 .ensures
     ∙ loses (A .p) (A .pair .setup) (A .pair .expected) (A .pair .message) (A .pair .entries .count) _ _ (A .uc) (c3 .lost .result) (c3 .lost .ensures) found)
 

@@ -25,7 +25,9 @@ acknowledging-requires-2 c κs = search needs
 
 returns-2 : tie.Need-returns-2
 unfolding failed statusNumber
-returns-2 c = simp (← c .before .before .before .before .is .ensures, c .before .before .before .if1 .left, ← c .before .before .is2 .ensures, c .before .if2 .taken, ← c .acknowledging2 .ensures)
+returns-2 c =
+    let c1 = c .before in let c2 = c1 .before in let c3 = c2 .before in let c4 = c3 .before in
+    simp (← c4 .is .ensures, c3 .if1 .left, ← c2 .is2 .ensures, c1 .if2 .taken, ← c .acknowledging2 .ensures)
 
 is-requires-3 : tie.Need-is-requires-3
 is-requires-3 c κs = search needs
@@ -38,14 +40,20 @@ acknowledging-requires-3 c κs = search needs
 
 returns-3 : tie.Need-returns-3
 unfolding failed statusNumber
-returns-3 c = simp (← c .before .before .before .before .before .before .is .ensures, c .before .before .before .before .before .if1 .left, ← c .before .before .before .before .is2 .ensures, c .before .before .before .if2 .left, ← c .before .before .is3 .ensures, c .before .if3 .taken, ← c .acknowledging3 .ensures)
+returns-3 c =
+    let c1 = c .before in let c2 = c1 .before in let c3 = c2 .before in let c4 = c3 .before in let c5 = c4 .before in
+    let c6 = c5 .before in
+    simp (← c6 .is .ensures, c5 .if1 .left, ← c4 .is2 .ensures, c3 .if2 .left, ← c2 .is3 .ensures, c1 .if3 .taken, ← c .acknowledging3 .ensures)
 
 no-reply-requires : tie.Need-no-reply-requires
 no-reply-requires c κs = search needs
 
 returns-4 : tie.Need-returns-4
 unfolding failed statusNumber
-returns-4 c = simp (← c .before .before .before .before .before .before .is .ensures, c .before .before .before .before .before .if1 .left, ← c .before .before .before .before .is2 .ensures, c .before .before .before .if2 .left, ← c .before .before .is3 .ensures, c .before .if3 .left, ← c .no-reply .ensures)
+returns-4 c =
+    let c1 = c .before in let c2 = c1 .before in let c3 = c2 .before in let c4 = c3 .before in let c5 = c4 .before in
+    let c6 = c5 .before in
+    simp (← c6 .is .ensures, c5 .if1 .left, ← c4 .is2 .ensures, c3 .if2 .left, ← c2 .is3 .ensures, c1 .if3 .left, ← c .no-reply .ensures)
 
 pub failed-spec : {M : Type 1} → statement M
 failed-spec =

@@ -20,14 +20,18 @@ outcome-requires-2 c κs = search needs
 
 returns-2 : tie.Need-returns-2
 unfolding madeReady readyStatus executed statusNumber
-returns-2 c = simp (eq-eqb _ _ (c .before .before .before .if1 .left), ← c .before .before .unsound .ensures, c .before .if2 .taken, ← c .outcome2 .ensures)
+returns-2 c =
+    let c1 = c .before in let c2 = c1 .before in let c3 = c2 .before in
+    simp (eq-eqb _ _ (c3 .if1 .left), ← c2 .unsound .ensures, c1 .if2 .taken, ← c .outcome2 .ensures)
 
 outcome-requires-3 : tie.Need-outcome-requires-3
 outcome-requires-3 c κs = search needs
 
 returns-3 : tie.Need-returns-3
 unfolding madeReady readyStatus executed statusNumber
-returns-3 c = simp (eq-eqb _ _ (c .before .before .before .if1 .left), ← c .before .before .unsound .ensures, c .before .if2 .left, ← c .outcome3 .ensures)
+returns-3 c =
+    let c1 = c .before in let c2 = c1 .before in let c3 = c2 .before in
+    simp (eq-eqb _ _ (c3 .if1 .left), ← c2 .unsound .ensures, c1 .if2 .left, ← c .outcome3 .ensures)
 
 pub make-ready-spec : {M : Type 1} → statement M
 make-ready-spec =

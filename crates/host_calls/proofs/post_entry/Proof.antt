@@ -21,7 +21,9 @@ outcome-requires-2 c κs = search needs
 
 returns-2 : tie.Need-returns-2
 unfolding posted postEntries postStatus executed statusNumber
-returns-2 c = simp (ne-eqb _ _ (c .before .before .before .if1 .left), ← c .before .before .unsound .ensures, c .before .if2 .taken, ← c .outcome2 .ensures) (refl, refl)
+returns-2 c =
+    let c1 = c .before in let c2 = c1 .before in let c3 = c2 .before in
+    simp (ne-eqb _ _ (c3 .if1 .left), ← c2 .unsound .ensures, c1 .if2 .taken, ← c .outcome2 .ensures) (refl, refl)
 
 usize-to-u64-requires : tie.Need-usize-to-u64-requires
 usize-to-u64-requires c κs = search needs
@@ -34,14 +36,20 @@ outcome-requires-3 c κs = search needs
 
 returns-3 : tie.Need-returns-3
 unfolding posted postEntries postStatus executed statusNumber
-returns-3 c = simp (ne-eqb _ _ (c .before .before .before .before .before .before .if1 .left), ← c .before .before .before .before .before .unsound .ensures, c .before .before .before .before .if2 .left, ← c .before .before .before .usize-to-u64 .ensures, ← c .before .before .outside .ensures, c .before .if3 .taken, ← c .outcome3 .ensures) (refl, refl)
+returns-3 c =
+    let c1 = c .before in let c2 = c1 .before in let c3 = c2 .before in let c4 = c3 .before in let c5 = c4 .before in
+    let c6 = c5 .before in
+    simp (ne-eqb _ _ (c6 .if1 .left), ← c5 .unsound .ensures, c4 .if2 .left, ← c3 .usize-to-u64 .ensures, ← c2 .outside .ensures, c1 .if3 .taken, ← c .outcome3 .ensures) (refl, refl)
 
 outcome-requires-4 : tie.Need-outcome-requires-4
 outcome-requires-4 c κs = search needs
 
 returns-4 : tie.Need-returns-4
 unfolding posted postEntries postStatus executed statusNumber
-returns-4 c = simp (ne-eqb _ _ (c .before .before .before .before .before .before .before .if1 .left), ← c .before .before .before .before .before .before .unsound .ensures, c .before .before .before .before .before .if2 .left, ← c .before .before .before .before .usize-to-u64 .ensures, ← c .before .before .before .outside .ensures, c .before .before .if3 .left, le-ltb _ _ (c .before .if4 .taken), le-leb _ _ (c .before .if4 .taken), ← c .outcome4 .ensures) (refl, refl)
+returns-4 c =
+    let c1 = c .before in let c2 = c1 .before in let c3 = c2 .before in let c4 = c3 .before in let c5 = c4 .before in
+    let c6 = c5 .before in let c7 = c6 .before in
+    simp (ne-eqb _ _ (c7 .if1 .left), ← c6 .unsound .ensures, c5 .if2 .left, ← c4 .usize-to-u64 .ensures, ← c3 .outside .ensures, c2 .if3 .left, le-ltb _ _ (c1 .if4 .taken), le-leb _ _ (c1 .if4 .taken), ← c .outcome4 .ensures) (refl, refl)
 
 slot-requires : tie.Need-slot-requires
 slot-requires c κs = search needs
@@ -63,7 +71,10 @@ outcome-requires-5 c κs = search needs
 
 returns-5 : tie.Need-returns-5
 unfolding posted postEntries postStatus executed statusNumber
-returns-5 c = simp (ne-eqb _ _ (c .before .before .before .before .before .before .before .before .before .if1 .left), ← c .before .before .before .before .before .before .before .before .unsound .ensures, c .before .before .before .before .before .before .before .if2 .left, ← c .before .before .before .before .before .before .usize-to-u64 .ensures, ← c .before .before .before .before .before .outside .ensures, c .before .before .before .before .if3 .left, lt-leb _ _ (c .before .before .before .if4 .left), lt-ltb _ _ (c .before .before .before .if4 .left), ← c .before .before .slot .ensures .0, ← c .before .entry-row .ensures, ← c .outcome5 .ensures) (refl, refl)
+returns-5 c =
+    let c1 = c .before in let c2 = c1 .before in let c3 = c2 .before in let c4 = c3 .before in let c5 = c4 .before in
+    let c6 = c5 .before in let c7 = c6 .before in let c8 = c7 .before in let c9 = c8 .before in
+    simp (ne-eqb _ _ (c9 .if1 .left), ← c8 .unsound .ensures, c7 .if2 .left, ← c6 .usize-to-u64 .ensures, ← c5 .outside .ensures, c4 .if3 .left, lt-leb _ _ (c3 .if4 .left), lt-ltb _ _ (c3 .if4 .left), ← c2 .slot .ensures .0, ← c1 .entry-row .ensures, ← c .outcome5 .ensures) (refl, refl)
 
 pub post-entry-spec : {M : Type 1} → statement M
 post-entry-spec =

@@ -23,7 +23,9 @@ outcome-requires-2 c κs = search needs
 
 returns-2 : tie.Need-returns-2
 unfolding resetTo resetRegions resetStatus executed statusNumber
-returns-2 c = simp (← c .before .before .before .before .setup-unsound .ensures, c .before .before .before .if1 .left, ← c .before .fresh .ensures, ← c .outcome2 .ensures) (refl, refl)
+returns-2 c =
+    let c1 = c .before in let c3 = c1 .before .before in let c4 = c3 .before in
+    simp (← c4 .setup-unsound .ensures, c3 .if1 .left, ← c1 .fresh .ensures, ← c .outcome2 .ensures) (refl, refl)
 
 pub reset-spec : {M : Type 1} → statement M
 reset-spec =

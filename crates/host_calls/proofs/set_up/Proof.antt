@@ -17,7 +17,9 @@ outcome-requires c κs = search needs
 
 returns : tie.Need-returns
 unfolding setUp setUpRegions setUpStatus executed statusNumber
-returns c = simp (← c .before .before .before .setup-unfit .ensures, c .before .before .if1 .taken, ← c .before .blank .ensures, ← c .outcome .ensures) (refl, refl)
+returns c =
+    let c1 = c .before in let c2 = c1 .before in let c3 = c2 .before in
+    simp (← c3 .setup-unfit .ensures, c2 .if1 .taken, ← c1 .blank .ensures, ← c .outcome .ensures) (refl, refl)
 
 blank-requires-2 : tie.Need-blank-requires-2
 blank-requires-2 c κs = search needs
@@ -27,7 +29,9 @@ outcome-requires-2 c κs = search needs
 
 returns-2 : tie.Need-returns-2
 unfolding setUp setUpRegions setUpStatus executed statusNumber
-returns-2 c = simp (← c .before .before .before .before .before .setup-unfit .ensures, c .before .before .before .before .if1 .left, lt-leb _ _ (c .before .before .if2 .taken), lt-ltb _ _ (c .before .before .if2 .taken), ← c .before .blank2 .ensures, ← c .outcome2 .ensures) (refl, refl)
+returns-2 c =
+    let c1 = c .before in let c2 = c1 .before in let c4 = c2 .before .before in let c5 = c4 .before in
+    simp (← c5 .setup-unfit .ensures, c4 .if1 .left, lt-leb _ _ (c2 .if2 .taken), lt-ltb _ _ (c2 .if2 .taken), ← c1 .blank2 .ensures, ← c .outcome2 .ensures) (refl, refl)
 
 fresh-requires : tie.Need-fresh-requires
 fresh-requires c κs = search needs
@@ -37,7 +41,9 @@ outcome-requires-3 c κs = search needs
 
 returns-3 : tie.Need-returns-3
 unfolding setUp setUpRegions setUpStatus executed statusNumber
-returns-3 c = simp (← c .before .before .before .before .before .before .setup-unfit .ensures, c .before .before .before .before .before .if1 .left, le-ltb _ _ (c .before .before .before .if2 .left), le-leb _ _ (c .before .before .before .if2 .left), ← c .before .fresh .ensures, ← c .outcome3 .ensures) (refl, refl)
+returns-3 c =
+    let c1 = c .before in let c3 = c1 .before .before in let c5 = c3 .before .before in let c6 = c5 .before in
+    simp (← c6 .setup-unfit .ensures, c5 .if1 .left, le-ltb _ _ (c3 .if2 .left), le-leb _ _ (c3 .if2 .left), ← c1 .fresh .ensures, ← c .outcome3 .ensures) (refl, refl)
 
 pub set-up-spec : {M : Type 1} → statement M
 set-up-spec =

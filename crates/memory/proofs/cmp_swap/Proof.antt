@@ -25,8 +25,9 @@ same-length-2 c = search needs
 returns-2 : tie.Need-returns-2
 unfolding swapped
 returns-2 c =
-    let read = c .before .before .before .before .before .read-word .ensures in
-    (read, simp (← read, eq-eqb _ _ (c .before .before .before .before .if1 .left), ← c .before .before .write-word .ensures))
+    let c2 = c .before .before in let c4 = c2 .before .before in let c5 = c4 .before in
+    let read = c5 .read-word .ensures in
+    (read, simp (← read, eq-eqb _ _ (c4 .if1 .left), ← c2 .write-word .ensures))
 
 pub cmp-swap-spec : {M : Type 1} → statement M
 cmp-swap-spec =

@@ -18,8 +18,9 @@ same-length c = search needs
 returns : tie.Need-returns
 unfolding fetchAdded
 returns c =
-    let read = c .before .before .before .before .before .read-word .ensures in
-    (read, simp (← read, ← c .before .before .before .before .wrapping-add-u64 .ensures, ← c .before .before .write-word .ensures))
+    let c2 = c .before .before in let c4 = c2 .before .before in let c5 = c4 .before in
+    let read = c5 .read-word .ensures in
+    (read, simp (← read, ← c4 .wrapping-add-u64 .ensures, ← c2 .write-word .ensures))
 
 pub fetch-add-spec : {M : Type 1} → statement M
 fetch-add-spec =

@@ -17,7 +17,9 @@ same-length c = search needs
 
 returns : tie.Need-returns
 unfolding wordPut
-returns c = simp (← c .before .before .before .before .before .low-bytes .ensures, ← c .before .before .store .ensures)
+returns c =
+    let c2 = c .before .before in let c5 = c2 .before .before .before in
+    simp (← c5 .low-bytes .ensures, ← c2 .store .ensures)
 
 pub write-word-spec : {M : Type 1} → statement M
 write-word-spec =

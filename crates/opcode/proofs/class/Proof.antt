@@ -26,14 +26,18 @@ low-class-requires-2 c κs = search needs
 
 returns-3 : tie.Need-returns-3
 unfolding classOf
-returns-3 c = simp (ne-eqb _ _ (c .before .before .before .before .if1 .left), eq-eqb _ _ (c .before .before .before .if2 .left), ← c .before .before .uc-has .ensures, c .before .if3 .taken, ← c .low-class2 .ensures)
+returns-3 c =
+    let c1 = c .before in let c2 = c1 .before in let c3 = c2 .before in let c4 = c3 .before in
+    simp (ne-eqb _ _ (c4 .if1 .left), eq-eqb _ _ (c3 .if2 .left), ← c2 .uc-has .ensures, c1 .if3 .taken, ← c .low-class2 .ensures)
 
 reserved-class-requires-2 : tie.Need-reserved-class-requires-2
 reserved-class-requires-2 c κs = search needs
 
 returns-4 : tie.Need-returns-4
 unfolding classOf
-returns-4 c = simp (ne-eqb _ _ (c .before .before .before .before .if1 .left), eq-eqb _ _ (c .before .before .before .if2 .left), ← c .before .before .uc-has .ensures, c .before .if3 .left, ← c .reserved-class2 .ensures)
+returns-4 c =
+    let c1 = c .before in let c2 = c1 .before in let c3 = c2 .before in let c4 = c3 .before in
+    simp (ne-eqb _ _ (c4 .if1 .left), eq-eqb _ _ (c3 .if2 .left), ← c2 .uc-has .ensures, c1 .if3 .left, ← c .reserved-class2 .ensures)
 
 pub class-spec : {M : Type 1} → statement M
 class-spec =

@@ -21,31 +21,49 @@ returns-3 c = simp (le-ltb _ _ (c .before .before .if1 .left), le-leb _ _ (c .be
 
 returns-4 : tie.Need-returns-4
 unfolding followsOf
-returns-4 c = simp (le-ltb _ _ (c .before .before .before .if1 .left), le-leb _ _ (c .before .before .before .if1 .left), ne-eqb _ _ (c .before .before .if2 .left), ne-eqb _ _ (c .before .if3 .left), eq-eqb _ _ (c .if4 .taken))
+returns-4 c =
+    let c1 = c .before in let c2 = c1 .before in let c3 = c2 .before in
+    simp (le-ltb _ _ (c3 .if1 .left), le-leb _ _ (c3 .if1 .left), ne-eqb _ _ (c2 .if2 .left), ne-eqb _ _ (c1 .if3 .left), eq-eqb _ _ (c .if4 .taken))
 
 returns-5 : tie.Need-returns-5
 unfolding followsOf
-returns-5 c = simp (le-ltb _ _ (c .before .before .before .before .if1 .left), le-leb _ _ (c .before .before .before .before .if1 .left), ne-eqb _ _ (c .before .before .before .if2 .left), ne-eqb _ _ (c .before .before .if3 .left), ne-eqb _ _ (c .before .if4 .left), eq-eqb _ _ (c .if5 .taken))
+returns-5 c =
+    let c1 = c .before in let c2 = c1 .before in let c3 = c2 .before in let c4 = c3 .before in
+    simp (le-ltb _ _ (c4 .if1 .left), le-leb _ _ (c4 .if1 .left), ne-eqb _ _ (c3 .if2 .left), ne-eqb _ _ (c2 .if3 .left), ne-eqb _ _ (c1 .if4 .left), eq-eqb _ _ (c .if5 .taken))
 
 returns-6 : tie.Need-returns-6
 unfolding followsOf
-returns-6 c = simp (le-ltb _ _ (c .before .before .before .before .before .if1 .left), le-leb _ _ (c .before .before .before .before .before .if1 .left), ne-eqb _ _ (c .before .before .before .before .if2 .left), ne-eqb _ _ (c .before .before .before .if3 .left), ne-eqb _ _ (c .before .before .if4 .left), ne-eqb _ _ (c .before .if5 .left), eq-eqb _ _ (c .if6 .taken))
+returns-6 c =
+    let c1 = c .before in let c2 = c1 .before in let c3 = c2 .before in let c4 = c3 .before in let c5 = c4 .before in
+    simp (le-ltb _ _ (c5 .if1 .left), le-leb _ _ (c5 .if1 .left), ne-eqb _ _ (c4 .if2 .left), ne-eqb _ _ (c3 .if3 .left), ne-eqb _ _ (c2 .if4 .left), ne-eqb _ _ (c1 .if5 .left), eq-eqb _ _ (c .if6 .taken))
 
 returns-7 : tie.Need-returns-7
 unfolding followsOf
-returns-7 c = simp (le-ltb _ _ (c .before .before .before .before .before .before .if1 .left), le-leb _ _ (c .before .before .before .before .before .before .if1 .left), ne-eqb _ _ (c .before .before .before .before .before .if2 .left), ne-eqb _ _ (c .before .before .before .before .if3 .left), ne-eqb _ _ (c .before .before .before .if4 .left), ne-eqb _ _ (c .before .before .if5 .left), ne-eqb _ _ (c .before .if6 .left), eq-eqb _ _ (c .if7 .taken))
+returns-7 c =
+    let c1 = c .before in let c2 = c1 .before in let c3 = c2 .before in let c4 = c3 .before in let c5 = c4 .before in
+    let c6 = c5 .before in
+    simp (le-ltb _ _ (c6 .if1 .left), le-leb _ _ (c6 .if1 .left), ne-eqb _ _ (c5 .if2 .left), ne-eqb _ _ (c4 .if3 .left), ne-eqb _ _ (c3 .if4 .left), ne-eqb _ _ (c2 .if5 .left), ne-eqb _ _ (c1 .if6 .left), eq-eqb _ _ (c .if7 .taken))
 
 returns-8 : tie.Need-returns-8
 unfolding followsOf
-returns-8 c = simp (le-ltb _ _ (c .before .before .before .before .before .before .before .if1 .left), le-leb _ _ (c .before .before .before .before .before .before .before .if1 .left), ne-eqb _ _ (c .before .before .before .before .before .before .if2 .left), ne-eqb _ _ (c .before .before .before .before .before .if3 .left), ne-eqb _ _ (c .before .before .before .before .if4 .left), ne-eqb _ _ (c .before .before .before .if5 .left), ne-eqb _ _ (c .before .before .if6 .left), ne-eqb _ _ (c .before .if7 .left), eq-eqb _ _ (c .if8 .taken))
+returns-8 c =
+    let c1 = c .before in let c2 = c1 .before in let c3 = c2 .before in let c4 = c3 .before in let c5 = c4 .before in
+    let c6 = c5 .before in let c7 = c6 .before in
+    simp (le-ltb _ _ (c7 .if1 .left), le-leb _ _ (c7 .if1 .left), ne-eqb _ _ (c6 .if2 .left), ne-eqb _ _ (c5 .if3 .left), ne-eqb _ _ (c4 .if4 .left), ne-eqb _ _ (c3 .if5 .left), ne-eqb _ _ (c2 .if6 .left), ne-eqb _ _ (c1 .if7 .left), eq-eqb _ _ (c .if8 .taken))
 
 returns-9 : tie.Need-returns-9
 unfolding followsOf
-returns-9 c = simp (le-ltb _ _ (c .before .before .before .before .before .before .before .before .if1 .left), le-leb _ _ (c .before .before .before .before .before .before .before .before .if1 .left), ne-eqb _ _ (c .before .before .before .before .before .before .before .if2 .left), ne-eqb _ _ (c .before .before .before .before .before .before .if3 .left), ne-eqb _ _ (c .before .before .before .before .before .if4 .left), ne-eqb _ _ (c .before .before .before .before .if5 .left), ne-eqb _ _ (c .before .before .before .if6 .left), ne-eqb _ _ (c .before .before .if7 .left), ne-eqb _ _ (c .before .if8 .left), eq-eqb _ _ (c .if9 .taken))
+returns-9 c =
+    let c1 = c .before in let c2 = c1 .before in let c3 = c2 .before in let c4 = c3 .before in let c5 = c4 .before in
+    let c6 = c5 .before in let c7 = c6 .before in let c8 = c7 .before in
+    simp (le-ltb _ _ (c8 .if1 .left), le-leb _ _ (c8 .if1 .left), ne-eqb _ _ (c7 .if2 .left), ne-eqb _ _ (c6 .if3 .left), ne-eqb _ _ (c5 .if4 .left), ne-eqb _ _ (c4 .if5 .left), ne-eqb _ _ (c3 .if6 .left), ne-eqb _ _ (c2 .if7 .left), ne-eqb _ _ (c1 .if8 .left), eq-eqb _ _ (c .if9 .taken))
 
 returns-10 : tie.Need-returns-10
 unfolding followsOf
-returns-10 c = simp (le-ltb _ _ (c .before .before .before .before .before .before .before .before .if1 .left), le-leb _ _ (c .before .before .before .before .before .before .before .before .if1 .left), ne-eqb _ _ (c .before .before .before .before .before .before .before .if2 .left), ne-eqb _ _ (c .before .before .before .before .before .before .if3 .left), ne-eqb _ _ (c .before .before .before .before .before .if4 .left), ne-eqb _ _ (c .before .before .before .before .if5 .left), ne-eqb _ _ (c .before .before .before .if6 .left), ne-eqb _ _ (c .before .before .if7 .left), ne-eqb _ _ (c .before .if8 .left), ne-eqb _ _ (c .if9 .left))
+returns-10 c =
+    let c1 = c .before in let c2 = c1 .before in let c3 = c2 .before in let c4 = c3 .before in let c5 = c4 .before in
+    let c6 = c5 .before in let c7 = c6 .before in let c8 = c7 .before in
+    simp (le-ltb _ _ (c8 .if1 .left), le-leb _ _ (c8 .if1 .left), ne-eqb _ _ (c7 .if2 .left), ne-eqb _ _ (c6 .if3 .left), ne-eqb _ _ (c5 .if4 .left), ne-eqb _ _ (c4 .if5 .left), ne-eqb _ _ (c3 .if6 .left), ne-eqb _ _ (c2 .if7 .left), ne-eqb _ _ (c1 .if8 .left), ne-eqb _ _ (c .if9 .left))
 
 pub follows-of-spec : {M : Type 1} → statement M
 follows-of-spec =

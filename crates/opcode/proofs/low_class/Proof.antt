@@ -17,7 +17,9 @@ length-of-requires c κs = search needs
 
 returns : tie.Need-returns
 unfolding lowClass
-returns c = simp (← c .before .before .before .kind-of .ensures, ← c .before .before .place-of .ensures, ← c .before .follows-of .ensures, ← c .length-of .ensures)
+returns c =
+    let c1 = c .before in let c2 = c1 .before in let c3 = c2 .before in
+    simp (← c3 .kind-of .ensures, ← c2 .place-of .ensures, ← c1 .follows-of .ensures, ← c .length-of .ensures)
 
 pub low-class-spec : {M : Type 1} → statement M
 low-class-spec =

@@ -19,11 +19,19 @@ returns-2 c = simp (c .before .before .if1 .left, ← c .before .pad .ensures, n
 
 returns-3 : tie.Need-returns-3
 unfolding refusalBy
-returns-3 c = simp (c .before .before .before .if1 .left, ← c .before .before .pad .ensures, eq-eqb _ _ (c .before .if2 .left), lt-ltb 4128 (c .before .before .before .before .args .headers + (c .before .before .before .before .args .n + c .before .before .pad .result)) (omega arith))
+returns-3 c =
+    let A = c .before .before .before .before .args in
+    let fact = lt-ltb 4128 (A .headers + (A .n + c .before .before .pad .result)) (omega arith) in
+    let c1 = c .before in let c2 = c1 .before in let c3 = c2 .before in
+    simp (c3 .if1 .left, ← c2 .pad .ensures, eq-eqb _ _ (c1 .if2 .left), fact)
 
 returns-4 : tie.Need-returns-4
 unfolding refusalBy
-returns-4 c = simp (c .before .before .before .before .if1 .left, ← c .before .before .before .pad .ensures, eq-eqb _ _ (c .before .before .if2 .left), lt-ltb 4128 (c .before .before .before .before .before .args .headers + (c .before .before .before .before .before .args .n + c .before .before .before .pad .result)) (omega arith))
+returns-4 c =
+    let A = c .before .before .before .before .before .args in
+    let fact = lt-ltb 4128 (A .headers + (A .n + c .before .before .before .pad .result)) (omega arith) in
+    let c2 = c .before .before in let c3 = c2 .before in let c4 = c3 .before in
+    simp (c4 .if1 .left, ← c3 .pad .ensures, eq-eqb _ _ (c2 .if2 .left), fact)
 
 cast-size : tie.Need-cast-size
 cast-size c = search needs
@@ -36,15 +44,23 @@ add-size-2 c = search needs
 
 returns-5 : tie.Need-returns-5
 unfolding refusalBy
-returns-5 c = simp (c .before .before .before .before .before .if1 .left, ← c .before .before .before .before .pad .ensures, eq-eqb _ _ (c .before .before .before .if2 .left), le-ltb _ _ (c .before .before .if3 .left), le-leb _ _ (c .before .before .if3 .left), le-ltb _ _ (c .before .if4 .left), le-leb _ _ (c .before .if4 .left), lt-leb _ _ (c .if5 .taken), lt-ltb _ _ (c .if5 .taken))
+returns-5 c =
+    let c1 = c .before in let c2 = c1 .before in let c3 = c2 .before in let c4 = c3 .before in let c5 = c4 .before in
+    simp (c5 .if1 .left, ← c4 .pad .ensures, eq-eqb _ _ (c3 .if2 .left), le-ltb _ _ (c2 .if3 .left), le-leb _ _ (c2 .if3 .left), le-ltb _ _ (c1 .if4 .left), le-leb _ _ (c1 .if4 .left), lt-leb _ _ (c .if5 .taken), lt-ltb _ _ (c .if5 .taken))
 
 returns-6 : tie.Need-returns-6
 unfolding refusalBy
-returns-6 c = simp (c .before .before .before .before .before .before .if1 .left, ← c .before .before .before .before .before .pad .ensures, eq-eqb _ _ (c .before .before .before .before .if2 .left), le-ltb _ _ (c .before .before .before .if3 .left), le-leb _ _ (c .before .before .before .if3 .left), le-ltb _ _ (c .before .before .if4 .left), le-leb _ _ (c .before .before .if4 .left), le-ltb _ _ (c .before .if5 .left), le-leb _ _ (c .before .if5 .left), lt-leb _ _ (c .if6 .taken), lt-ltb _ _ (c .if6 .taken))
+returns-6 c =
+    let c1 = c .before in let c2 = c1 .before in let c3 = c2 .before in let c4 = c3 .before in let c5 = c4 .before in
+    let c6 = c5 .before in
+    simp (c6 .if1 .left, ← c5 .pad .ensures, eq-eqb _ _ (c4 .if2 .left), le-ltb _ _ (c3 .if3 .left), le-leb _ _ (c3 .if3 .left), le-ltb _ _ (c2 .if4 .left), le-leb _ _ (c2 .if4 .left), le-ltb _ _ (c1 .if5 .left), le-leb _ _ (c1 .if5 .left), lt-leb _ _ (c .if6 .taken), lt-ltb _ _ (c .if6 .taken))
 
 returns-7 : tie.Need-returns-7
 unfolding refusalBy
-returns-7 c = simp (c .before .before .before .before .before .before .if1 .left, ← c .before .before .before .before .before .pad .ensures, eq-eqb _ _ (c .before .before .before .before .if2 .left), le-ltb _ _ (c .before .before .before .if3 .left), le-leb _ _ (c .before .before .before .if3 .left), le-ltb _ _ (c .before .before .if4 .left), le-leb _ _ (c .before .before .if4 .left), le-ltb _ _ (c .before .if5 .left), le-leb _ _ (c .before .if5 .left), le-ltb _ _ (c .if6 .left), le-leb _ _ (c .if6 .left))
+returns-7 c =
+    let c1 = c .before in let c2 = c1 .before in let c3 = c2 .before in let c4 = c3 .before in let c5 = c4 .before in
+    let c6 = c5 .before in
+    simp (c6 .if1 .left, ← c5 .pad .ensures, eq-eqb _ _ (c4 .if2 .left), le-ltb _ _ (c3 .if3 .left), le-leb _ _ (c3 .if3 .left), le-ltb _ _ (c2 .if4 .left), le-leb _ _ (c2 .if4 .left), le-ltb _ _ (c1 .if5 .left), le-leb _ _ (c1 .if5 .left), le-ltb _ _ (c .if6 .left), le-leb _ _ (c .if6 .left))
 
 pub refusal-spec : {M : Type 1} → statement M
 refusal-spec =

@@ -17,13 +17,19 @@ rem-if3 : tie.Need-rem-if3
 rem-if3 c = search needs
 
 returns-3 : tie.Need-returns-3
-returns-3 c = count-whole (c .before .before .before .args .n) (c .before .before .before .args .pmtu) (c .before .before .if1 .left) (c .if3 .taken)
+returns-3 c =
+    let c2 = c .before .before in let c3 = c2 .before in
+    count-whole (c3 .args .n) (c3 .args .pmtu) (c2 .if1 .left) (c .if3 .taken)
 
 add-result : tie.Need-add-result
-add-result c = omega (arith, count-small (c .before .before .before .args .n) (c .before .before .before .args .pmtu) (c .before .if2 .left) (c .if3 .left))
+add-result c =
+    let A = c .before .before .before .args in
+    omega (arith, count-small (A .n) (A .pmtu) (c .before .if2 .left) (c .if3 .left))
 
 returns-4 : tie.Need-returns-4
-returns-4 c = count-more (c .before .before .before .args .n) (c .before .before .before .args .pmtu) (c .before .before .if1 .left) (c .if3 .left)
+returns-4 c =
+    let c2 = c .before .before in let c3 = c2 .before in
+    count-more (c3 .args .n) (c3 .args .pmtu) (c2 .if1 .left) (c .if3 .left)
 
 pub count-spec : {M : Type 1} → statement M
 count-spec =

@@ -11,22 +11,31 @@ div-if2 : tie.Need-div-if2
 div-if2 c = search needs
 
 returns-2 : tie.Need-returns-2
-returns-2 c = part-past (c .before .before .args .n) (c .before .before .args .pmtu) (c .before .before .args .i) (c .before .if1 .left) (c .if2 .taken)
+returns-2 c =
+    let c2 = c .before .before in
+    part-past (c2 .args .n) (c2 .args .pmtu) (c2 .args .i) (c .before .if1 .left) (c .if2 .taken)
 
 mul-start : tie.Need-mul-start
-mul-start c = omega (arith, part-within (c .before .before .args .n) (c .before .before .args .pmtu) (c .before .before .args .i) (c .if2 .left))
+mul-start c =
+    omega (arith, let c2 = c .before .before in part-within (c2 .args .n) (c2 .args .pmtu) (c2 .args .i) (c .if2 .left))
 
 sub-if3 : tie.Need-sub-if3
-sub-if3 c = part-within (c .before .before .args .n) (c .before .before .args .pmtu) (c .before .before .args .i) (c .if2 .left)
+sub-if3 c =
+    let c2 = c .before .before in
+    part-within (c2 .args .n) (c2 .args .pmtu) (c2 .args .i) (c .if2 .left)
 
 returns-3 : tie.Need-returns-3
-returns-3 c = let w = part-within (c .before .before .before .args .n) (c .before .before .before .args .pmtu) (c .before .before .before .args .i) (c .before .if2 .left) in part-rest (c .before .before .before .args .n) (c .before .before .before .args .pmtu) (c .before .before .before .args .i) w (omega arith)
+returns-3 c =
+    let A = c .before .before .before .args in
+    let w = part-within (A .n) (A .pmtu) (A .i) (c .before .if2 .left) in part-rest (A .n) (A .pmtu) (A .i) w (omega arith)
 
 add-end : tie.Need-add-end
 add-end c = search needs
 
 returns-4 : tie.Need-returns-4
-returns-4 c = let w = part-within (c .before .before .before .args .n) (c .before .before .before .args .pmtu) (c .before .before .before .args .i) (c .before .if2 .left) in part-full (c .before .before .before .args .n) (c .before .before .before .args .pmtu) (c .before .before .before .args .i) (omega arith)
+returns-4 c =
+    let A = c .before .before .before .args in
+    let w = part-within (A .n) (A .pmtu) (A .i) (c .before .if2 .left) in part-full (A .n) (A .pmtu) (A .i) (omega arith)
 
 pub part-spec : {M : Type 1} → statement M
 part-spec =

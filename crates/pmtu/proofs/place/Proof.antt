@@ -15,16 +15,22 @@ unfolding placeAt
 returns-2 c = search (needs, tested)
 
 returns-3 : tie.Need-returns-3
-returns-3 c = place-middle (c .before .before .before .args .count) (c .before .before .before .args .i) (c .before .before .if1 .left) (c .before .if2 .left) (λ e. omega arith)
+returns-3 c =
+    let A = c .before .before .before .args in
+    place-middle (A .count) (A .i) (c .before .before .if1 .left) (c .before .if2 .left) (λ e. omega arith)
 
 sub-if4 : tie.Need-sub-if4
 sub-if4 c = search needs
 
 returns-4 : tie.Need-returns-4
-returns-4 c = place-last (c .before .before .before .before .args .count) (c .before .before .before .before .args .i) (c .before .before .before .if1 .left) (c .before .before .if2 .left) (omega arith) (omega arith)
+returns-4 c =
+    let A = c .before .before .before .before .args in
+    place-last (A .count) (A .i) (c .before .before .before .if1 .left) (c .before .before .if2 .left) (omega arith) (omega arith)
 
 returns-5 : tie.Need-returns-5
-returns-5 c = place-middle (c .before .before .before .before .args .count) (c .before .before .before .before .args .i) (c .before .before .before .if1 .left) (c .before .before .if2 .left) (λ e. omega arith)
+returns-5 c =
+    let A = c .before .before .before .before .args in
+    place-middle (A .count) (A .i) (c .before .before .before .if1 .left) (c .before .before .if2 .left) (λ e. omega arith)
 
 pub place-spec : {M : Type 1} → statement M
 place-spec = tie.close (tie.spec returns returns-2 returns-3 sub-if4 returns-4 returns-5)

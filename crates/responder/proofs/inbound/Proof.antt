@@ -27,8 +27,9 @@ unchanged-requires c κs = search needs
 
 returns : tie.Need-returns
 returns c =
-    let A = c .before .before .before .before .before .before .before .args in
-    refused (A .pair) (A .regions .now) (A .entries .now) (A .saved .now) (A .mem .now) (A .packet .now) (A .out .now) (c .before .before .before .refusal .result) (c .before .before .before .refusal .ensures) (c .before .before .number .result) (c .before .before .number .ensures) (c .before .if1 .taken) (c .unchanged .result) (c .unchanged .ensures)
+    let c1 = c .before in let c2 = c1 .before in let c3 = c2 .before in
+    let A = c3 .before .before .before .before .args in
+    refused (A .pair) (A .regions .now) (A .entries .now) (A .saved .now) (A .mem .now) (A .packet .now) (A .out .now) (c3 .refusal .result) (c3 .refusal .ensures) (c2 .number .result) (c2 .number .ensures) (c1 .if1 .taken) (c .unchanged .result) (c .unchanged .ensures)
 
 admit-requires : tie.Need-admit-requires
 admit-requires c κs = search needs
@@ -44,8 +45,10 @@ unchanged-requires-2 c κs = search needs
 
 returns-2 : tie.Need-returns-2
 returns-2 c =
-    let A = c .before .before .before .before .before .before .before .before .before .before .before .args in
-    left-at-once (A .pair) (A .regions .now) (A .entries .now) (A .saved .now) (A .mem .now) (A .packet .now) (A .out .now) (c .before .before .before .before .before .before .before .refusal .result) (c .before .before .before .before .before .before .before .refusal .ensures) (c .before .before .before .before .before .before .number .result) (c .before .before .before .before .before .before .number .ensures) (c .before .before .before .before .before .if1 .left) (c .before .before .before .admit .result) (c .before .before .before .admit .ensures) _ (c .before .enum-told .given .1) (c .unchanged2 .result) (c .unchanged2 .ensures)
+    let c1 = c .before in let c3 = c1 .before .before in let c5 = c3 .before .before in let c6 = c5 .before in
+    let c7 = c6 .before in
+    let A = c7 .before .before .before .before .args in
+    left-at-once (A .pair) (A .regions .now) (A .entries .now) (A .saved .now) (A .mem .now) (A .packet .now) (A .out .now) (c7 .refusal .result) (c7 .refusal .ensures) (c6 .number .result) (c6 .number .ensures) (c5 .if1 .left) (c3 .admit .result) (c3 .admit .ensures) _ (c1 .enum-told .given .1) (c .unchanged2 .result) (c .unchanged2 .ensures)
 
 packet-of-requires : tie.Need-packet-of-requires
 packet-of-requires c κs = search needs
@@ -76,19 +79,17 @@ same-length-2 c = search needs
 
 returns-3 : tie.Need-returns-3
 returns-3 c =
-    let c3 = c .before .before .before in
-    let c6 = c3 .before .before .before in
-    let c10 = c6 .before .before .before .before in
-    let c14 = c10 .before .before .before .before in
-    let c18 = c14 .before .before .before .before in
-    let c22 = c18 .before .before .before .before in
+    let c3 = c .before .before .before in let c5 = c3 .before .before in let c6 = c5 .before in
+    let c10 = c6 .before .before .before .before in let c12 = c10 .before .before in let c14 = c12 .before .before in
+    let c16 = c14 .before .before in let c18 = c16 .before .before in let c20 = c18 .before .before in
+    let c21 = c20 .before in let c22 = c21 .before in
     let A = c22 .before .before .before .before .args in
     whole (A .pair) (A .regions .now) (A .entries .now) (A .saved .now) (A .mem .now) (A .packet .now) (A .out .now)
-    (c22 .refusal .result) (c22 .refusal .ensures) (c18 .before .before .before .number .result) (c18 .before .before .before .number .ensures) (c18 .before .before .if1 .left)
-    (c18 .admit .result) (c18 .admit .ensures) _ _ (c14 .before .before .found .given .1)
-    (c14 .packet-of .result) (c14 .packet-of .ensures) (c10 .before .before .decision .result) (c10 .before .before .decision .ensures)
+    (c22 .refusal .result) (c22 .refusal .ensures) (c21 .number .result) (c21 .number .ensures) (c20 .if1 .left)
+    (c18 .admit .result) (c18 .admit .ensures) _ _ (c16 .found .given .1)
+    (c14 .packet-of .result) (c14 .packet-of .ensures) (c12 .decision .result) (c12 .decision .ensures)
     _ (c10 .change .ensures .1) (c10 .change .result) (c10 .change .ensures .0) _ (c6 .keep .ensures)
-    (c3 .before .before .pair-after .result) (c3 .before .before .pair-after .ensures) _ (c3 .reply .ensures) (c .outcome-with .result) (c .outcome-with .ensures)
+    (c5 .pair-after .result) (c5 .pair-after .ensures) _ (c3 .reply .ensures) (c .outcome-with .result) (c .outcome-with .ensures)
 
 pub inbound-spec : {M : Type 1} → statement M
 inbound-spec =

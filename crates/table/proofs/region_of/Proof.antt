@@ -24,7 +24,9 @@ element-copy-out-result c = search needs
 
 returns-2 : tie.Need-returns-2
 unfolding regionOf
-returns-2 c = simp (← c .before .before .before .u32-to-u64 .ensures .0, ← c .before .before .find .ensures .0, lt-leb _ _ (c .before .if1 .left), lt-ltb _ _ (c .before .if1 .left))
+returns-2 c =
+    let c1 = c .before in let c2 = c1 .before in let c3 = c2 .before in
+    simp (← c3 .u32-to-u64 .ensures .0, ← c2 .find .ensures .0, lt-leb _ _ (c1 .if1 .left), lt-ltb _ _ (c1 .if1 .left))
 
 pub region-of-spec : {M : Type 1} → statement M
 region-of-spec = tie.close (tie.spec u32-to-u64-requires find-requires returns mul-result element-copy-out-result returns-2)

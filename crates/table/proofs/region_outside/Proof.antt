@@ -20,7 +20,9 @@ past-top-requires c κs = search needs
 
 returns-3 : tie.Need-returns-3
 unfolding regionOutside
-returns-3 c = simp (ne-eqb _ _ (c .before .before .before .if1 .left), ← c .before .before .outside .ensures, c .before .if2 .left, ← c .past-top .ensures)
+returns-3 c =
+    let c1 = c .before in let c2 = c1 .before in let c3 = c2 .before in
+    simp (ne-eqb _ _ (c3 .if1 .left), ← c2 .outside .ensures, c1 .if2 .left, ← c .past-top .ensures)
 
 pub region-outside-spec : {M : Type 1} → statement M
 region-outside-spec =

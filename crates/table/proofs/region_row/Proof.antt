@@ -17,7 +17,9 @@ u32-to-u64-requires c κs = search needs
 
 returns : tie.Need-returns
 unfolding regionRow
-returns c = simp (← c .before .before .before .bool-to-u64 .ensures, ← c .before .before .bool-to-u642 .ensures, ← c .before .bool-to-u643 .ensures, ← c .u32-to-u64 .ensures .0)
+returns c =
+    let c1 = c .before in let c2 = c1 .before in let c3 = c2 .before in
+    simp (← c3 .bool-to-u64 .ensures, ← c2 .bool-to-u642 .ensures, ← c1 .bool-to-u643 .ensures, ← c .u32-to-u64 .ensures .0)
 
 pub region-row-spec : {M : Type 1} → statement M
 region-row-spec =

@@ -62,7 +62,9 @@ cast-t40 c = search needs
 
 returns : tie.Need-returns
 unfolding bthBytes
-returns c = simp (c .before .before .before .before .before .before .bit-of .ensures .0, c .before .before .before .before .before .bit-of2 .ensures .0, c .before .before .before .before .bit-of3 .ensures .0)
+returns c =
+    let c4 = c .before .before .before .before in let c5 = c4 .before in let c6 = c5 .before in
+    simp (c6 .bit-of .ensures .0, c5 .bit-of2 .ensures .0, c4 .bit-of3 .ensures .0)
 
 pub bth-bytes-spec : {M : Type 1} → statement M
 bth-bytes-spec =

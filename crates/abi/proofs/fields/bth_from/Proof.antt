@@ -71,7 +71,12 @@ low8-requires-5 c κs = search needs
 
 returns : tie.Need-returns
 unfolding bthFrom
-returns c = simp (← c .before .before .before .before .before .before .before .before .before .before .before .before .before .before .before .before .before .before .before .before .low32 .ensures, ← c .before .before .before .before .before .before .before .before .before .before .before .before .before .before .before .before .before .before .low8 .ensures, ← c .before .before .before .before .before .before .before .before .before .before .before .before .before .before .before .before .flag .ensures, ← c .before .before .before .before .before .before .before .before .before .before .before .before .before .before .flag2 .ensures, ← c .before .before .before .before .before .before .before .before .before .before .before .before .low82 .ensures, ← c .before .before .before .before .before .before .before .before .before .before .low83 .ensures, ← c .before .before .before .before .before .before .before .before .low16 .ensures, ← c .before .before .before .before .before .before .low84 .ensures, ← c .before .before .before .before .low322 .ensures, ← c .before .before .flag3 .ensures, ← c .low85 .ensures)
+returns c =
+    let c2 = c .before .before in let c4 = c2 .before .before in let c6 = c4 .before .before in
+    let c8 = c6 .before .before in let c10 = c8 .before .before in let c12 = c10 .before .before in
+    let c14 = c12 .before .before in let c16 = c14 .before .before in let c18 = c16 .before .before in
+    let c20 = c18 .before .before in
+    simp (← c20 .low32 .ensures, ← c18 .low8 .ensures, ← c16 .flag .ensures, ← c14 .flag2 .ensures, ← c12 .low82 .ensures, ← c10 .low83 .ensures, ← c8 .low16 .ensures, ← c6 .low84 .ensures, ← c4 .low322 .ensures, ← c2 .flag3 .ensures, ← c .low85 .ensures)
 
 pub bth-from-spec : {M : Type 1} → statement M
 bth-from-spec =

@@ -25,7 +25,9 @@ low32-requires c κs = search needs
 
 returns-2 : tie.Need-returns-2
 unfolding extensionFrom
-returns-2 c = simp (ne-eqb _ _ (c .before .before .before .before .if1 .left), eq-eqb _ _ (c .before .before .before .if2 .taken), ← c .before .before .reth-from2 .ensures, ← c .low32 .ensures)
+returns-2 c =
+    let c2 = c .before .before in let c3 = c2 .before in let c4 = c3 .before in
+    simp (ne-eqb _ _ (c4 .if1 .left), eq-eqb _ _ (c3 .if2 .taken), ← c2 .reth-from2 .ensures, ← c .low32 .ensures)
 
 element-copy-out-low32-2 : tie.Need-element-copy-out-low32-2
 element-copy-out-low32-2 c = search needs
@@ -35,21 +37,27 @@ low32-requires-2 c κs = search needs
 
 returns-3 : tie.Need-returns-3
 unfolding extensionFrom
-returns-3 c = simp (ne-eqb _ _ (c .before .before .before .before .if1 .left), ne-eqb _ _ (c .before .before .before .if2 .left), eq-eqb _ _ (c .before .before .if3 .taken), ← c .low322 .ensures)
+returns-3 c =
+    let c2 = c .before .before in let c3 = c2 .before in let c4 = c3 .before in
+    simp (ne-eqb _ _ (c4 .if1 .left), ne-eqb _ _ (c3 .if2 .left), eq-eqb _ _ (c2 .if3 .taken), ← c .low322 .ensures)
 
 atomic-from-requires : tie.Need-atomic-from-requires
 atomic-from-requires c κs = search needs
 
 returns-4 : tie.Need-returns-4
 unfolding extensionFrom
-returns-4 c = simp (ne-eqb _ _ (c .before .before .before .before .if1 .left), ne-eqb _ _ (c .before .before .before .if2 .left), ne-eqb _ _ (c .before .before .if3 .left), eq-eqb _ _ (c .before .if4 .taken), ← c .atomic-from .ensures)
+returns-4 c =
+    let c1 = c .before in let c2 = c1 .before in let c3 = c2 .before in let c4 = c3 .before in
+    simp (ne-eqb _ _ (c4 .if1 .left), ne-eqb _ _ (c3 .if2 .left), ne-eqb _ _ (c2 .if3 .left), eq-eqb _ _ (c1 .if4 .taken), ← c .atomic-from .ensures)
 
 aeth-from-requires : tie.Need-aeth-from-requires
 aeth-from-requires c κs = search needs
 
 returns-5 : tie.Need-returns-5
 unfolding extensionFrom
-returns-5 c = simp (ne-eqb _ _ (c .before .before .before .before .before .if1 .left), ne-eqb _ _ (c .before .before .before .before .if2 .left), ne-eqb _ _ (c .before .before .before .if3 .left), ne-eqb _ _ (c .before .before .if4 .left), eq-eqb _ _ (c .before .if5 .taken), ← c .aeth-from .ensures)
+returns-5 c =
+    let c1 = c .before in let c2 = c1 .before in let c3 = c2 .before in let c4 = c3 .before in let c5 = c4 .before in
+    simp (ne-eqb _ _ (c5 .if1 .left), ne-eqb _ _ (c4 .if2 .left), ne-eqb _ _ (c3 .if3 .left), ne-eqb _ _ (c2 .if4 .left), eq-eqb _ _ (c1 .if5 .taken), ← c .aeth-from .ensures)
 
 aeth-from-requires-2 : tie.Need-aeth-from-requires-2
 aeth-from-requires-2 c κs = search needs
@@ -59,11 +67,16 @@ element-copy-out-t22 c = search needs
 
 returns-6 : tie.Need-returns-6
 unfolding extensionFrom
-returns-6 c = simp (ne-eqb _ _ (c .before .before .before .before .before .before .before .if1 .left), ne-eqb _ _ (c .before .before .before .before .before .before .if2 .left), ne-eqb _ _ (c .before .before .before .before .before .if3 .left), ne-eqb _ _ (c .before .before .before .before .if4 .left), ne-eqb _ _ (c .before .before .before .if5 .left), eq-eqb _ _ (c .before .before .if6 .taken), ← c .before .aeth-from2 .ensures)
+returns-6 c =
+    let c1 = c .before in let c2 = c1 .before in let c3 = c2 .before in let c4 = c3 .before in let c5 = c4 .before in
+    let c6 = c5 .before in let c7 = c6 .before in
+    simp (ne-eqb _ _ (c7 .if1 .left), ne-eqb _ _ (c6 .if2 .left), ne-eqb _ _ (c5 .if3 .left), ne-eqb _ _ (c4 .if4 .left), ne-eqb _ _ (c3 .if5 .left), eq-eqb _ _ (c2 .if6 .taken), ← c1 .aeth-from2 .ensures)
 
 returns-7 : tie.Need-returns-7
 unfolding extensionFrom
-returns-7 c = simp (ne-eqb _ _ (c .before .before .before .before .before .if1 .left), ne-eqb _ _ (c .before .before .before .before .if2 .left), ne-eqb _ _ (c .before .before .before .if3 .left), ne-eqb _ _ (c .before .before .if4 .left), ne-eqb _ _ (c .before .if5 .left), ne-eqb _ _ (c .if6 .left))
+returns-7 c =
+    let c1 = c .before in let c2 = c1 .before in let c3 = c2 .before in let c4 = c3 .before in let c5 = c4 .before in
+    simp (ne-eqb _ _ (c5 .if1 .left), ne-eqb _ _ (c4 .if2 .left), ne-eqb _ _ (c3 .if3 .left), ne-eqb _ _ (c2 .if4 .left), ne-eqb _ _ (c1 .if5 .left), ne-eqb _ _ (c .if6 .left))
 
 pub extension-from-spec : {M : Type 1} → statement M
 extension-from-spec =

@@ -16,7 +16,9 @@ same-length c = search needs
 
 returns-2 : tie.Need-returns-2
 unfolding answerBytes over
-returns-2 c = simp (le-ltb _ _ (c .before .before .before .before .before .before .if1 .left), eq-eqb _ _ (c .before .before .before .before .if2 .taken), ← c .before .before .write-ack .ensures)
+returns-2 c =
+    let c2 = c .before .before in let c4 = c2 .before .before in let c6 = c4 .before .before in
+    simp (le-ltb _ _ (c6 .if1 .left), eq-eqb _ _ (c4 .if2 .taken), ← c2 .write-ack .ensures)
 
 write-value-requires : tie.Need-write-value-requires
 write-value-requires c κs = search needs
@@ -26,11 +28,16 @@ same-length-2 c = search needs
 
 returns-3 : tie.Need-returns-3
 unfolding answerBytes over
-returns-3 c = simp (le-ltb _ _ (c .before .before .before .before .before .before .before .before .if1 .left), ne-eqb _ _ (c .before .before .before .before .before .before .if2 .left), eq-eqb _ _ (c .before .before .before .before .if3 .taken), ← c .before .before .write-value .ensures)
+returns-3 c =
+    let c2 = c .before .before in let c4 = c2 .before .before in let c6 = c4 .before .before in
+    let c8 = c6 .before .before in
+    simp (le-ltb _ _ (c8 .if1 .left), ne-eqb _ _ (c6 .if2 .left), eq-eqb _ _ (c4 .if3 .taken), ← c2 .write-value .ensures)
 
 returns-4 : tie.Need-returns-4
 unfolding answerBytes over
-returns-4 c = simp (le-ltb _ _ (c .before .before .before .before .if1 .left), ne-eqb _ _ (c .before .before .if2 .left), ne-eqb _ _ (c .if3 .left))
+returns-4 c =
+    let c2 = c .before .before in let c4 = c2 .before .before in
+    simp (le-ltb _ _ (c4 .if1 .left), ne-eqb _ _ (c2 .if2 .left), ne-eqb _ _ (c .if3 .left))
 
 pub reply-spec : {M : Type 1} → statement M
 reply-spec =

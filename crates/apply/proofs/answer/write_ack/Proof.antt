@@ -35,10 +35,12 @@ same-length c = search needs
 returns : tie.Need-returns
 unfolding bthBytes aethBytes extensionBytes headerBytes replyHeader ackHeader
 returns c =
-    let A = c .before .before .before .before .before .before .before .before .before .before .before .before .before .before .args in
-    let eb = c .before .before .before .before .before .before .before .before .before .before .before .bth-bytes .ensures ∙ ap bthBytes (c .before .before .before .before .before .before .before .before .before .before .before .before .reply-bth .ensures) in
-    let ea = c .before .before .before .before .before .aeth-bytes .ensures in
-    in-two (A .out .now) _ _ _ _ (ap length eb) (ap length ea) (c .before .before .before .before .before .before .before .before .store .ensures) (c .before .before .store2 .ensures) _ (λ i. sym eb i ++ sym ea i) (c .before .before .before .before .before .before .before .before .before .before .before .before .before .before .pre)
+    let c2 = c .before .before in let c5 = c2 .before .before .before in let c8 = c5 .before .before .before in
+    let c11 = c8 .before .before .before in let c12 = c11 .before in let c14 = c12 .before .before in
+    let A = c14 .args in
+    let eb = c11 .bth-bytes .ensures ∙ ap bthBytes (c12 .reply-bth .ensures) in
+    let ea = c5 .aeth-bytes .ensures in
+    in-two (A .out .now) _ _ _ _ (ap length eb) (ap length ea) (c8 .store .ensures) (c2 .store2 .ensures) _ (λ i. sym eb i ++ sym ea i) (c14 .pre)
 
 pub write-ack-spec : {M : Type 1} → statement M
 write-ack-spec =

@@ -44,11 +44,14 @@ same-length c = search needs
 returns : tie.Need-returns
 unfolding bthBytes aethBytes extensionBytes headerBytes replyHeader atomicHeader
 returns c =
-    let A = c .before .before .before .before .before .before .before .before .before .before .before .before .before .before .before .before .before .before .before .before .args in
-    let eb = c .before .before .before .before .before .before .before .before .before .before .before .before .before .before .before .before .before .bth-bytes .ensures ∙ ap bthBytes (c .before .before .before .before .before .before .before .before .before .before .before .before .before .before .before .before .before .before .reply-bth .ensures) in
-    let ea = c .before .before .before .before .before .before .before .before .before .before .before .aeth-bytes .ensures in
-    let ev = c .before .before .before .before .before .value-bytes .ensures in
-    in-three (A .out .now) _ _ _ _ (ap length eb) (ap length ea) (c .before .before .before .before .before .before .before .before .before .before .before .before .before .before .store .ensures) (c .before .before .before .before .before .before .before .before .store2 .ensures) _ _ _ (ap length ev) (c .before .before .store3 .ensures) (λ i. sym eb i ++ (sym ea i ++ sym ev i)) (c .before .before .before .before .before .before .before .before .before .before .before .before .before .before .before .before .before .before .before .before .pre)
+    let c2 = c .before .before in let c5 = c2 .before .before .before in let c8 = c5 .before .before .before in
+    let c11 = c8 .before .before .before in let c14 = c11 .before .before .before in
+    let c17 = c14 .before .before .before in let c18 = c17 .before in let c20 = c18 .before .before in
+    let A = c20 .args in
+    let eb = c17 .bth-bytes .ensures ∙ ap bthBytes (c18 .reply-bth .ensures) in
+    let ea = c11 .aeth-bytes .ensures in
+    let ev = c5 .value-bytes .ensures in
+    in-three (A .out .now) _ _ _ _ (ap length eb) (ap length ea) (c14 .store .ensures) (c8 .store2 .ensures) _ _ _ (ap length ev) (c2 .store3 .ensures) (λ i. sym eb i ++ (sym ea i ++ sym ev i)) (c20 .pre)
 
 pub write-value-spec : {M : Type 1} → statement M
 write-value-spec =

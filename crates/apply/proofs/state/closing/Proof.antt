@@ -7,7 +7,9 @@ no-message-requires : tie.Need-no-message-requires
 no-message-requires c κs = search needs
 
 returns : tie.Need-returns
-returns c = simp (← c .before .before .before .before .before .no-message .ensures)
+returns c =
+    let c5 = c .before .before .before .before .before in
+    simp (← c5 .no-message .ensures)
 
 pub closing-spec : {M : Type 1} → statement M
 closing-spec = tie.close (tie.spec no-message-requires returns)

@@ -20,7 +20,10 @@ saved-ring-by-requires c κs = search needs
 
 returns : tie.Need-returns
 unfolding executedPair
-returns c = simp (c .before .before .before .before .before .before .before .before .psn-after .ensures, ← c .before .before .before .before .before .before .before .msn-by .ensures, ← c .before .before .before .before .before .entries-by .ensures, ← c .before .before .before .read-by .ensures, ← c .before .saved-ring-by .ensures)
+returns c =
+    let c1 = c .before in let c3 = c1 .before .before in let c5 = c3 .before .before in let c7 = c5 .before .before in
+    let c8 = c7 .before in
+    simp (c8 .psn-after .ensures, ← c7 .msn-by .ensures, ← c5 .entries-by .ensures, ← c3 .read-by .ensures, ← c1 .saved-ring-by .ensures)
 
 pub executed-pair-spec : {M : Type 1} → statement M
 executed-pair-spec =

@@ -20,7 +20,9 @@ counted-requires c κs = search needs
 
 returns : tie.Need-returns
 unfolding completionOf payloadSize
-returns c = simp (← c .before .before .before .completes .ensures, c .before .before .if1 .taken, ← c .before .saturating-sub .ensures, ← c .counted .ensures)
+returns c =
+    let c1 = c .before in let c2 = c1 .before in let c3 = c2 .before in
+    simp (← c3 .completes .ensures, c2 .if1 .taken, ← c1 .saturating-sub .ensures, ← c .counted .ensures)
 
 no-completion-requires : tie.Need-no-completion-requires
 no-completion-requires c κs = search needs

@@ -30,23 +30,25 @@ saturating-sub-requires c κs = search needs
 
 returns-2 : tie.Need-returns-2
 returns-2 c =
-    let A = c .before .before .before .before .args in
-    nowhere (A .kind) (A .m) (A .t3) (A .region) (c .before .before .if1 .left) (c .before .saturating-sub .result) (c .before .saturating-sub .ensures) (c .if2 .taken)
+    let c1 = c .before in let c2 = c1 .before in
+    let A = c2 .before .before .args in
+    nowhere (A .kind) (A .m) (A .t3) (A .region) (c2 .if1 .left) (c1 .saturating-sub .result) (c1 .saturating-sub .ensures) (c .if2 .taken)
 
 add-memory-offset : tie.Need-add-memory-offset
 unfolding bytesToCome
 add-memory-offset c =
     let A = c .before .before .before .before .before .args in
     let some : 0 < bytesToCome (A .m .length) (A .m .stored) = omega (arith, c .before .before .saturating-sub .ensures, c .before .if2 .left) in
-    omega (arith, c .before .before .before .before .before .pre .address (c .before .before .before .if1 .left) some, c .before .before .before .before .usize-to-u64 .ensures)
+    omega (arith, let c3 = c .before .before .before in let c5 = c3 .before .before in c5 .pre .address (c3 .if1 .left) some, c .before .before .before .before .usize-to-u64 .ensures)
 
 memory-offset-requires : tie.Need-memory-offset-requires
 memory-offset-requires c κs = search needs
 
 returns-3 : tie.Need-returns-3
 returns-3 c =
-    let A = c .before .before .before .before .before .before .args in
-    at-offset (A .kind) (A .m) (A .t3) (A .region) (c .before .before .before .before .if1 .left) (c .before .before .before .saturating-sub .result) (c .before .before .before .saturating-sub .ensures) (c .before .before .before .before .before .usize-to-u64 .result) (c .before .before .before .before .before .usize-to-u64 .ensures) (c .memory-offset .result) (c .memory-offset .ensures) (c .before .before .before .before .before .before .pre .offset (c .before .before .before .before .if1 .left))
+    let c3 = c .before .before .before in let c4 = c3 .before in let c5 = c4 .before in let c6 = c5 .before in
+    let A = c6 .args in
+    at-offset (A .kind) (A .m) (A .t3) (A .region) (c4 .if1 .left) (c3 .saturating-sub .result) (c3 .saturating-sub .ensures) (c5 .usize-to-u64 .result) (c5 .usize-to-u64 .ensures) (c .memory-offset .result) (c .memory-offset .ensures) (c6 .pre .offset (c4 .if1 .left))
 
 pub target-offset-spec : {M : Type 1} → statement M
 target-offset-spec =

@@ -20,8 +20,9 @@ begin-read-requires c κs = search needs
 returns : tie.Need-returns
 unfolding acceptRead
 returns c =
-    let at = c .before .before .memory-offset .ensures ∙ own-remainder _ (c .before .before .before .pre) in
-    simp (← at, ← c .before .count .ensures, ← c .begin-read .ensures)
+    let c1 = c .before in let c2 = c1 .before in let c3 = c2 .before in
+    let at = c2 .memory-offset .ensures ∙ own-remainder _ (c3 .pre) in
+    simp (← at, ← c1 .count .ensures, ← c .begin-read .ensures)
 
 pub accept-read-spec : {M : Type 1} → statement M
 accept-read-spec = tie.close (tie.spec memory-offset-requires count-requires begin-read-requires returns)

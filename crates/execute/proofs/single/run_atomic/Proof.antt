@@ -20,8 +20,9 @@ no-completion-requires c κs = search needs
 returns : tie.Need-returns
 unfolding runAtomic
 returns c =
-    let at = c .before .before .before .memory-offset .ensures ∙ own-remainder _ (c .before .before .before .before .pre) in
-    simp (← at, ← c .before .before .atomic-act .ensures, ← c .before .no-completion .ensures)
+    let c1 = c .before in let c2 = c1 .before in let c3 = c2 .before in let c4 = c3 .before in
+    let at = c3 .memory-offset .ensures ∙ own-remainder _ (c4 .pre) in
+    simp (← at, ← c2 .atomic-act .ensures, ← c1 .no-completion .ensures)
 
 pub run-atomic-spec : {M : Type 1} → statement M
 run-atomic-spec =

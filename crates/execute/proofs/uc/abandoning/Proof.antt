@@ -22,14 +22,18 @@ no-reply-requires-2 c κs = search needs
 
 returns-2 : tie.Need-returns-2
 unfolding abandoning statusNumber
-returns-2 c = simp (← c .before .before .before .is .ensures, c .before .before .if1 .left, eq-eqb _ _ (c .before .if2 .taken), ← c .no-reply2 .ensures)
+returns-2 c =
+    let c1 = c .before in let c2 = c1 .before in let c3 = c2 .before in
+    simp (← c3 .is .ensures, c2 .if1 .left, eq-eqb _ _ (c1 .if2 .taken), ← c .no-reply2 .ensures)
 
 no-reply-requires-3 : tie.Need-no-reply-requires-3
 no-reply-requires-3 c κs = search needs
 
 returns-3 : tie.Need-returns-3
 unfolding abandoning statusNumber
-returns-3 c = simp (← c .before .before .before .is .ensures, c .before .before .if1 .left, ne-eqb _ _ (c .before .if2 .left), ← c .no-reply3 .ensures)
+returns-3 c =
+    let c1 = c .before in let c2 = c1 .before in let c3 = c2 .before in
+    simp (← c3 .is .ensures, c2 .if1 .left, ne-eqb _ _ (c1 .if2 .left), ← c .no-reply3 .ensures)
 
 pub abandoning-spec : {M : Type 1} → statement M
 abandoning-spec =

@@ -20,11 +20,15 @@ distance-requires c κs = search needs
 
 returns-2 : tie.Need-returns-2
 unfolding strays
-returns-2 c = simp (← c .before .before .before .before .starts .ensures, c .before .before .before .if1 .left, ← c .before .distance .ensures, ne-eqb _ _ (c .if2 .taken))
+returns-2 c =
+    let c1 = c .before in let c3 = c1 .before .before in let c4 = c3 .before in
+    simp (← c4 .starts .ensures, c3 .if1 .left, ← c1 .distance .ensures, ne-eqb _ _ (c .if2 .taken))
 
 returns-3 : tie.Need-returns-3
 unfolding strays
-returns-3 c = simp (← c .before .before .before .before .before .starts .ensures, c .before .before .before .before .if1 .left, ← c .before .before .distance .ensures, eq-eqb _ _ (c .before .if2 .left))
+returns-3 c =
+    let c1 = c .before in let c2 = c1 .before in let c4 = c2 .before .before in let c5 = c4 .before in
+    simp (← c5 .starts .ensures, c4 .if1 .left, ← c2 .distance .ensures, eq-eqb _ _ (c1 .if2 .left))
 
 pub strays-spec : {M : Type 1} → statement M
 strays-spec = tie.close (tie.spec starts-requires returns distance-requires returns-2 returns-3)

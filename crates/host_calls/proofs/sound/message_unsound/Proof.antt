@@ -21,11 +21,15 @@ returns-3 c = simp (ne-eqb _ _ (c .before .before .if1 .left), ne-eqb _ _ (c .be
 
 returns-4 : tie.Need-returns-4
 unfolding messageUnsound writeUnsound
-returns-4 c = simp (ne-eqb _ _ (c .before .before .before .if1 .left), ne-eqb _ _ (c .before .before .if2 .left), eq-eqb _ _ (c .before .if3 .left), le-ltb _ _ (c .if4 .taken), le-leb _ _ (c .if4 .taken))
+returns-4 c =
+    let c1 = c .before in let c2 = c1 .before in let c3 = c2 .before in
+    simp (ne-eqb _ _ (c3 .if1 .left), ne-eqb _ _ (c2 .if2 .left), eq-eqb _ _ (c1 .if3 .left), le-ltb _ _ (c .if4 .taken), le-leb _ _ (c .if4 .taken))
 
 returns-5 : tie.Need-returns-5
 unfolding messageUnsound writeUnsound
-returns-5 c = simp (ne-eqb _ _ (c .before .before .before .before .if1 .left), ne-eqb _ _ (c .before .before .before .if2 .left), eq-eqb _ _ (c .before .before .if3 .left), lt-leb _ _ (c .before .if4 .left), lt-ltb _ _ (c .before .if4 .left), lt-leb _ _ (c .if5 .taken), lt-ltb _ _ (c .if5 .taken))
+returns-5 c =
+    let c1 = c .before in let c2 = c1 .before in let c3 = c2 .before in let c4 = c3 .before in
+    simp (ne-eqb _ _ (c4 .if1 .left), ne-eqb _ _ (c3 .if2 .left), eq-eqb _ _ (c2 .if3 .left), lt-leb _ _ (c1 .if4 .left), lt-ltb _ _ (c1 .if4 .left), lt-leb _ _ (c .if5 .taken), lt-ltb _ _ (c .if5 .taken))
 
 usize-to-u64-requires : tie.Need-usize-to-u64-requires
 usize-to-u64-requires c κs = search needs
@@ -35,7 +39,10 @@ past-top-requires c κs = search needs
 
 returns-6 : tie.Need-returns-6
 unfolding messageUnsound writeUnsound
-returns-6 c = simp (ne-eqb _ _ (c .before .before .before .before .before .before .if1 .left), ne-eqb _ _ (c .before .before .before .before .before .if2 .left), eq-eqb _ _ (c .before .before .before .before .if3 .left), lt-leb _ _ (c .before .before .before .if4 .left), lt-ltb _ _ (c .before .before .before .if4 .left), le-ltb _ _ (c .before .before .if5 .left), le-leb _ _ (c .before .before .if5 .left), ← c .before .usize-to-u64 .ensures, ← c .past-top .ensures)
+returns-6 c =
+    let c1 = c .before in let c2 = c1 .before in let c3 = c2 .before in let c4 = c3 .before in let c5 = c4 .before in
+    let c6 = c5 .before in
+    simp (ne-eqb _ _ (c6 .if1 .left), ne-eqb _ _ (c5 .if2 .left), eq-eqb _ _ (c4 .if3 .left), lt-leb _ _ (c3 .if4 .left), lt-ltb _ _ (c3 .if4 .left), le-ltb _ _ (c2 .if5 .left), le-leb _ _ (c2 .if5 .left), ← c1 .usize-to-u64 .ensures, ← c .past-top .ensures)
 
 pub message-unsound-spec : {M : Type 1} → statement M
 message-unsound-spec =

@@ -13,7 +13,9 @@ returns-2 c = simp (le-ltb _ _ (c .before .before .if1 .left), le-leb _ _ (c .be
 
 returns-3 : tie.Need-returns-3
 unfolding numbersUnsound
-returns-3 c = simp (le-ltb _ _ (c .before .before .before .if1 .left), le-leb _ _ (c .before .before .before .if1 .left), lt-leb _ _ (c .before .if2 .left), lt-ltb _ _ (c .before .if2 .left))
+returns-3 c =
+    let c1 = c .before in let c3 = c1 .before .before in
+    simp (le-ltb _ _ (c3 .if1 .left), le-leb _ _ (c3 .if1 .left), lt-leb _ _ (c1 .if2 .left), lt-ltb _ _ (c1 .if2 .left))
 
 pub numbers-unsound-spec : {M : Type 1} → statement M
 numbers-unsound-spec = tie.close (tie.spec returns returns-2 returns-3)

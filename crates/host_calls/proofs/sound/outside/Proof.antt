@@ -15,7 +15,9 @@ outside-requires : tie.Need-outside-requires
 outside-requires c κs = search needs
 
 returns : tie.Need-returns
-returns c = simp (← c .before .before .before .usize-to-u64 .ensures, ← c .before .before .usize-to-u642 .ensures, ← c .before .usize-to-u643 .ensures, ← c .outside .ensures)
+returns c =
+    let c1 = c .before in let c2 = c1 .before in let c3 = c2 .before in
+    simp (← c3 .usize-to-u64 .ensures, ← c2 .usize-to-u642 .ensures, ← c1 .usize-to-u643 .ensures, ← c .outside .ensures)
 
 pub outside-spec : {M : Type 1} → statement M
 outside-spec =

@@ -20,15 +20,23 @@ outside-requires c κs = search needs
 
 returns-3 : tie.Need-returns-3
 unfolding readUnsound
-returns-3 c = simp (ne-eqb _ _ (c .before .before .before .before .if1 .left), ← c .before .before .before .count .ensures, le-ltb _ _ (c .before .before .if2 .left), le-leb _ _ (c .before .before .if2 .left), ← c .before .outside .ensures, c .if3 .taken)
+returns-3 c =
+    let c1 = c .before in let c2 = c1 .before in let c3 = c2 .before in let c4 = c3 .before in
+    simp (ne-eqb _ _ (c4 .if1 .left), ← c3 .count .ensures, le-ltb _ _ (c2 .if2 .left), le-leb _ _ (c2 .if2 .left), ← c1 .outside .ensures, c .if3 .taken)
 
 returns-4 : tie.Need-returns-4
 unfolding readUnsound
-returns-4 c = simp (ne-eqb _ _ (c .before .before .before .before .before .before .if1 .left), ← c .before .before .before .before .before .count .ensures, le-ltb _ _ (c .before .before .before .before .if2 .left), le-leb _ _ (c .before .before .before .before .if2 .left), ← c .before .before .before .outside .ensures, c .before .before .if3 .left, le-ltb _ _ (c .if4 .taken), le-leb _ _ (c .if4 .taken))
+returns-4 c =
+    let c2 = c .before .before in let c3 = c2 .before in let c4 = c3 .before in let c5 = c4 .before in
+    let c6 = c5 .before in
+    simp (ne-eqb _ _ (c6 .if1 .left), ← c5 .count .ensures, le-ltb _ _ (c4 .if2 .left), le-leb _ _ (c4 .if2 .left), ← c3 .outside .ensures, c2 .if3 .left, le-ltb _ _ (c .if4 .taken), le-leb _ _ (c .if4 .taken))
 
 returns-5 : tie.Need-returns-5
 unfolding readUnsound
-returns-5 c = simp (ne-eqb _ _ (c .before .before .before .before .before .before .before .if1 .left), ← c .before .before .before .before .before .before .count .ensures, le-ltb _ _ (c .before .before .before .before .before .if2 .left), le-leb _ _ (c .before .before .before .before .before .if2 .left), ← c .before .before .before .before .outside .ensures, c .before .before .before .if3 .left, lt-leb _ _ (c .before .if4 .left), lt-ltb _ _ (c .before .if4 .left))
+returns-5 c =
+    let c1 = c .before in let c3 = c1 .before .before in let c4 = c3 .before in let c5 = c4 .before in
+    let c6 = c5 .before in let c7 = c6 .before in
+    simp (ne-eqb _ _ (c7 .if1 .left), ← c6 .count .ensures, le-ltb _ _ (c5 .if2 .left), le-leb _ _ (c5 .if2 .left), ← c4 .outside .ensures, c3 .if3 .left, lt-leb _ _ (c1 .if4 .left), lt-ltb _ _ (c1 .if4 .left))
 
 pub read-unsound-spec : {M : Type 1} → statement M
 read-unsound-spec =

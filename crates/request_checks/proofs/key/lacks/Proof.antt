@@ -26,7 +26,9 @@ outside-requires c κs = search needs
 
 returns-2 : tie.Need-returns-2
 unfolding lacks
-returns-2 c = simp (ne-eqb _ _ (c .before .before .before .if1 .left), ← c .before .before .usize-to-u64 .ensures, ← c .before .outside .ensures, c .if2 .taken)
+returns-2 c =
+    let c1 = c .before in let c2 = c1 .before in let c3 = c2 .before in
+    simp (ne-eqb _ _ (c3 .if1 .left), ← c2 .usize-to-u64 .ensures, ← c1 .outside .ensures, c .if2 .taken)
 
 array-read-past-top : tie.Need-array-read-past-top
 array-read-past-top c = search needs
@@ -39,14 +41,19 @@ past-top-requires c κs = search needs
 
 returns-3 : tie.Need-returns-3
 unfolding lacks
-returns-3 c = simp (ne-eqb _ _ (c .before .before .before .before .before .if1 .left), ← c .before .before .before .before .usize-to-u64 .ensures, ← c .before .before .before .outside .ensures, c .before .before .if2 .left, ← c .before .past-top .ensures, c .if3 .taken)
+returns-3 c =
+    let c1 = c .before in let c2 = c1 .before in let c3 = c2 .before in let c4 = c3 .before in let c5 = c4 .before in
+    simp (ne-eqb _ _ (c5 .if1 .left), ← c4 .usize-to-u64 .ensures, ← c3 .outside .ensures, c2 .if2 .left, ← c1 .past-top .ensures, c .if3 .taken)
 
 array-read-if4 : tie.Need-array-read-if4
 array-read-if4 c = search needs
 
 returns-4 : tie.Need-returns-4
 unfolding lacks
-returns-4 c = simp (ne-eqb _ _ (c .before .before .before .before .before .before .if1 .left), ← c .before .before .before .before .before .usize-to-u64 .ensures, ← c .before .before .before .before .outside .ensures, c .before .before .before .if2 .left, ← c .before .before .past-top .ensures, c .before .if3 .left, lt-leb _ _ (c .if4 .taken), lt-ltb _ _ (c .if4 .taken))
+returns-4 c =
+    let c1 = c .before in let c2 = c1 .before in let c3 = c2 .before in let c4 = c3 .before in let c5 = c4 .before in
+    let c6 = c5 .before in
+    simp (ne-eqb _ _ (c6 .if1 .left), ← c5 .usize-to-u64 .ensures, ← c4 .outside .ensures, c3 .if2 .left, ← c2 .past-top .ensures, c1 .if3 .left, lt-leb _ _ (c .if4 .taken), lt-ltb _ _ (c .if4 .taken))
 
 array-read-past-end : tie.Need-array-read-past-end
 array-read-past-end c = search needs
@@ -59,7 +66,10 @@ past-end-requires c κs = search needs
 
 returns-5 : tie.Need-returns-5
 unfolding lacks
-returns-5 c = simp (ne-eqb _ _ (c .before .before .before .before .before .before .before .if1 .left), ← c .before .before .before .before .before .before .usize-to-u64 .ensures, ← c .before .before .before .before .before .outside .ensures, c .before .before .before .before .if2 .left, ← c .before .before .before .past-top .ensures, c .before .before .if3 .left, le-ltb _ _ (c .before .if4 .left), le-leb _ _ (c .before .if4 .left), ← c .past-end .ensures)
+returns-5 c =
+    let c1 = c .before in let c2 = c1 .before in let c3 = c2 .before in let c4 = c3 .before in let c5 = c4 .before in
+    let c6 = c5 .before in let c7 = c6 .before in
+    simp (ne-eqb _ _ (c7 .if1 .left), ← c6 .usize-to-u64 .ensures, ← c5 .outside .ensures, c4 .if2 .left, ← c3 .past-top .ensures, c2 .if3 .left, le-ltb _ _ (c1 .if4 .left), le-leb _ _ (c1 .if4 .left), ← c .past-end .ensures)
 
 pub lacks-spec : {M : Type 1} → statement M
 lacks-spec =

@@ -13,11 +13,15 @@ empty-last-requires c κs = search needs
 
 returns : tie.Need-returns
 unfolding sizeOff
-returns c = simp (← c .before .before .before .ends .ensures, c .before .before .if1 .taken, ← c .before .empty-last .ensures, c .if2 .taken)
+returns c =
+    let c1 = c .before in let c2 = c1 .before in let c3 = c2 .before in
+    simp (← c3 .ends .ensures, c2 .if1 .taken, ← c1 .empty-last .ensures, c .if2 .taken)
 
 returns-2 : tie.Need-returns-2
 unfolding sizeOff
-returns-2 c = simp (← c .before .before .before .ends .ensures, c .before .before .if1 .taken, ← c .before .empty-last .ensures, c .if2 .left)
+returns-2 c =
+    let c1 = c .before in let c2 = c1 .before in let c3 = c2 .before in
+    simp (← c3 .ends .ensures, c2 .if1 .taken, ← c1 .empty-last .ensures, c .if2 .left)
 
 returns-3 : tie.Need-returns-3
 unfolding sizeOff

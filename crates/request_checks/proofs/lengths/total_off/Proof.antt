@@ -20,7 +20,9 @@ over-requires c κs = search needs
 
 returns : tie.Need-returns
 unfolding totalOff
-returns c = simp (eq-eqb _ _ (c .before .before .before .if1 .taken), ← c .before .before .usize-to-u64 .ensures, ← c .before .usize-to-u642 .ensures, ← c .over .ensures)
+returns c =
+    let c1 = c .before in let c2 = c1 .before in let c3 = c2 .before in
+    simp (eq-eqb _ _ (c3 .if1 .taken), ← c2 .usize-to-u64 .ensures, ← c1 .usize-to-u642 .ensures, ← c .over .ensures)
 
 ends-requires : tie.Need-ends-requires
 ends-requires c κs = search needs
@@ -30,14 +32,18 @@ unequal-requires c κs = search needs
 
 returns-2 : tie.Need-returns-2
 unfolding totalOff
-returns-2 c = simp (ne-eqb _ _ (c .before .before .before .if1 .left), ← c .before .before .ends .ensures, c .before .if2 .taken, ← c .unequal .ensures)
+returns-2 c =
+    let c1 = c .before in let c2 = c1 .before in let c3 = c2 .before in
+    simp (ne-eqb _ _ (c3 .if1 .left), ← c2 .ends .ensures, c1 .if2 .taken, ← c .unequal .ensures)
 
 no-more-requires : tie.Need-no-more-requires
 no-more-requires c κs = search needs
 
 returns-3 : tie.Need-returns-3
 unfolding totalOff
-returns-3 c = simp (ne-eqb _ _ (c .before .before .before .if1 .left), ← c .before .before .ends .ensures, c .before .if2 .left, ← c .no-more .ensures)
+returns-3 c =
+    let c1 = c .before in let c2 = c1 .before in let c3 = c2 .before in
+    simp (ne-eqb _ _ (c3 .if1 .left), ← c2 .ends .ensures, c1 .if2 .left, ← c .no-more .ensures)
 
 pub total-off-spec : {M : Type 1} → statement M
 total-off-spec =

@@ -23,7 +23,9 @@ outside-requires c κs = search needs
 
 returns : tie.Need-returns
 unfolding entryOutside
-returns c = simp (← c .before .before .before .uses-entry .ensures, c .before .before .if1 .taken, ← c .before .usize-to-u64 .ensures, ← c .outside .ensures)
+returns c =
+    let c1 = c .before in let c2 = c1 .before in let c3 = c2 .before in
+    simp (← c3 .uses-entry .ensures, c2 .if1 .taken, ← c1 .usize-to-u64 .ensures, ← c .outside .ensures)
 
 returns-2 : tie.Need-returns-2
 unfolding entryOutside

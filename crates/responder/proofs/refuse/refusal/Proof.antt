@@ -17,18 +17,26 @@ unsound-requires c κs = search needs
 
 returns-3 : tie.Need-returns-3
 unfolding inboundRefusal
-returns-3 c = simp (le-ltb _ _ (c .before .before .before .before .if1 .left), le-leb _ _ (c .before .before .before .before .if1 .left), eq-eqb _ _ (c .before .before .if2 .left), ← c .before .unsound .ensures, c .if3 .taken)
+returns-3 c =
+    let c1 = c .before in let c2 = c1 .before in let c4 = c2 .before .before in
+    simp (le-ltb _ _ (c4 .if1 .left), le-leb _ _ (c4 .if1 .left), eq-eqb _ _ (c2 .if2 .left), ← c1 .unsound .ensures, c .if3 .taken)
 
 reads-full-requires : tie.Need-reads-full-requires
 reads-full-requires c κs = search needs
 
 returns-4 : tie.Need-returns-4
 unfolding inboundRefusal
-returns-4 c = simp (le-ltb _ _ (c .before .before .before .before .before .before .if1 .left), le-leb _ _ (c .before .before .before .before .before .before .if1 .left), eq-eqb _ _ (c .before .before .before .before .if2 .left), ← c .before .before .before .unsound .ensures, c .before .before .if3 .left, ← c .before .reads-full .ensures, c .if4 .taken)
+returns-4 c =
+    let c1 = c .before in let c2 = c1 .before in let c3 = c2 .before in let c4 = c3 .before in
+    let c6 = c4 .before .before in
+    simp (le-ltb _ _ (c6 .if1 .left), le-leb _ _ (c6 .if1 .left), eq-eqb _ _ (c4 .if2 .left), ← c3 .unsound .ensures, c2 .if3 .left, ← c1 .reads-full .ensures, c .if4 .taken)
 
 returns-5 : tie.Need-returns-5
 unfolding inboundRefusal
-returns-5 c = simp (le-ltb _ _ (c .before .before .before .before .before .before .if1 .left), le-leb _ _ (c .before .before .before .before .before .before .if1 .left), eq-eqb _ _ (c .before .before .before .before .if2 .left), ← c .before .before .before .unsound .ensures, c .before .before .if3 .left, ← c .before .reads-full .ensures, c .if4 .left)
+returns-5 c =
+    let c1 = c .before in let c2 = c1 .before in let c3 = c2 .before in let c4 = c3 .before in
+    let c6 = c4 .before .before in
+    simp (le-ltb _ _ (c6 .if1 .left), le-leb _ _ (c6 .if1 .left), eq-eqb _ _ (c4 .if2 .left), ← c3 .unsound .ensures, c2 .if3 .left, ← c1 .reads-full .ensures, c .if4 .left)
 
 pub refusal-spec : {M : Type 1} → statement M
 refusal-spec =

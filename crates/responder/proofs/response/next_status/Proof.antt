@@ -17,18 +17,26 @@ returns-2 c = simp (ne-eqb _ _ (c .before .before .if1 .left), ← c .before .no
 
 returns-3 : tie.Need-returns-3
 unfolding nextStatus
-returns-3 c = simp (ne-eqb _ _ (c .before .before .before .before .if1 .left), ← c .before .before .before .no-room .ensures, c .before .before .if2 .left, ne-eqb _ _ (c .if3 .taken))
+returns-3 c =
+    let c2 = c .before .before in let c3 = c2 .before in let c4 = c3 .before in
+    simp (ne-eqb _ _ (c4 .if1 .left), ← c3 .no-room .ensures, c2 .if2 .left, ne-eqb _ _ (c .if3 .taken))
 
 unsound-requires : tie.Need-unsound-requires
 unsound-requires c κs = search needs
 
 returns-4 : tie.Need-returns-4
 unfolding nextStatus
-returns-4 c = simp (ne-eqb _ _ (c .before .before .before .before .before .before .if1 .left), ← c .before .before .before .before .before .no-room .ensures, c .before .before .before .before .if2 .left, eq-eqb _ _ (c .before .before .if3 .left), ← c .before .unsound .ensures, c .if4 .taken)
+returns-4 c =
+    let c1 = c .before in let c2 = c1 .before in let c4 = c2 .before .before in let c5 = c4 .before in
+    let c6 = c5 .before in
+    simp (ne-eqb _ _ (c6 .if1 .left), ← c5 .no-room .ensures, c4 .if2 .left, eq-eqb _ _ (c2 .if3 .left), ← c1 .unsound .ensures, c .if4 .taken)
 
 returns-5 : tie.Need-returns-5
 unfolding nextStatus
-returns-5 c = simp (ne-eqb _ _ (c .before .before .before .before .before .before .if1 .left), ← c .before .before .before .before .before .no-room .ensures, c .before .before .before .before .if2 .left, eq-eqb _ _ (c .before .before .if3 .left), ← c .before .unsound .ensures, c .if4 .left)
+returns-5 c =
+    let c1 = c .before in let c2 = c1 .before in let c4 = c2 .before .before in let c5 = c4 .before in
+    let c6 = c5 .before in
+    simp (ne-eqb _ _ (c6 .if1 .left), ← c5 .no-room .ensures, c4 .if2 .left, eq-eqb _ _ (c2 .if3 .left), ← c1 .unsound .ensures, c .if4 .left)
 
 pub next-status-spec : {M : Type 1} → statement M
 next-status-spec =

@@ -31,7 +31,9 @@ response-extension-requires c κs = search needs
 returns : tie.Need-returns
 unfolding responseHeader replyHeader
 returns c =
-    simp (c .before .before .before .before .before .before .count .ensures, c .before .before .before .before .before .place .ensures, c .before .before .before .before .response-opcode .ensures, c .before .before .before .psn-after .ensures, c .before .before .pad .ensures, c .before .reply-bth .ensures, c .response-extension .ensures)
+    let c1 = c .before in let c2 = c1 .before in let c3 = c2 .before in let c4 = c3 .before in let c5 = c4 .before in
+    let c6 = c5 .before in
+    simp (c6 .count .ensures, c5 .place .ensures, c4 .response-opcode .ensures, c3 .psn-after .ensures, c2 .pad .ensures, c1 .reply-bth .ensures, c .response-extension .ensures)
 
 pub response-header-spec : {M : Type 1} → statement M
 response-header-spec =

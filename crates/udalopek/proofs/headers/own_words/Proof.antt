@@ -29,11 +29,16 @@ same-requires-2 c κs = search needs
 
 returns : tie.Need-returns
 unfolding ownWords
-returns c = simp (← c .before .before .before .before .before .before .before .before .before .before .bth-from .ensures, ← c .before .before .before .before .before .before .before .before .before .bth-words .ensures, ← c .before .before .before .before .before .before .same .ensures, c .before .before .before .before .before .if1 .taken, ← c .before .before .before .before .extension-from .ensures, ← c .before .before .before .extension-words .ensures, ← c .same2 .ensures)
+returns c =
+    let c3 = c .before .before .before in let c4 = c3 .before in let c5 = c4 .before in let c6 = c5 .before in
+    let c9 = c6 .before .before .before in let c10 = c9 .before in
+    simp (← c10 .bth-from .ensures, ← c9 .bth-words .ensures, ← c6 .same .ensures, c5 .if1 .taken, ← c4 .extension-from .ensures, ← c3 .extension-words .ensures, ← c .same2 .ensures)
 
 returns-2 : tie.Need-returns-2
 unfolding ownWords
-returns-2 c = simp (← c .before .before .before .before .before .bth-from .ensures, ← c .before .before .before .before .bth-words .ensures, ← c .before .same .ensures, c .if1 .left)
+returns-2 c =
+    let c1 = c .before in let c4 = c1 .before .before .before in let c5 = c4 .before in
+    simp (← c5 .bth-from .ensures, ← c4 .bth-words .ensures, ← c1 .same .ensures, c .if1 .left)
 
 pub own-words-spec : {M : Type 1} → statement M
 own-words-spec =

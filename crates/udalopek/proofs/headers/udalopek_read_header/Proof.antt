@@ -19,15 +19,17 @@ tell-header-requires c κs = search needs
 returns : tie.Need-returns
 unfolding readHeaderNumber readBth readExtension readCheck toldBth toldExtension
 returns c =
-    let A = c .before .before .before .before .before .args in
-    let e = sym (c .before .before .before .read .ensures) ∙ c .before .found .given .1 in
+    let c1 = c .before in let c3 = c1 .before .before in
+    let A = c3 .before .before .args in
+    let e = sym (c3 .read .ensures) ∙ c1 .found .given .1 in
     (sym (ap readCheck e), (sym (ap (λ h. toldBth h (A .bth .now)) e), sym (ap (λ h. toldExtension h (A .extension .now)) e)))
 
 returns-2 : tie.Need-returns-2
 unfolding readHeaderNumber readBth readExtension readCheck toldBth toldExtension
 returns-2 c =
-    let A = c .before .before .before .before .before .before .before .before .args in
-    let e = sym (c .before .before .before .before .before .before .read .ensures) ∙ c .before .before .before .before .found2 .given .1 in
+    let c4 = c .before .before .before .before in let c6 = c4 .before .before in
+    let A = c6 .before .before .args in
+    let e = sym (c6 .read .ensures) ∙ c4 .found2 .given .1 in
     (c .tell-header .ensures .0 ∙ sym (ap readCheck e), (c .tell-header .ensures .1 .0 ∙ sym (ap (λ h. toldBth h (A .bth .now)) e), c .tell-header .ensures .1 .1 ∙ sym (ap (λ h. toldExtension h (A .extension .now)) e)))
 
 pub udalopek-read-header-spec : {M : Type 1} → statement M

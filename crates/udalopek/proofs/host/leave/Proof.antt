@@ -22,8 +22,9 @@ same-length c = search needs
 
 returns : tie.Need-returns
 returns c =
-    let e = c .before .before .before .before .before .before .pair-words .ensures in
-    (c .number .ensures, (c .before .before .before .overwrite-words .ensures ∙ ap (λ x. overwriteWords (c .before .before .before .before .before .before .before .before .args .pair .now) x) (e .0), sym (ap malformed (e .0)) ∙ e .1))
+    let c3 = c .before .before .before in let c6 = c3 .before .before .before in let c8 = c6 .before .before in
+    let e = c6 .pair-words .ensures in
+    (c .number .ensures, (c3 .overwrite-words .ensures ∙ ap (λ x. overwriteWords (c8 .args .pair .now) x) (e .0), sym (ap malformed (e .0)) ∙ e .1))
 
 pub leave-spec : {M : Type 1} → statement M
 leave-spec =

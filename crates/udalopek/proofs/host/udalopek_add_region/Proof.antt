@@ -22,7 +22,10 @@ regions-malformed-requires c κs = search needs
 
 returns-2 : tie.Need-returns-2
 unfolding addNumber addTable oddRegions
-returns-2 c = simp (← c .before .before .before .before .before .before .malformed .ensures, c .before .before .before .before .before .if1 .left, ← c .before .before .before .before .pair-of .ensures, ← c .before .before .usize-to-u64 .ensures, ← c .before .regions-malformed .ensures, c .if2 .taken) (refl, refl)
+returns-2 c =
+    let c1 = c .before in let c2 = c1 .before in let c4 = c2 .before .before in let c5 = c4 .before in
+    let c6 = c5 .before in
+    simp (← c6 .malformed .ensures, c5 .if1 .left, ← c4 .pair-of .ensures, ← c2 .usize-to-u64 .ensures, ← c1 .regions-malformed .ensures, c .if2 .taken) (refl, refl)
 
 add-region-requires : tie.Need-add-region-requires
 add-region-requires c κs = search needs
@@ -32,7 +35,10 @@ number-requires c κs = search needs
 
 returns-3 : tie.Need-returns-3
 unfolding addNumber addTable oddRegions
-returns-3 c = simp (← c .before .before .before .before .before .before .before .before .before .malformed .ensures, c .before .before .before .before .before .before .before .before .if1 .left, ← c .before .before .before .before .before .before .before .pair-of .ensures, ← c .before .before .before .before .before .usize-to-u64 .ensures, ← c .before .before .before .before .regions-malformed .ensures, c .before .before .before .if2 .left, ← c .before .add-region .ensures .1, ← c .before .add-region .ensures .0, ← c .number .ensures) (refl, refl)
+returns-3 c =
+    let c1 = c .before in let c3 = c1 .before .before in let c4 = c3 .before in let c5 = c4 .before in
+    let c7 = c5 .before .before in let c8 = c7 .before in let c9 = c8 .before in
+    simp (← c9 .malformed .ensures, c8 .if1 .left, ← c7 .pair-of .ensures, ← c5 .usize-to-u64 .ensures, ← c4 .regions-malformed .ensures, c3 .if2 .left, ← c1 .add-region .ensures .1, ← c1 .add-region .ensures .0, ← c .number .ensures) (refl, refl)
 
 pub udalopek-add-region-spec : {M : Type 1} → statement M
 udalopek-add-region-spec =

@@ -35,9 +35,11 @@ same-length-2 c = search needs
 returns-2 : tie.Need-returns-2
 unfolding readyNumber readyWords
 returns-2 c =
-    let p : malformed (c .before .before .before .before .before .before .before .before .before .before .before .before .args .pair .now) ≡ false = sym (c .before .before .before .before .before .before .before .before .before .malformed .ensures) ∙ c .before .before .before .before .before .before .before .before .if1 .left in
-    let e = c .before .before .before .before .before .make-ready .ensures ∙ ap (λ x. madeReady x) (c .before .before .before .before .before .before .pair-of .ensures) in
-    (c .before .before .leave .ensures .0 ∙ ap (λ o. statusNumber (o .status)) e ∙ second _ 34 _ p, (c .before .before .leave .ensures .1 .0 ∙ put-pair _ _ p ∙ ap (λ o. pairWords (o .pair)) e ∙ second _ _ _ p, ap malformed (c .before .before .leave .ensures .1 .0 ∙ put-pair _ _ p) ∙ c .before .before .leave .ensures .1 .1 ∙ sym p))
+    let c2 = c .before .before in let c5 = c2 .before .before .before in let c6 = c5 .before in
+    let c8 = c6 .before .before in let c9 = c8 .before in let c12 = c9 .before .before .before in
+    let p : malformed (c12 .args .pair .now) ≡ false = sym (c9 .malformed .ensures) ∙ c8 .if1 .left in
+    let e = c5 .make-ready .ensures ∙ ap (λ x. madeReady x) (c6 .pair-of .ensures) in
+    (c2 .leave .ensures .0 ∙ ap (λ o. statusNumber (o .status)) e ∙ second _ 34 _ p, (c2 .leave .ensures .1 .0 ∙ put-pair _ _ p ∙ ap (λ o. pairWords (o .pair)) e ∙ second _ _ _ p, ap malformed (c2 .leave .ensures .1 .0 ∙ put-pair _ _ p) ∙ c2 .leave .ensures .1 .1 ∙ sym p))
 
 pub udalopek-make-ready-spec : {M : Type 1} → statement M
 udalopek-make-ready-spec =

@@ -27,9 +27,10 @@ same-length c = search needs
 returns : tie.Need-returns
 unfolding postNumber postWords postTable
 returns c =
-    let A = c .before .before .before .before .before .before .before .before .args in
-    let q = c .before .before .before .before .before .pair-of .ensures in
-    let p : malformed (A .pair .now) ≡ true = strange-by (A .pair .now) _ _ _ q (c .before .before .before .before .pair-words .ensures .0) (c .before .same .ensures) ∙ c .if1 .taken in
+    let c1 = c .before in let c4 = c1 .before .before .before in let c5 = c4 .before in
+    let A = c5 .before .before .before .args in
+    let q = c5 .pair-of .ensures in
+    let p : malformed (A .pair .now) ≡ true = strange-by (A .pair .now) _ _ _ q (c4 .pair-words .ensures .0) (c1 .same .ensures) ∙ c .if1 .taken in
     (first _ 34 _ p, (first _ _ _ p, (first _ _ _ p, refl)))
 
 post-entry-requires : tie.Need-post-entry-requires
@@ -53,13 +54,16 @@ same-length-2 c = search needs
 returns-2 : tie.Need-returns-2
 unfolding postNumber postWords postTable
 returns-2 c =
-    let A = c .before .before .before .before .before .before .before .before .before .before .before .before .before .before .before .before .before .before .args in
-    let q = c .before .before .before .before .before .before .before .before .before .before .before .before .before .before .before .pair-of .ensures in
-    let p : malformed (A .pair .now) ≡ false = strange-by (A .pair .now) _ _ _ q (c .before .before .before .before .before .before .before .before .before .before .before .before .before .before .pair-words .ensures .0) (c .before .before .before .before .before .before .before .before .before .before .before .same .ensures) ∙ c .before .before .before .before .before .before .before .before .before .before .if1 .left in
-    let l = left-words (A .pair .now) _ _ _ p (c .before .before .before .before .before .before .pair-words2 .ensures .0) (c .before .before .before .overwrite-words .ensures) in
-    let s = ap malformed l ∙ sym (ap malformed (c .before .before .before .before .before .before .pair-words2 .ensures .0)) ∙ c .before .before .before .before .before .before .pair-words2 .ensures .1 ∙ sym p in
-    let o = c .before .before .before .before .before .before .before .before .post-entry .ensures .0 ∙ ap (λ x. posted x (record { number = A .number; offset = A .offset; length = A .length })) q in
-    (c .number .ensures ∙ ap (λ x. statusNumber (x .status)) o ∙ second _ 34 _ p, (l ∙ ap (λ x. pairWords (x .pair)) o ∙ second _ _ _ p, (c .before .before .before .before .before .before .before .before .post-entry .ensures .1 ∙ ap (λ x. postEntries x (A .entries .now) (record { number = A .number; offset = A .offset; length = A .length })) q ∙ second _ _ _ p, s)))
+    let c3 = c .before .before .before in let c6 = c3 .before .before .before in let c8 = c6 .before .before in
+    let c10 = c8 .before .before in let c11 = c10 .before in let c14 = c11 .before .before .before in
+    let c15 = c14 .before in
+    let A = c15 .before .before .before .args in
+    let q = c15 .pair-of .ensures in
+    let p : malformed (A .pair .now) ≡ false = strange-by (A .pair .now) _ _ _ q (c14 .pair-words .ensures .0) (c11 .same .ensures) ∙ c10 .if1 .left in
+    let l = left-words (A .pair .now) _ _ _ p (c6 .pair-words2 .ensures .0) (c3 .overwrite-words .ensures) in
+    let s = ap malformed l ∙ sym (ap malformed (c6 .pair-words2 .ensures .0)) ∙ c6 .pair-words2 .ensures .1 ∙ sym p in
+    let o = c8 .post-entry .ensures .0 ∙ ap (λ x. posted x (record { number = A .number; offset = A .offset; length = A .length })) q in
+    (c .number .ensures ∙ ap (λ x. statusNumber (x .status)) o ∙ second _ 34 _ p, (l ∙ ap (λ x. pairWords (x .pair)) o ∙ second _ _ _ p, (c8 .post-entry .ensures .1 ∙ ap (λ x. postEntries x (A .entries .now) (record { number = A .number; offset = A .offset; length = A .length })) q ∙ second _ _ _ p, s)))
 
 pub udalopek-post-entry-spec : {M : Type 1} → statement M
 udalopek-post-entry-spec =

@@ -26,10 +26,11 @@ unsound-requires c κs = search needs
 returns-2 : tie.Need-returns-2
 unfolding removeNumber removeTable unmade oddRegions
 returns-2 c =
-    let A = c .before .before .before .before .before .before .args in
-    let p : malformed (A .pair .now) ≡ false = sym (c .before .before .before .before .malformed .ensures) ∙ c .before .before .before .if1 .left in
-    let q = c .before .before .pair-of .ensures in
-    let u : unmade (A .pair .now) ≡ true = ap pairUnsound (sym q) ∙ sym (c .before .unsound .ensures) ∙ c .if2 .taken in
+    let c1 = c .before in let c2 = c1 .before in let c3 = c2 .before in let c4 = c3 .before in
+    let A = c4 .before .before .args in
+    let p : malformed (A .pair .now) ≡ false = sym (c4 .malformed .ensures) ∙ c3 .if1 .left in
+    let q = c2 .pair-of .ensures in
+    let u : unmade (A .pair .now) ≡ true = ap pairUnsound (sym q) ∙ sym (c1 .unsound .ensures) ∙ c .if2 .taken in
     (first _ 34 _ u ∙ second _ 34 _ p, first _ _ _ u ∙ second _ _ _ p)
 
 usize-to-u64-requires : tie.Need-usize-to-u64-requires
@@ -41,11 +42,13 @@ regions-malformed-requires c κs = search needs
 returns-3 : tie.Need-returns-3
 unfolding removeNumber removeTable unmade oddRegions
 returns-3 c =
-    let A = c .before .before .before .before .before .before .before .before .before .before .args in
-    let p : malformed (A .pair .now) ≡ false = sym (c .before .before .before .before .before .before .before .before .malformed .ensures) ∙ c .before .before .before .before .before .before .before .if1 .left in
-    let q = c .before .before .before .before .before .before .pair-of .ensures in
-    let u : unmade (A .pair .now) ≡ false = ap pairUnsound (sym q) ∙ sym (c .before .before .before .before .before .unsound .ensures) ∙ c .before .before .before .before .if2 .left in
-    let o : oddRegions (A .pair .now) (A .regions .now) ≡ true = ap (λ x. malformedFrom (A .regions .now) (x .setup .memory) 0 16) (sym q) ∙ ap (λ n. malformedFrom (A .regions .now) n 0 16) (sym (c .before .before .usize-to-u64 .ensures)) ∙ sym (c .before .regions-malformed .ensures) ∙ c .if3 .taken in
+    let c1 = c .before in let c2 = c1 .before in let c4 = c2 .before .before in let c5 = c4 .before in
+    let c6 = c5 .before in let c7 = c6 .before in let c8 = c7 .before in
+    let A = c8 .before .before .args in
+    let p : malformed (A .pair .now) ≡ false = sym (c8 .malformed .ensures) ∙ c7 .if1 .left in
+    let q = c6 .pair-of .ensures in
+    let u : unmade (A .pair .now) ≡ false = ap pairUnsound (sym q) ∙ sym (c5 .unsound .ensures) ∙ c4 .if2 .left in
+    let o : oddRegions (A .pair .now) (A .regions .now) ≡ true = ap (λ x. malformedFrom (A .regions .now) (x .setup .memory) 0 16) (sym q) ∙ ap (λ n. malformedFrom (A .regions .now) n 0 16) (sym (c2 .usize-to-u64 .ensures)) ∙ sym (c1 .regions-malformed .ensures) ∙ c .if3 .taken in
     (first _ 34 _ o ∙ second _ 34 _ u ∙ second _ 34 _ p, first _ _ _ o ∙ second _ _ _ u ∙ second _ _ _ p)
 
 remove-region-requires : tie.Need-remove-region-requires
@@ -57,12 +60,15 @@ number-requires c κs = search needs
 returns-4 : tie.Need-returns-4
 unfolding removeNumber removeTable unmade oddRegions
 returns-4 c =
-    let A = c .before .before .before .before .before .before .before .before .before .before .before .before .before .args in
-    let p : malformed (A .pair .now) ≡ false = sym (c .before .before .before .before .before .before .before .before .before .before .before .malformed .ensures) ∙ c .before .before .before .before .before .before .before .before .before .before .if1 .left in
-    let q = c .before .before .before .before .before .before .before .before .before .pair-of .ensures in
-    let u : unmade (A .pair .now) ≡ false = ap pairUnsound (sym q) ∙ sym (c .before .before .before .before .before .before .before .before .unsound .ensures) ∙ c .before .before .before .before .before .before .before .if2 .left in
-    let o : oddRegions (A .pair .now) (A .regions .now) ≡ false = ap (λ x. malformedFrom (A .regions .now) (x .setup .memory) 0 16) (sym q) ∙ ap (λ n. malformedFrom (A .regions .now) n 0 16) (sym (c .before .before .before .before .before .usize-to-u64 .ensures)) ∙ sym (c .before .before .before .before .regions-malformed .ensures) ∙ c .before .before .before .if3 .left in
-    (c .number .ensures ∙ ap statusNumber (c .before .remove-region .ensures .0) ∙ second _ 34 _ o ∙ second _ 34 _ u ∙ second _ 34 _ p, c .before .remove-region .ensures .1 ∙ second _ _ _ o ∙ second _ _ _ u ∙ second _ _ _ p)
+    let c1 = c .before in let c3 = c1 .before .before in let c4 = c3 .before in let c5 = c4 .before in
+    let c7 = c5 .before .before in let c8 = c7 .before in let c9 = c8 .before in let c10 = c9 .before in
+    let c11 = c10 .before in
+    let A = c11 .before .before .args in
+    let p : malformed (A .pair .now) ≡ false = sym (c11 .malformed .ensures) ∙ c10 .if1 .left in
+    let q = c9 .pair-of .ensures in
+    let u : unmade (A .pair .now) ≡ false = ap pairUnsound (sym q) ∙ sym (c8 .unsound .ensures) ∙ c7 .if2 .left in
+    let o : oddRegions (A .pair .now) (A .regions .now) ≡ false = ap (λ x. malformedFrom (A .regions .now) (x .setup .memory) 0 16) (sym q) ∙ ap (λ n. malformedFrom (A .regions .now) n 0 16) (sym (c5 .usize-to-u64 .ensures)) ∙ sym (c4 .regions-malformed .ensures) ∙ c3 .if3 .left in
+    (c .number .ensures ∙ ap statusNumber (c1 .remove-region .ensures .0) ∙ second _ 34 _ o ∙ second _ 34 _ u ∙ second _ 34 _ p, c1 .remove-region .ensures .1 ∙ second _ _ _ o ∙ second _ _ _ u ∙ second _ _ _ p)
 
 pub udalopek-remove-region-spec : {M : Type 1} → statement M
 udalopek-remove-region-spec =

@@ -33,9 +33,10 @@ same-length-2 c = search needs
 returns-2 : tie.Need-returns-2
 unfolding resetNumber resetWords resetTable unmade
 returns-2 c =
-    let A = c .before .before .before .before .before .before .before .before .args in
-    let p : malformed (A .pair .now) ≡ false = sym (c .before .before .before .before .before .malformed .ensures) ∙ c .before .before .before .before .if1 .left in
-    let u : unmade (A .pair .now) ≡ true = ap pairUnsound (sym (c .before .before .pair-of .ensures)) ∙ sym (c .before .unsound .ensures) ∙ c .if2 .taken in
+    let c1 = c .before in let c2 = c1 .before in let c4 = c2 .before .before in let c5 = c4 .before in
+    let A = c5 .before .before .before .args in
+    let p : malformed (A .pair .now) ≡ false = sym (c5 .malformed .ensures) ∙ c4 .if1 .left in
+    let u : unmade (A .pair .now) ≡ true = ap pairUnsound (sym (c2 .pair-of .ensures)) ∙ sym (c1 .unsound .ensures) ∙ c .if2 .taken in
     (first _ 34 _ u ∙ second _ 34 _ p, (first _ _ _ u ∙ second _ _ _ p, (first _ _ _ u ∙ second _ _ _ p, refl)))
 
 reset-requires : tie.Need-reset-requires
@@ -50,12 +51,14 @@ same-length-3 c = search needs
 returns-3 : tie.Need-returns-3
 unfolding resetNumber resetWords resetTable unmade
 returns-3 c =
-    let A = c .before .before .before .before .before .before .before .before .before .before .before .before .before .before .before .args in
-    let p : malformed (A .pair .now) ≡ false = sym (c .before .before .before .before .before .before .before .before .before .before .before .before .malformed .ensures) ∙ c .before .before .before .before .before .before .before .before .before .before .before .if1 .left in
-    let q = c .before .before .before .before .before .before .before .before .before .pair-of .ensures in
-    let u : unmade (A .pair .now) ≡ false = ap pairUnsound (sym q) ∙ sym (c .before .before .before .before .before .before .before .before .unsound .ensures) ∙ c .before .before .before .before .before .before .before .if2 .left in
-    let e = c .before .before .before .before .before .reset .ensures .0 ∙ ap resetTo q in
-    (c .before .before .leave .ensures .0 ∙ ap (λ o. statusNumber (o .status)) e ∙ second _ 34 _ u ∙ second _ 34 _ p, (c .before .before .leave .ensures .1 .0 ∙ put-pair _ _ p ∙ ap (λ o. pairWords (o .pair)) e ∙ second _ _ _ u ∙ second _ _ _ p, (c .before .before .before .before .before .reset .ensures .1 ∙ ap (λ x. resetRegions x (A .regions .now)) q ∙ second _ _ _ u ∙ second _ _ _ p, ap malformed (c .before .before .leave .ensures .1 .0 ∙ put-pair _ _ p) ∙ c .before .before .leave .ensures .1 .1 ∙ sym p)))
+    let c2 = c .before .before in let c5 = c2 .before .before .before in let c7 = c5 .before .before in
+    let c8 = c7 .before in let c9 = c8 .before in let c11 = c9 .before .before in let c12 = c11 .before in
+    let A = c12 .before .before .before .args in
+    let p : malformed (A .pair .now) ≡ false = sym (c12 .malformed .ensures) ∙ c11 .if1 .left in
+    let q = c9 .pair-of .ensures in
+    let u : unmade (A .pair .now) ≡ false = ap pairUnsound (sym q) ∙ sym (c8 .unsound .ensures) ∙ c7 .if2 .left in
+    let e = c5 .reset .ensures .0 ∙ ap resetTo q in
+    (c2 .leave .ensures .0 ∙ ap (λ o. statusNumber (o .status)) e ∙ second _ 34 _ u ∙ second _ 34 _ p, (c2 .leave .ensures .1 .0 ∙ put-pair _ _ p ∙ ap (λ o. pairWords (o .pair)) e ∙ second _ _ _ u ∙ second _ _ _ p, (c5 .reset .ensures .1 ∙ ap (λ x. resetRegions x (A .regions .now)) q ∙ second _ _ _ u ∙ second _ _ _ p, ap malformed (c2 .leave .ensures .1 .0 ∙ put-pair _ _ p) ∙ c2 .leave .ensures .1 .1 ∙ sym p)))
 
 pub udalopek-reset-spec : {M : Type 1} → statement M
 udalopek-reset-spec =

@@ -29,10 +29,11 @@ number-requires c κs = search needs
 returns-2 : tie.Need-returns-2
 unfolding setUpNumber setUpWords setUpTable otherLength executed
 returns-2 c =
-    let t = ap not (eq-eqb _ _ (c .before .before .before .before .if1 .left)) in
-    let n = c .before .number .ensures ∙ ap (λ o. statusNumber (o .status)) (c .before .before .set-up .ensures .0) in
+    let c1 = c .before in let c2 = c1 .before in let c4 = c2 .before .before in
+    let t = ap not (eq-eqb _ _ (c4 .if1 .left)) in
+    let n = c1 .number .ensures ∙ ap (λ o. statusNumber (o .status)) (c2 .set-up .ensures .0) in
     let x = ap (λ m. eqb m 0) (sym n) ∙ ne-eqb _ _ (c .if2 .taken) in
-    (n ∙ second _ 34 _ t, (second _ _ _ x ∙ second _ _ _ t, (c .before .before .set-up .ensures .1 ∙ second _ _ _ t, λ z. absurd (c .if2 .taken z))))
+    (n ∙ second _ 34 _ t, (second _ _ _ x ∙ second _ _ _ t, (c2 .set-up .ensures .1 ∙ second _ _ _ t, λ z. absurd (c .if2 .taken z))))
 
 leave-requires : tie.Need-leave-requires
 leave-requires c κs = search needs
@@ -43,11 +44,13 @@ same-length c = search needs
 returns-3 : tie.Need-returns-3
 unfolding setUpNumber setUpWords setUpTable otherLength executed
 returns-3 c =
-    let t = ap not (eq-eqb _ _ (c .before .before .before .before .before .before .before .before .before .if1 .left)) in
-    let e = c .before .before .before .before .before .before .before .set-up .ensures .0 in
-    let n = c .before .before .before .before .before .before .number .ensures ∙ ap (λ o. statusNumber (o .status)) e in
-    let x = ap (λ m. eqb m 0) (sym n) ∙ eq-eqb _ _ (c .before .before .before .before .before .if2 .left) in
-    (c .before .before .leave .ensures .0 ∙ ap (λ o. statusNumber (o .status)) e ∙ second _ 34 _ t, (c .before .before .leave .ensures .1 .0 ∙ put-many _ _ (c .before .before .before .before .before .before .before .before .before .if1 .left) ∙ ap (λ o. pairWords (o .pair)) e ∙ first _ _ _ x ∙ second _ _ _ t, (c .before .before .before .before .before .before .before .set-up .ensures .1 ∙ second _ _ _ t, λ z. ap malformed (c .before .before .leave .ensures .1 .0 ∙ put-many _ _ (c .before .before .before .before .before .before .before .before .before .if1 .left)) ∙ c .before .before .leave .ensures .1 .1)))
+    let c2 = c .before .before in let c5 = c2 .before .before .before in let c6 = c5 .before in let c7 = c6 .before in
+    let c9 = c7 .before .before in
+    let t = ap not (eq-eqb _ _ (c9 .if1 .left)) in
+    let e = c7 .set-up .ensures .0 in
+    let n = c6 .number .ensures ∙ ap (λ o. statusNumber (o .status)) e in
+    let x = ap (λ m. eqb m 0) (sym n) ∙ eq-eqb _ _ (c5 .if2 .left) in
+    (c2 .leave .ensures .0 ∙ ap (λ o. statusNumber (o .status)) e ∙ second _ 34 _ t, (c2 .leave .ensures .1 .0 ∙ put-many _ _ (c9 .if1 .left) ∙ ap (λ o. pairWords (o .pair)) e ∙ first _ _ _ x ∙ second _ _ _ t, (c7 .set-up .ensures .1 ∙ second _ _ _ t, λ z. ap malformed (c2 .leave .ensures .1 .0 ∙ put-many _ _ (c9 .if1 .left)) ∙ c2 .leave .ensures .1 .1)))
 
 pub udalopek-set-up-spec : {M : Type 1} → statement M
 udalopek-set-up-spec =

@@ -20,7 +20,9 @@ u32-to-u64-requires c κs = search needs
 
 returns : tie.Need-returns
 unfolding reportWords
-returns c = simp (← c .before .before .before .before .usize-to-u64 .ensures, ← c .before .before .before .bool-to-u64 .ensures, ← c .before .before .usize-to-u642 .ensures, ← c .before .bool-to-u642 .ensures, ← c .u32-to-u64 .ensures .0)
+returns c =
+    let c1 = c .before in let c2 = c1 .before in let c3 = c2 .before in let c4 = c3 .before in
+    simp (← c4 .usize-to-u64 .ensures, ← c3 .bool-to-u64 .ensures, ← c2 .usize-to-u642 .ensures, ← c1 .bool-to-u642 .ensures, ← c .u32-to-u64 .ensures .0)
 
 pub report-words-spec : {M : Type 1} → statement M
 report-words-spec =

@@ -28,9 +28,10 @@ same-length c = search needs
 returns : tie.Need-returns
 unfolding inboundNumber inboundWords inboundRows inboundBytes inboundOutput inboundReport
 returns c =
-    let A = c .before .before .before .before .before .before .before .before .before .before .before .before .args in
-    let q = c .before .before .before .before .before .before .pair-of .ensures in
-    let p : malformed (A .pair .now) ≡ true = strange-by (A .pair .now) _ _ _ q (c .before .before .before .before .before .pair-words .ensures .0) (c .before .before .same .ensures) ∙ c .before .if1 .taken in
+    let c1 = c .before in let c2 = c1 .before in let c5 = c2 .before .before .before in let c6 = c5 .before in
+    let A = c6 .before .before .before .before .before .before .args in
+    let q = c6 .pair-of .ensures in
+    let p : malformed (A .pair .now) ≡ true = strange-by (A .pair .now) _ _ _ q (c5 .pair-words .ensures .0) (c2 .same .ensures) ∙ c1 .if1 .taken in
     let r = refused-words (A .pair .now) (A .regions .now) (A .packet .now) p in
     (first _ 34 _ r, (first _ _ _ r, (first _ _ _ r, (first _ _ _ r, (first _ _ _ r, (first _ _ _ r, refl))))))
 
@@ -46,10 +47,12 @@ same-length-2 c = search needs
 returns-2 : tie.Need-returns-2
 unfolding inboundNumber inboundWords inboundRows inboundBytes inboundOutput inboundReport
 returns-2 c =
-    let A = c .before .before .before .before .before .before .before .before .before .before .before .before .before .before .before .args in
-    let q = c .before .before .before .before .before .before .before .before .before .pair-of .ensures in
-    let p : malformed (A .pair .now) ≡ false = strange-by (A .pair .now) _ _ _ q (c .before .before .before .before .before .before .before .before .pair-words .ensures .0) (c .before .before .before .before .before .same .ensures) ∙ c .before .before .before .before .if1 .left in
-    let h = ap (λ x. malformedFor (A .regions .now) (x .setup .memory) (A .packet .now)) (sym q) ∙ ap (λ n. malformedFor (A .regions .now) n (A .packet .now)) (sym (c .before .before .before .usize-to-u64 .ensures)) ∙ sym (c .before .before .malformed-for .ensures) ∙ c .before .if2 .taken in
+    let c1 = c .before in let c2 = c1 .before in let c3 = c2 .before in let c4 = c3 .before in let c5 = c4 .before in
+    let c8 = c5 .before .before .before in let c9 = c8 .before in
+    let A = c9 .before .before .before .before .before .before .args in
+    let q = c9 .pair-of .ensures in
+    let p : malformed (A .pair .now) ≡ false = strange-by (A .pair .now) _ _ _ q (c8 .pair-words .ensures .0) (c5 .same .ensures) ∙ c4 .if1 .left in
+    let h = ap (λ x. malformedFor (A .regions .now) (x .setup .memory) (A .packet .now)) (sym q) ∙ ap (λ n. malformedFor (A .regions .now) n (A .packet .now)) (sym (c3 .usize-to-u64 .ensures)) ∙ sym (c2 .malformed-for .ensures) ∙ c1 .if2 .taken in
     let r = refused-rows (A .pair .now) (A .regions .now) (A .packet .now) _ p h in
     (first _ 34 _ r, (first _ _ _ r, (first _ _ _ r, (first _ _ _ r, (first _ _ _ r, (first _ _ _ r, refl))))))
 
@@ -83,15 +86,19 @@ same-length-5 c = search needs
 returns-3 : tie.Need-returns-3
 unfolding inboundNumber inboundWords inboundRows inboundBytes inboundOutput inboundReport
 returns-3 c =
-    let A = c .before .before .before .before .before .before .before .before .before .before .before .before .before .before .before .before .before .before .before .before .before .before .before .before .before .before .before .before .before .before .before .before .args in
-    let q = c .before .before .before .before .before .before .before .before .before .before .before .before .before .before .before .before .before .before .before .before .before .before .before .before .before .before .pair-of .ensures in
-    let p : malformed (A .pair .now) ≡ false = strange-by (A .pair .now) _ _ _ q (c .before .before .before .before .before .before .before .before .before .before .before .before .before .before .before .before .before .before .before .before .before .before .before .before .before .pair-words .ensures .0) (c .before .before .before .before .before .before .before .before .before .before .before .before .before .before .before .before .before .before .before .before .before .before .same .ensures) ∙ c .before .before .before .before .before .before .before .before .before .before .before .before .before .before .before .before .before .before .before .before .before .if1 .left in
-    let h = ap (λ x. malformedFor (A .regions .now) (x .setup .memory) (A .packet .now)) (sym q) ∙ ap (λ n. malformedFor (A .regions .now) n (A .packet .now)) (sym (c .before .before .before .before .before .before .before .before .before .before .before .before .before .before .before .before .before .before .before .before .usize-to-u64 .ensures)) ∙ sym (c .before .before .before .before .before .before .before .before .before .before .before .before .before .before .before .before .before .before .before .malformed-for .ensures) ∙ c .before .before .before .before .before .before .before .before .before .before .before .before .before .before .before .before .before .before .if2 .left in
+    let c3 = c .before .before .before in let c6 = c3 .before .before .before in let c8 = c6 .before .before in
+    let c14 = c8 .before .before .before .before .before .before in let c18 = c14 .before .before .before .before in
+    let c19 = c18 .before in let c20 = c19 .before in let c21 = c20 .before in let c22 = c21 .before in
+    let c25 = c22 .before .before .before in let c26 = c25 .before in
+    let A = c26 .before .before .before .before .before .before .args in
+    let q = c26 .pair-of .ensures in
+    let p : malformed (A .pair .now) ≡ false = strange-by (A .pair .now) _ _ _ q (c25 .pair-words .ensures .0) (c22 .same .ensures) ∙ c21 .if1 .left in
+    let h = ap (λ x. malformedFor (A .regions .now) (x .setup .memory) (A .packet .now)) (sym q) ∙ ap (λ n. malformedFor (A .regions .now) n (A .packet .now)) (sym (c20 .usize-to-u64 .ensures)) ∙ sym (c19 .malformed-for .ensures) ∙ c18 .if2 .left in
     let r = refused-rows (A .pair .now) (A .regions .now) (A .packet .now) _ p h in
-    let l = left-words (A .pair .now) _ _ _ p (c .before .before .before .before .before .before .pair-words2 .ensures .0) (c .before .before .before .overwrite-words .ensures) in
-    let s = ap malformed l ∙ sym (ap malformed (c .before .before .before .before .before .before .pair-words2 .ensures .0)) ∙ c .before .before .before .before .before .before .pair-words2 .ensures .1 ∙ sym p in
-    let o = c .before .before .before .before .before .before .before .before .before .before .before .before .before .before .inbound .ensures .0 ∙ ap (λ x. inbound x (A .regions .now) (A .entries .now) (A .saved .now) (A .mem .now) (A .packet .now) (A .out .now)) q in
-    (c .number .ensures ∙ ap (λ x. statusNumber (x .status)) o ∙ second _ 34 _ r, (l ∙ ap (λ x. pairWords (x .pair)) o ∙ second _ _ _ r, (c .before .before .before .before .before .before .before .before .before .before .before .before .before .before .inbound .ensures .1 .1 .0 ∙ ap (λ x. inboundSaved x (A .regions .now) (A .entries .now) (A .saved .now) (A .mem .now) (A .packet .now) (A .out .now)) q ∙ second _ _ _ r, (c .before .before .before .before .before .before .before .before .before .before .before .before .before .before .inbound .ensures .1 .0 ∙ ap (λ x. inboundMemory x (A .regions .now) (A .entries .now) (A .saved .now) (A .mem .now) (A .packet .now) (A .out .now)) q ∙ second _ _ _ r, (c .before .before .before .before .before .before .before .before .before .before .before .before .before .before .inbound .ensures .1 .1 .1 ∙ ap (λ x. inboundOut x (A .regions .now) (A .entries .now) (A .saved .now) (A .mem .now) (A .packet .now) (A .out .now)) q ∙ second _ _ _ r, (c .before .before .before .before .before .before .before .before .report-words .ensures ∙ ap (λ x. reportWords (x .outgoing) (x .completion)) o ∙ second _ _ _ r, s))))))
+    let l = left-words (A .pair .now) _ _ _ p (c6 .pair-words2 .ensures .0) (c3 .overwrite-words .ensures) in
+    let s = ap malformed l ∙ sym (ap malformed (c6 .pair-words2 .ensures .0)) ∙ c6 .pair-words2 .ensures .1 ∙ sym p in
+    let o = c14 .inbound .ensures .0 ∙ ap (λ x. inbound x (A .regions .now) (A .entries .now) (A .saved .now) (A .mem .now) (A .packet .now) (A .out .now)) q in
+    (c .number .ensures ∙ ap (λ x. statusNumber (x .status)) o ∙ second _ 34 _ r, (l ∙ ap (λ x. pairWords (x .pair)) o ∙ second _ _ _ r, (c14 .inbound .ensures .1 .1 .0 ∙ ap (λ x. inboundSaved x (A .regions .now) (A .entries .now) (A .saved .now) (A .mem .now) (A .packet .now) (A .out .now)) q ∙ second _ _ _ r, (c14 .inbound .ensures .1 .0 ∙ ap (λ x. inboundMemory x (A .regions .now) (A .entries .now) (A .saved .now) (A .mem .now) (A .packet .now) (A .out .now)) q ∙ second _ _ _ r, (c14 .inbound .ensures .1 .1 .1 ∙ ap (λ x. inboundOut x (A .regions .now) (A .entries .now) (A .saved .now) (A .mem .now) (A .packet .now) (A .out .now)) q ∙ second _ _ _ r, (c8 .report-words .ensures ∙ ap (λ x. reportWords (x .outgoing) (x .completion)) o ∙ second _ _ _ r, s))))))
 
 pub udalopek-inbound-spec : {M : Type 1} → statement M
 udalopek-inbound-spec =

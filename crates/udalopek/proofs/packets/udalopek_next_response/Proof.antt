@@ -29,9 +29,10 @@ same-length c = search needs
 returns : tie.Need-returns
 unfolding nextNumber nextWords nextOutput nextReport
 returns c =
-    let A = c .before .before .before .before .before .before .before .before .before .before .before .args in
-    let q = c .before .before .before .before .before .before .pair-of .ensures in
-    let p : malformed (A .pair .now) ≡ true = strange-by (A .pair .now) _ _ _ q (c .before .before .before .before .before .pair-words .ensures .0) (c .before .before .same .ensures) ∙ c .before .if1 .taken in
+    let c1 = c .before in let c2 = c1 .before in let c5 = c2 .before .before .before in let c6 = c5 .before in
+    let A = c6 .before .before .before .before .before .args in
+    let q = c6 .pair-of .ensures in
+    let p : malformed (A .pair .now) ≡ true = strange-by (A .pair .now) _ _ _ q (c5 .pair-words .ensures .0) (c2 .same .ensures) ∙ c1 .if1 .taken in
     (first _ 34 _ p, (first _ _ _ p, (first _ _ _ p, (first _ _ _ p, refl))))
 
 next-response-requires : tie.Need-next-response-requires
@@ -61,13 +62,16 @@ same-length-3 c = search needs
 returns-2 : tie.Need-returns-2
 unfolding nextNumber nextWords nextOutput nextReport
 returns-2 c =
-    let A = c .before .before .before .before .before .before .before .before .before .before .before .before .before .before .before .before .before .before .before .before .before .before .before .before .args in
-    let q = c .before .before .before .before .before .before .before .before .before .before .before .before .before .before .before .before .before .before .before .pair-of .ensures in
-    let p : malformed (A .pair .now) ≡ false = strange-by (A .pair .now) _ _ _ q (c .before .before .before .before .before .before .before .before .before .before .before .before .before .before .before .before .before .before .pair-words .ensures .0) (c .before .before .before .before .before .before .before .before .before .before .before .before .before .before .before .same .ensures) ∙ c .before .before .before .before .before .before .before .before .before .before .before .before .before .before .if1 .left in
-    let l = left-words (A .pair .now) _ _ _ p (c .before .before .before .before .before .before .pair-words2 .ensures .0) (c .before .before .before .overwrite-words .ensures) in
-    let s = ap malformed l ∙ sym (ap malformed (c .before .before .before .before .before .before .pair-words2 .ensures .0)) ∙ c .before .before .before .before .before .before .pair-words2 .ensures .1 ∙ sym p in
-    let o = c .before .before .before .before .before .before .before .before .before .before .before .before .next-response .ensures .0 ∙ ap (λ x. nextResponse x (A .mem .now) (A .out .now)) q in
-    (c .number .ensures ∙ ap (λ x. statusNumber (x .status)) o ∙ second _ 34 _ p, (l ∙ ap (λ x. pairWords (x .pair)) o ∙ second _ _ _ p, (c .before .before .before .before .before .before .before .before .before .before .before .before .next-response .ensures .1 ∙ ap (λ x. nextOut x (A .mem .now) (A .out .now)) q ∙ second _ _ _ p, (ap (λ n. n ∷ []) (c .before .before .before .before .before .before .before .before .before .usize-to-u64 .ensures ∙ ap (λ x. x .outgoing) o) ∙ second _ _ _ p, s))))
+    let c3 = c .before .before .before in let c6 = c3 .before .before .before in let c9 = c6 .before .before .before in
+    let c12 = c9 .before .before .before in let c14 = c12 .before .before in let c15 = c14 .before in
+    let c18 = c15 .before .before .before in let c19 = c18 .before in
+    let A = c19 .before .before .before .before .before .args in
+    let q = c19 .pair-of .ensures in
+    let p : malformed (A .pair .now) ≡ false = strange-by (A .pair .now) _ _ _ q (c18 .pair-words .ensures .0) (c15 .same .ensures) ∙ c14 .if1 .left in
+    let l = left-words (A .pair .now) _ _ _ p (c6 .pair-words2 .ensures .0) (c3 .overwrite-words .ensures) in
+    let s = ap malformed l ∙ sym (ap malformed (c6 .pair-words2 .ensures .0)) ∙ c6 .pair-words2 .ensures .1 ∙ sym p in
+    let o = c12 .next-response .ensures .0 ∙ ap (λ x. nextResponse x (A .mem .now) (A .out .now)) q in
+    (c .number .ensures ∙ ap (λ x. statusNumber (x .status)) o ∙ second _ 34 _ p, (l ∙ ap (λ x. pairWords (x .pair)) o ∙ second _ _ _ p, (c12 .next-response .ensures .1 ∙ ap (λ x. nextOut x (A .mem .now) (A .out .now)) q ∙ second _ _ _ p, (ap (λ n. n ∷ []) (c9 .usize-to-u64 .ensures ∙ ap (λ x. x .outgoing) o) ∙ second _ _ _ p, s))))
 
 pub udalopek-next-response-spec : {M : Type 1} → statement M
 udalopek-next-response-spec =
