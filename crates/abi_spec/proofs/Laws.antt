@@ -13,7 +13,7 @@ use Rattle.pair.specs.Pair.{freshPair, blankPair}
 use Rattle.pair.specs.declared.Pair.{Pair}
 use Rattle.abi_spec.specs.Words.{eqWords, overwriteWords, flag, bit}
 use Rattle.abi_spec.specs.Pair.{narrowed, pairOf, pairWords, malformed, setupOf, messageOf, readOf}
-use Rattle.abi_spec.specs.Claims.{SameIs, LetIn, PairBack, SaidFits, OthersStrange, SetupFields, PairFields}
+use Rattle.abi_spec.specs.Claims.{SameIs, LetIn, PairBack, SaidFits, OthersMalformed, SetupFields, PairFields}
 
 pub same-self : (a : List ℕ) → eqWords a a ≡ true
 unfolding eqWords
@@ -131,8 +131,8 @@ said-fits w = go (ltb (length w) 30)
       state = omega arith;
     }
 
-pub others-strange : OthersStrange
-others-strange w n = go (malformed w) refl
+pub others-malformed : OthersMalformed
+others-malformed w n = go (malformed w) refl
   where
     go : (b : Bool) → malformed w ≡ b → malformed w ≡ true
     go true e = e

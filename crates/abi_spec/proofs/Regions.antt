@@ -14,7 +14,7 @@ use Rattle.table.specs.declared.Region.{Region}
 use Rattle.table.specs.Claims.{RowSound, RegionFits, Free}
 use Rattle.table.proofs.Regions.{region-tested}
 use Rattle.abi_spec.specs.Rows.{noRegionsRow, rowMalformed, malformedFrom}
-use Rattle.abi_spec.specs.Claims.{RegionsLetIn, RowsKnown, RowStrange, RegionNumbers}
+use Rattle.abi_spec.specs.Claims.{RegionsLetIn, RowsKnown, RowsTested, RegionNumbers}
 
 bit-small : (b : Bool) → ltb 1 (cond b 1 0) ≡ false
 bit-small true = refl
@@ -105,8 +105,8 @@ at-row memory rows (suc n) i e j h k = go (rowMalformed (getD rows i []) memory)
 pub rows-known : RowsKnown
 rows-known memory rows e i h = known-row memory (getD rows i []) (at-row memory rows 16 0 e i (omega arith) (omega arith))
 
-pub row-strange : RowStrange
-row-strange memory rows i h n = go (malformedFrom rows memory 0 16) refl
+pub rows-tested : RowsTested
+rows-tested memory rows i h n = go (malformedFrom rows memory 0 16) refl
   where
     go : (b : Bool) → malformedFrom rows memory 0 16 ≡ b → malformedFrom rows memory 0 16 ≡ true
     go true e = e

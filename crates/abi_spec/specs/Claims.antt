@@ -51,8 +51,8 @@ pub record PairFields (q : Pair) : Type 0 where
 abbrev pub SaidFits : Type 0
 SaidFits = (w : List ℕ) → PairFields (pairOf w)
 
-abbrev pub OthersStrange : Type 0
-OthersStrange = (w : List ℕ) → ((q : Pair) → PairFields q → w ≡ pairWords q → ⊥) → malformed w ≡ true
+abbrev pub OthersMalformed : Type 0
+OthersMalformed = (w : List ℕ) → ((q : Pair) → PairFields q → w ≡ pairWords q → ⊥) → malformed w ≡ true
 
 -- The words of a pair say that pair, and are accepted.
 abbrev pub PairBack : Type 0
@@ -79,8 +79,8 @@ RowsKnown =
     → (i : ℕ) → i < 16 → Free (getD rows i []) ⊎ RegionNumbers memory (getD rows i [])
 
 -- So one row that is neither makes the table malformed.
-abbrev pub RowStrange : Type 0
-RowStrange =
+abbrev pub RowsTested : Type 0
+RowsTested =
     (memory : ℕ) (rows : List (List ℕ)) (i : ℕ) → i < 16 → (Free (getD rows i []) ⊎ RegionNumbers memory (getD rows i []) → ⊥)
     → malformedFrom rows memory 0 16 ≡ true
 

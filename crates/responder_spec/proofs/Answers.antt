@@ -43,7 +43,7 @@ use Rattle.responder_spec.specs.Decide.{duplicateReadFails, duplicateRea
 use Rattle.responder_spec.specs.Decide.{regionFor, headEntry, decisionByClass, rcDecision, packetDecision}
 use Rattle.responder_spec.specs.Decide.{readsFull, inboundRefusal, decided}
 use Rattle.responder_spec.specs.Inbound.{outcomeBy, decision, inbound}
-use Rattle.responder_spec.specs.Answers.{Willing, headerBy, HeaderDropped, entryAtHead, Expects, Aheads, Again, Repeats, Classed, HeaderPassed, SentAgain, RepeatedSent}
+use Rattle.responder_spec.specs.Answers.{Willing, headerBy, HeaderDropped, entryAtHead, Expects, Aheads, ReadAnswerable, DuplicateAnswers, Classed, HeaderPassed, DuplicateReplies, DuplicateSent}
 use Rattle.responder_spec.proofs.Codes.{Codes, codes}
 
 -- nothing refuses the call
@@ -192,10 +192,10 @@ is-on : (b : Bool) → not b ≡ false → b ≡ true
 is-on true h = refl
 is-on false h = sym h
 
-pub again-tested : (q : Pair) (regions : List (List ℕ)) (k : Packet) (t : OpenMessage)
-    → Tells (duplicateReadFails k (q .setup) t (q .expected) (regionOf (t .key) regions)) (Again q regions k t)
+pub duplicate-tested : (q : Pair) (regions : List (List ℕ)) (k : Packet) (t : OpenMessage)
+    → Tells (duplicateReadFails k (q .setup) t (q .expected) (regionOf (t .key) regions)) (ReadAnswerable q regions k t)
 unfolding duplicateReadFails notEnabled
-again-tested q regions k t = (forth, back)
+duplicate-tested q regions k t = (forth, back)
   where
     region : List ℕ
     region = regionOf (t .key) regions
@@ -203,7 +203,7 @@ again-tested q regions k t = (forth, back)
     K : Tells (keyFails (q .setup .memory) 12 t (regionOf (t .key) regions)) (KeyGood 12 (q .setup .memory) t (regionOf (t .key) regions))
     K = key-tested 12 (q .setup .memory) t (regionOf (t .key) regions) (inr (inl refl))
 
-    forth : duplicateReadFails k (q .setup) t (q .expected) (regionOf (t .key) regions) ≡ false → Again q regions k t
+    forth : duplicateReadFails k (q .setup) t (q .expected) (regionOf (t .key) regions) ≡ false → ReadAnswerable q regions k t
     forth h =
         let a = or-right (not (q .setup .read)) _ h in
         let b = or-right (overLimit (t .length)) _ a in
@@ -219,7 +219,7 @@ again-tested q regions k t = (forth, back)
           before = ltb-false (distance (q .expected .0) (k .psn .0)) (pieces (t .length) (q .setup .pmtu)) e;
         }
 
-    back : Again q regions k t → duplicateReadFails k (q .setup) t (q .expected) (regionOf (t .key) regions) ≡ false
+    back : ReadAnswerable q regions k t → duplicateReadFails k (q .setup) t (q .expected) (regionOf (t .key) regions) ≡ false
     back A =
         neither (ap not (A .on))
         (neither (limit-tested (t .length) .1 (A .limit))
@@ -278,25 +278,25 @@ not-atomic kind n = neither (ne-eqb kind 19 (λ e. n (inl e))) (ne-eqb kind 20 (
 
 duplicate-by : (q : Pair) (regions : List (List ℕ)) (rows : List (List ℕ)) (k : Packet) (t : OpenMessage) → Carries (k .kind) ⊎ (12 ≤ k .kind)
     → current (q .message) k ≡ t
-    → Repeats q regions rows k t
+    → DuplicateAnswers q regions rows k t
     (statusNumber (duplicateDecision k (q .setup) (q .expected) (current (q .message) k) (regionFor (k .kind) (current (q .message) k .key) regions) (newestSaved (k .psn .0) rows (q .saved)) .status))
 unfolding duplicateDecision duplicateRead statusNumber noReply acknowledging
 duplicate-by q regions rows k t K e =
-    subst (λ x. Repeats q regions rows k t
+    subst (λ x. DuplicateAnswers q regions rows k t
     (statusNumber (duplicateDecision k (q .setup) (q .expected) x (regionFor (k .kind) (x .key) regions) (newestSaved (k .psn .0) rows (q .saved)) .status))) (sym e)
     (record {
       carried = λ c. rw (carry (k .kind) c);
-      reads = λ r A. rw (bare (k .kind) (omega arith), eq-eqb (k .kind) 12 r, region-read (k .kind) (t .key) regions r, again-tested q regions k t .1 A);
+      reads = λ r A. rw (bare (k .kind) (omega arith), eq-eqb (k .kind) 12 r, region-read (k .kind) (t .key) regions r, duplicate-tested q regions k t .1 A);
       unread = λ r n. rw (bare (k .kind) (omega arith), eq-eqb (k .kind) 12 r, region-read (k .kind) (t .key) regions r, failing n);
       found = λ a v f. let h = high (k .kind) a in rw (bare (k .kind) (omega arith), ne-eqb (k .kind) 12 (λ z. omega arith), atomic-is (k .kind) a, f);
       lost = λ a f. let h = high (k .kind) a in rw (bare (k .kind) (omega arith), ne-eqb (k .kind) 12 (λ z. omega arith), atomic-is (k .kind) a, f);
       other = λ n. rw (bare (k .kind) (over n K), ne-eqb (k .kind) 12 (λ z. n (inr (inl z))), plain n);
     })
   where
-    failing : (Again q regions k t → ⊥) → duplicateReadFails k (q .setup) t (q .expected) (regionOf (t .key) regions) ≡ true
-    failing n = go (duplicateReadFails k (q .setup) t (q .expected) (regionOf (t .key) regions)) (again-tested q regions k t .0)
+    failing : (ReadAnswerable q regions k t → ⊥) → duplicateReadFails k (q .setup) t (q .expected) (regionOf (t .key) regions) ≡ true
+    failing n = go (duplicateReadFails k (q .setup) t (q .expected) (regionOf (t .key) regions)) (duplicate-tested q regions k t .0)
       where
-        go : (b : Bool) → (b ≡ false → Again q regions k t) → b ≡ true
+        go : (b : Bool) → (b ≡ false → ReadAnswerable q regions k t) → b ≡ true
         go true f = refl
         go false f = absurd (n (f refl))
 
@@ -329,7 +329,7 @@ packet-by q regions entries rows k t r S P K C =
           λ e. subst (λ d. Aheads (q .nakmark) (statusNumber (d .status))) (sym (classed-by q regions entries rows k class.Ahead r e))
           (ahead-by (q .nakmark) (q .expected));
       duplicate =
-          λ e. subst (λ d. Repeats q regions rows k t (statusNumber (d .status))) (sym (classed-by q regions entries rows k class.Duplicate r e))
+          λ e. subst (λ d. DuplicateAnswers q regions rows k t (statusNumber (d .status))) (sym (classed-by q regions entries rows k class.Duplicate r e))
           (duplicate-by q regions rows k t K (sym (current-one (q .message) k t P C)));
     }
 
@@ -347,7 +347,7 @@ read-sent k q t region = go (duplicateReadFails k (q .setup) t (q .expected) reg
     go false = refl
 
 sent-by : (q : Pair) (rows : List (List ℕ)) (k : Packet) (t : OpenMessage) (region : List ℕ)
-    → SentAgain q rows k (duplicateDecision k (q .setup) (q .expected) t region (newestSaved (k .psn .0) rows (q .saved)) .outgoing)
+    → DuplicateReplies q rows k (duplicateDecision k (q .setup) (q .expected) t region (newestSaved (k .psn .0) rows (q .saved)) .outgoing)
 unfolding duplicateDecision acknowledging
 sent-by q rows k t region =
     record {
@@ -356,11 +356,11 @@ sent-by q rows k t region =
       found = λ a v f. let h = high (k .kind) a in rw (bare (k .kind) (omega arith), ne-eqb (k .kind) 12 (λ z. omega arith), atomic-is (k .kind) a, f);
     }
 
-pub repeated-sent : RepeatedSent
+pub duplicate-sent : DuplicateSent
 unfolding inbound outcomeBy decision decided
-repeated-sent q regions entries saved m p out W r h e c =
+duplicate-sent q regions entries saved m p out W r h e c =
     rw (goes q m out W, e)
-    (subst (λ d. SentAgain q saved (packetOf h (length p)) (d .outgoing)) (sym (classed-by q regions entries saved (packetOf h (length p)) class.Duplicate r c))
+    (subst (λ d. DuplicateReplies q saved (packetOf h (length p)) (d .outgoing)) (sym (classed-by q regions entries saved (packetOf h (length p)) class.Duplicate r c))
     (sent-by q saved (packetOf h (length p)) (current (q .message) (packetOf h (length p))) _))
 
 pub header-passed : HeaderPassed

@@ -41,8 +41,8 @@ use Rattle.responder_spec.specs.Decide.{storePayload, runAtomic, unanswe
 use Rattle.responder_spec.specs.Apply.{memoryBy, actsAtomic, savedBy, savedRingBy, ringTaken, entriesBy, msnBy, readBy, executedPair, with, after, pairBy}
 use Rattle.responder_spec.specs.Reply.{answerBytes, valueBy, over, outBy}
 use Rattle.responder_spec.specs.Inbound.{outcomeBy, decision, inbound, inboundMemory, inboundSaved, inboundOut}
-use Rattle.responder_spec.specs.Effects.{Left, leaving, Silent, Unexecuted, Unchanged, Fixed, MarkAlone}
-use Rattle.responder_spec.specs.Effects.{ErrorAlone, Begun, Repeated, Abandons, Executes, Places, Accepts}
+use Rattle.responder_spec.specs.Effects.{Left, leaving, Silent, Unexecuted, Unchanged, Fixed, NakMarkAlone}
+use Rattle.responder_spec.specs.Effects.{ErrorAlone, Begun, DuplicateLeaves, Abandons, Executes, Places, Accepts}
 use Rattle.responder_spec.specs.Effects.{OnWord, Swaps, Table, InboundTable}
 use Rattle.responder_spec.proofs.Codes.Bare.{reads, swaps, adds}
 use Rattle.responder_spec.proofs.Codes.{Bare, class-is}
@@ -79,13 +79,13 @@ module _ (q : Pair) (regions saved : List (List ℕ)) (m p out : List ℕ) where
   Effect status.Acknowledged l = Places q saved m p l × (l .outgoing ≡ 16)
   Effect status.ReadAccepted l = Accepts q regions saved m p out l
   Effect status.AtomicExecuted l = Swaps q saved m p l
-  Effect status.DuplicateAnswered l = Repeated q regions saved m p out l
+  Effect status.DuplicateAnswered l = DuplicateLeaves q regions saved m p out l
   Effect status.Dropped l = Unchanged q saved m out l
   Effect status.Abandoned l = Abandons q saved m out l
-  Effect status.SequenceNak l = MarkAlone q saved m l
+  Effect status.SequenceNak l = NakMarkAlone q saved m l
   Effect status.InvalidRequestNak l = ErrorAlone q saved m l
   Effect status.AccessNak l = ErrorAlone q saved m l
-  Effect status.NotReadyNak l = MarkAlone q saved m l
+  Effect status.NotReadyNak l = NakMarkAlone q saved m l
   Effect status.ReadUnfinished l = Unchanged q saved m out l
   Effect status.TableFull l = ⊥
   Effect status.OutOfRange l = Unchanged q saved m out l
@@ -483,7 +483,7 @@ module _ (q : Pair) (regions saved : List (List ℕ)) (m p out : List ℕ) where
       quiets (inl h) = is a l 5 (sym e ∙ h) x
       quiets (inr h) = over-32 a l (subst (λ n. 32 ≤ n) e h) x
 
-      nakmark : (l .number ≡ 16) ⊎ (l .number ≡ 19) → MarkAlone q saved m l
+      nakmark : (l .number ≡ 16) ⊎ (l .number ≡ 19) → NakMarkAlone q saved m l
       nakmark (inl h) = is a l 16 (sym e ∙ h) x
       nakmark (inr h) = is a l 19 (sym e ∙ h) x
 

@@ -26,9 +26,9 @@ use Rattle.request_spec.proofs.Order.{served}
 use Rattle.request_spec.specs.declared.Packet.{Packet}
 use Rattle.responder_spec.specs.Decide.{duplicateReadFails}
 use Rattle.responder_spec.specs.Inbound.{inbound}
-use Rattle.responder_spec.specs.Answers.{headerBy, Expects, Aheads, Again, Repeats, Classed, packetIn, Recalled, Comes, Examined, Reason, InboundReason}
+use Rattle.responder_spec.specs.Answers.{headerBy, Expects, Aheads, ReadAnswerable, DuplicateAnswers, Classed, packetIn, Recalled, Comes, Examined, Reason, InboundReason}
 use Rattle.responder_spec.specs.Answers.Reason.{unread, marked, ahead, again, forgotten, refused, executed, acknowledged, accepted, exchanged}
-use Rattle.responder_spec.proofs.Answers.{header-dropped, header-passed, again-tested}
+use Rattle.responder_spec.proofs.Answers.{header-dropped, header-passed, duplicate-tested}
 
 module _ (q : Pair) (regions entries saved : List (List ℕ)) (p : List ℕ) (t : OpenMessage) where
   abbrev R : ℕ → Type 0
@@ -99,17 +99,17 @@ module _ (q : Pair) (regions entries saved : List (List ℕ)) (p : List ℕ) (t 
   atomic-high kind (inl e) = omega arith
   atomic-high kind (inr e) = omega arith
 
-  duplicate-reason : (n : ℕ) → Comes q p class.Duplicate → Repeats q regions saved k t n → R n
+  duplicate-reason : (n : ℕ) → Comes q p class.Duplicate → DuplicateAnswers q regions saved k t n → R n
   duplicate-reason n c D = go (kinds (k .kind))
     where
       reread : k .kind ≡ 12 → (b : Bool) → duplicateReadFails k (q .setup) t (q .expected) (regionOf (t .key) regions) ≡ b → R n
       reread r false e =
-          let A = again-tested q regions k t .0 e in
+          let A = duplicate-tested q regions k t .0 e in
           subst R (sym (D .reads r A)) (again c (inr (inl (r, A))))
       reread r true e = subst R (sym (D .unread r no)) (forgotten c none)
         where
-          no : Again q regions k t → ⊥
-          no A = true≢false (sym e ∙ again-tested q regions k t .1 A)
+          no : ReadAnswerable q regions k t → ⊥
+          no A = true≢false (sym e ∙ duplicate-tested q regions k t .1 A)
 
           none : Recalled q regions saved k t → ⊥
           none (inl x) = not-carried (k .kind) x (omega (arith, r))

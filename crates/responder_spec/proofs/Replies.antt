@@ -201,8 +201,8 @@ module _ (q : Pair) (saved : List (List ℕ)) (m p out : List ℕ) where
   Swapped l =
       (at : ℕ) × ValueSent q out l (bthOf p .psn) (wordAt m at) × (l .saved ≡ savedRows saved (q .saved) (bthOf p .psn .0) (wordAt m at))
 
-  abbrev Repeated : Left → Type 0
-  Repeated l =
+  abbrev DuplicateLeaves : Left → Type 0
+  DuplicateLeaves l =
       AckSent q out l (psnAfter (q .expected) 16777215) 31
       ⊎ (((v : ℕ) × (newestSaved (bthOf p .psn .0) saved (q .saved) ≡ Value v) × ValueSent q out l (bthOf p .psn) v) ⊎ (l .outgoing ≡ 0))
 
@@ -211,7 +211,7 @@ module _ (q : Pair) (saved : List (List ℕ)) (m p out : List ℕ) where
   Reply status.Acknowledged l = AckSent q out l (bthOf p .psn) 31
   Reply status.ReadAccepted l = Unit {0}
   Reply status.AtomicExecuted l = Swapped l
-  Reply status.DuplicateAnswered l = Repeated l
+  Reply status.DuplicateAnswered l = DuplicateLeaves l
   Reply status.Dropped l = Unit {0}
   Reply status.Abandoned l = Unit {0}
   Reply status.SequenceNak l = AckSent q out l (q .expected) 96

@@ -71,7 +71,7 @@ pub record Aheads (marked : Bool) (number : ℕ) : Type 0 where
 
 -- A duplicate READ that is answered: reading is on, no more bytes are named than may be, none are carried, the key
 -- still gives them, and none of the responses has the expected PSN or a later one.
-pub record Again (q : Pair) (regions : List (List ℕ)) (k : Packet) (t : OpenMessage) : Type 0 where
+pub record ReadAnswerable (q : Pair) (regions : List (List ℕ)) (k : Packet) (t : OpenMessage) : Type 0 where
   pub on : q .setup .read ≡ true
   pub limit : t .length ≤ 1048576
   pub padded : k .padded ≡ 0
@@ -80,10 +80,10 @@ pub record Again (q : Pair) (regions : List (List ℕ)) (k : Packet) (t : OpenMe
   pub before : pieces (t .length) (q .setup .pmtu) ≤ distance (q .expected .0) (k .psn .0)
 
 -- A duplicate: SEND and WRITE 4, a READ that is answered 4, an atomic whose value is saved 4; all else 5.
-pub record Repeats (q : Pair) (regions saved : List (List ℕ)) (k : Packet) (t : OpenMessage) (number : ℕ) : Type 0 where
+pub record DuplicateAnswers (q : Pair) (regions saved : List (List ℕ)) (k : Packet) (t : OpenMessage) (number : ℕ) : Type 0 where
   pub carried : Carries (k .kind) → number ≡ 4
-  pub reads : k .kind ≡ 12 → Again q regions k t → number ≡ 4
-  pub unread : k .kind ≡ 12 → (Again q regions k t → ⊥) → number ≡ 5
+  pub reads : k .kind ≡ 12 → ReadAnswerable q regions k t → number ≡ 4
+  pub unread : k .kind ≡ 12 → (ReadAnswerable q regions k t → ⊥) → number ≡ 5
   pub found : IsAtomic (k .kind) → (v : ℕ) → newestSaved (k .psn .0) saved (q .saved) ≡ Value v → number ≡ 4
   pub lost : IsAtomic (k .kind) → newestSaved (k .psn .0) saved (q .saved) ≡ Nothing → number ≡ 5
   pub other : (Served (k .kind) → ⊥) → number ≡ 5
@@ -92,7 +92,7 @@ pub record Repeats (q : Pair) (regions saved : List (List ℕ)) (k : Packet) (t 
 pub record Classed (q : Pair) (regions entries saved : List (List ℕ)) (k : Packet) (t : OpenMessage) (number : ℕ) : Type 0 where
   pub expected : psnClass (k .psn .0) (q .expected .0) ≡ class.Expected → Expects q regions entries k t number
   pub ahead : psnClass (k .psn .0) (q .expected .0) ≡ class.Ahead → Aheads (q .nakmark) number
-  pub duplicate : psnClass (k .psn .0) (q .expected .0) ≡ class.Duplicate → Repeats q regions saved k t number
+  pub duplicate : psnClass (k .psn .0) (q .expected .0) ≡ class.Duplicate → DuplicateAnswers q regions saved k t number
 
 abbrev pub HeaderPassed : Type 0
 HeaderPassed =
@@ -103,17 +103,17 @@ HeaderPassed =
 
 -- What a duplicate is answered with, by its kind: an ACK of 16 bytes, nothing but responses to come, a
 -- saved value in 24 bytes. InboundReplies says what stands in them.
-pub record SentAgain (q : Pair) (saved : List (List ℕ)) (k : Packet) (outgoing : ℕ) : Type 0 where
+pub record DuplicateReplies (q : Pair) (saved : List (List ℕ)) (k : Packet) (outgoing : ℕ) : Type 0 where
   pub carried : Carries (k .kind) → outgoing ≡ 16
   pub reads : k .kind ≡ 12 → outgoing ≡ 0
   pub found : IsAtomic (k .kind) → (v : ℕ) → newestSaved (k .psn .0) saved (q .saved) ≡ Value v → outgoing ≡ 24
 
-abbrev pub RepeatedSent : Type 0
-RepeatedSent =
+abbrev pub DuplicateSent : Type 0
+DuplicateSent =
     (q : Pair) (regions entries saved : List (List ℕ)) (m p out : List ℕ) → Willing q m out → q .setup .service ≡ 0
     → (h : Header) → headerBy q p ≡ read.Accepted h
     → psnClass (packetOf h (length p) .psn .0) (q .expected .0) ≡ class.Duplicate
-    → SentAgain q saved (packetOf h (length p)) (inbound q regions entries saved m p out .outgoing)
+    → DuplicateReplies q saved (packetOf h (length p)) (inbound q regions entries saved m p out .outgoing)
 
 -- The packet as numbers, whether or not its header passes.
 abbrev pub packetIn : List ℕ → Packet
@@ -123,7 +123,7 @@ packetIn p = packetOf (headerOf p) (length p)
 abbrev pub Recalled : Pair → List (List ℕ) → List (List ℕ) → Packet → OpenMessage → Type 0
 Recalled q regions saved k t =
     Carries (k .kind)
-    ⊎ (((k .kind ≡ 12) × Again q regions k t)
+    ⊎ (((k .kind ≡ 12) × ReadAnswerable q regions k t)
     ⊎ (IsAtomic (k .kind) × ((v : ℕ) × (newestSaved (k .psn .0) saved (q .saved) ≡ Value v))))
 
 abbrev pub Comes : Pair → List ℕ → Class → Type 0

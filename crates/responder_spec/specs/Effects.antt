@@ -85,7 +85,7 @@ pub record Fixed (old new : Pair) : Type 0 where
   pub saved : new .saved ≡ old .saved
 
 -- The NAK mark is set, and that is all; 16 bytes are sent.
-pub record MarkAlone (q : Pair) (rows : List (List ℕ)) (bytes : List ℕ) (l : Left) : Type 0 where
+pub record NakMarkAlone (q : Pair) (rows : List (List ℕ)) (bytes : List ℕ) (l : Left) : Type 0 where
   pub nakmark : l .pair .nakmark ≡ true
   pub fixed : Fixed q (l .pair)
   pub state : l .pair .state ≡ q .state
@@ -121,7 +121,7 @@ AnsweredOr q regions p out l =
     (((l .outgoing ≡ 16) ⊎ (l .outgoing ≡ 24)) × (l .pair .read ≡ q .read))
     ⊎ ((l .outgoing ≡ 0) × (l .out ≡ out) × Begun regions (q .setup) p (q .msn) (l .pair .read))
 
-pub record Repeated (q : Pair) (regions rows : List (List ℕ)) (bytes p output : List ℕ) (l : Left) : Type 0 where
+pub record DuplicateLeaves (q : Pair) (regions rows : List (List ℕ)) (bytes p output : List ℕ) (l : Left) : Type 0 where
   pub fixed : Fixed q (l .pair)
   pub state : l .pair .state ≡ q .state
   pub nakmark : l .pair .nakmark ≡ q .nakmark
@@ -204,10 +204,10 @@ pub record Swaps (q : Pair) (rows : List (List ℕ)) (bytes p : List ℕ) (l : L
 -- The table, for every pair, whatever the tables, memory, packet and output hold.
 pub record Table (q : Pair) (regions rows : List (List ℕ)) (bytes p output : List ℕ) (l : Left) : Type 0 where
   pub quiet : (l .number ≡ 5) ⊎ (32 ≤ l .number) → Unchanged q rows bytes output l
-  pub marks : (l .number ≡ 16) ⊎ (l .number ≡ 19) → MarkAlone q rows bytes l
+  pub marks : (l .number ≡ 16) ⊎ (l .number ≡ 19) → NakMarkAlone q rows bytes l
   pub errs : (l .number ≡ 17) ⊎ (l .number ≡ 18) → ErrorAlone q rows bytes l
   pub abandons : l .number ≡ 6 → Abandons q rows bytes output l
-  pub repeats : l .number ≡ 4 → Repeated q regions rows bytes p output l
+  pub repeats : l .number ≡ 4 → DuplicateLeaves q regions rows bytes p output l
   pub swaps : l .number ≡ 3 → Swaps q rows bytes p l
   pub accepts : l .number ≡ 2 → Accepts q regions rows bytes p output l
   pub acknowledges : l .number ≡ 1 → Places q rows bytes p l × (l .outgoing ≡ 16)

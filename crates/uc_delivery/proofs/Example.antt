@@ -19,7 +19,7 @@ use Rattle.pair.specs.Host.{setUpStatus, setUp, setUpRegions, addStatus, addReg
 use Rattle.pair.specs.Sound.{setupUnfit, setupUnsound, numbersUnsound, ringUnsound, messageUnsound, readUnsound, pairUnsound}
 use Rattle.cut_spec.specs.Message.{carries, carriedLength, packetsOf}
 use Rattle.cut_spec.specs.declared.Request.the-variants.{Send, SendImmediate}
-use Rattle.uc_delivery.specs.Message.{Standing, packetOf, handed, Comes, firstWaiting, Untold}
+use Rattle.uc_delivery.specs.Message.{Standing, packetOf, handed, Comes, firstWaiting, Unreported}
 use Rattle.uc_delivery.specs.Example.{setup, region, calls, made, message, out, first, fresh, AllMet, Delivered, broken, Interrupted}
 use Rattle.responder_spec.specs.Calls.{received}
 use Rattle.delivery.specs.Demand.{AtLeast, entryOf}
@@ -74,7 +74,7 @@ is-delivered =
     let M = all-met .sendImmediate in
     (refl, handed-whole _ (message (SendImmediate 77) 600) _ fresh (M .comes) (M .allowed) (M .supplied))
 
-is-broken : Untold fresh broken
+is-broken : Unreported fresh broken
 unfolding broken fresh message packetsOf carriedLength carries pieces
 is-broken =
     handed-in-part _ (message (SendImmediate 77) 600) _ fresh (true ∷ false ∷ false ∷ []) (all-met .sendImmediate .comes) refl (1, omega arith, refl) (inl refl)

@@ -38,7 +38,7 @@ use Rattle.delivery.specs.Demand.{Run, taken, Addressed}
 use Rattle.delivery.proofs.Chain.{Sent}
 use Rattle.delivery.proofs.Cutting.{placeFor, cutPacket, psn-small}
 use Rattle.delivery.proofs.Places.{starts-at, ends-at}
-use Rattle.uc_delivery.specs.Message.{Comes, Untold, handed, HandedInPart}
+use Rattle.uc_delivery.specs.Message.{Comes, Unreported, handed, HandedInPart}
 use Rattle.uc_delivery.proofs.Steps.{decided-is, taken-is, carriedOut}
 use Rattle.uc_delivery.proofs.Follow.{carries-bytes}
 use Rattle.uc_delivery.proofs.Whole.{packets-counted}
@@ -153,7 +153,7 @@ module _ (outs : ℕ → List ℕ) (m : Message) (first : Psn) (x : Run) (K : Co
       subst (λ y. (y .whole .pair .message .kind ≡ 255) ⊎ (y .whole .pair .expected ≡ psnAfter first (suc i))) (sym (left-is _ is-decided)) (next-is _ is-decided went)
 
   -- and nothing is reported before the last packet
-  untold-by : suc i < packetCount m → (d : Decision) → Went q t d → Untold x (carriedOut x d (packetAt t))
+  untold-by : suc i < packetCount m → (d : Decision) → Went q t d → Unreported x (carriedOut x d (packetAt t))
   unfolding pairBy after statusNumber executedPair noReply storePayload completionOf completes msnBy entriesBy
   untold-by l d (nothing e) = record { completions = append-nil (x .completions); msn = refl; entries = refl }
   untold-by l d shut = record { completions = append-nil (x .completions); msn = refl; entries = refl }
@@ -162,13 +162,13 @@ module _ (outs : ℕ → List ℕ) (m : Message) (first : Psn) (x : Run) (K : Co
       record { completions = rw e (append-nil (x .completions)); msn = rw e; entries = rw e }
   untold-by l d outside = record { completions = append-nil (x .completions); msn = refl; entries = refl }
 
-  pub untold : suc i < packetCount m → Untold x left
-  untold l = subst (Untold x) (sym (left-is _ is-decided)) (untold-by l _ went)
+  pub untold : suc i < packetCount m → Unreported x left
+  untold l = subst (Unreported x) (sym (left-is _ is-decided)) (untold-by l _ went)
 
   -- A Middle or Last that is not of the open message: nothing is reported, and none is open
   pub record Gone (y : Run) : Type 0 where
     pub closed : y .whole .pair .message .kind ≡ 255
-    pub completionWith : Untold x y
+    pub completionWith : Unreported x y
 
   gone-quiet : q .message .kind ≡ 255 → Gone (carriedOut x (noReply status.Dropped) (packetAt t))
   unfolding pairBy after statusNumber noReply
@@ -233,10 +233,10 @@ Off m first x j =
 apart-numbers : (first : Psn) (i j n : ℕ) → i < j → j < n → n ≤ 2 ^ 24 → psnAfter first i .0 ≡ psnAfter first j .0 → ⊥
 apart-numbers first i j n a b c e = omega arith
 
-untold-chain : (x y z : Run) → Untold x y → Untold y z → Untold x z
+untold-chain : (x y z : Run) → Unreported x y → Unreported y z → Unreported x z
 untold-chain x y z a b = record { completions = b .completions ∙ a .completions; msn = b .msn ∙ a .msn; entries = b .entries ∙ a .entries }
 
-untold-same : (x : Run) → Untold x x
+untold-same : (x : Run) → Unreported x x
 untold-same x = record { completions = refl; msn = refl; entries = refl }
 
 module _ (outs : ℕ → List ℕ) (m : Message) (first : Psn) where
@@ -246,7 +246,7 @@ module _ (outs : ℕ → List ℕ) (m : Message) (first : Psn) where
   -- none open: all the rest is dropped
   closed-rest : (bs : List Bool) (j : ℕ) (x : Run) → Comes outs m first x → 0 < j → j + length bs ≡ packetCount m
       → x .whole .pair .message .kind ≡ 255
-      → Untold x (handed outs m first x j bs)
+      → Unreported x (handed outs m first x j bs)
   unfolding handed
   closed-rest [] j x K o n e = untold-same x
   closed-rest (true ∷ bs) j x K o n e =
@@ -257,7 +257,7 @@ module _ (outs : ℕ → List ℕ) (m : Message) (first : Psn) where
 
   off-rest : (bs : List Bool) (j : ℕ) (x : Run) → Comes outs m first x → 0 < j → j + length bs ≡ packetCount m
       → Off m first x j
-      → Untold x (handed outs m first x j bs)
+      → Unreported x (handed outs m first x j bs)
   unfolding handed
   off-rest [] j x K o n f = untold-same x
   off-rest (true ∷ bs) j x K o n (inl f) =
@@ -275,7 +275,7 @@ module _ (outs : ℕ → List ℕ) (m : Message) (first : Psn) where
   part : (few : packetCount m ≤ 2 ^ 24) (bs : List Bool) (i : ℕ) (x : Run) → Comes outs m first x → i + length bs ≡ packetCount m
       → ((k : ℕ) × (k < length bs) × (getD bs k true ≡ false))
       → (getD bs 0 false ≡ true) ⊎ Off m first x (suc i)
-      → Untold x (handed outs m first x i bs)
+      → Unreported x (handed outs m first x i bs)
   unfolding handed
   part few [] i x K n lost a = absurd (omega (arith, lost .1))
   part few (false ∷ bs) i x K n lost (inl e) = absurd (true≢false (sym e))

@@ -16,7 +16,7 @@ use Rattle.cut_spec.specs.declared.Request.the-variants.{Send, SendImmediate, W
 use Rattle.delivery.specs.Stream.{Message, packetCount}
 use Rattle.delivery.specs.Plain.{answerRoom}
 use Rattle.delivery.specs.Demand.{Run, Allowed}
-use Rattle.uc_delivery.specs.Message.{Comes, Supplied, handed, handedAll, Untold}
+use Rattle.uc_delivery.specs.Message.{Comes, Supplied, handed, handedAll, Unreported}
 
 unfoldable pub setup : Setup
 setup =
@@ -83,5 +83,5 @@ broken = handed out (message (SendImmediate 77) 600) first fresh 0 (true ∷ fal
 
 abbrev pub Interrupted : Type 0
 Interrupted =
-    Untold fresh broken
+    Unreported fresh broken
     × (handed out (message Send 3) first broken 0 (true ∷ []) ≡ handedAll broken (message Send 3) first)

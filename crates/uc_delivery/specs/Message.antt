@@ -141,7 +141,7 @@ abbrev pub Lost : List Bool → ℕ → Type 0
 Lost chosen n = (i : ℕ) × (i < n) × (getD chosen i true ≡ false)
 
 -- nothing was reported, no message counted, no entry used up
-pub record Untold (x y : Run) : Type 0 where
+pub record Unreported (x y : Run) : Type 0 where
   pub completions : y .completions ≡ x .completions
   pub msn : y .whole .pair .msn ≡ x .whole .pair .msn
   pub entries : y .whole .pair .entries ≡ x .whole .pair .entries
@@ -153,7 +153,7 @@ HandedInPart =
     → length chosen ≡ packetCount m
     → Lost chosen (packetCount m)
     → (getD chosen 0 false ≡ true) ⊎ Apart (x .whole) m first
-    → Untold x (handed outs m first x 0 chosen)
+    → Unreported x (handed outs m first x 0 chosen)
 
 -- What came before: any bytes, each with an output.
 pub record Arrival : Type 0 where
@@ -205,4 +205,4 @@ PartAfter =
     → length chosen ≡ packetCount m
     → Lost chosen (packetCount m)
     → (getD chosen 0 false ≡ true) ⊎ (Apart (x .whole) m first × Foreign m first before)
-    → Untold (heard x before) (handed outs m first (heard x before) 0 chosen)
+    → Unreported (heard x before) (handed outs m first (heard x before) 0 chosen)

@@ -23,16 +23,16 @@ use Rattle.responder_spec.proofs.Effects.{inbound-table}
 use Rattle.abi_spec.specs.Pair.{pairOf, pairWords, malformed}
 use Rattle.abi_spec.specs.Rows.{malformedFrom}
 use Rattle.abi_spec.specs.Claims.{PairFields}
-use Rattle.abi_spec.proofs.Laws.{let-in, pair-back, others-strange}
-use Rattle.abi_spec.proofs.Regions.{regions-let-in, row-strange}
+use Rattle.abi_spec.proofs.Laws.{let-in, pair-back, others-malformed}
+use Rattle.abi_spec.proofs.Regions.{regions-let-in, rows-tested}
 use Rattle.udalopek_spec.specs.Packets.{names, malformedFor, refused, inboundNumber, inboundWords, inboundRows}
 use Rattle.udalopek_spec.specs.Packets.{inboundBytes, inboundOutput, inboundReport, reportWords, nextNumber}
 use Rattle.udalopek_spec.specs.Packets.{nextWords, nextOutput, nextReport}
 use Rattle.udalopek_spec.specs.Cutting.{requestOf, cutReport}
-use Rattle.udalopek_spec.specs.Host.{unmade, oddRegions, resetNumber, resetWords, resetTable, readyNumber}
+use Rattle.udalopek_spec.specs.Host.{unmade, malformedRegions, resetNumber, resetWords, resetTable, readyNumber}
 use Rattle.udalopek_spec.specs.Host.{readyWords, addNumber, addTable, removeNumber, removeTable, postNumber}
 use Rattle.udalopek_spec.specs.Host.{postWords, postTable}
-use Rattle.udalopek_spec.specs.Claims.{ToldSays, KindsAre, CutTells, InboundKeeps, NamesNone, WordsRefused}
+use Rattle.udalopek_spec.specs.Claims.{ReportSays, KindsAre, CutReports, InboundKeeps, NamesNone, WordsRefused}
 use Rattle.udalopek_spec.specs.Claims.{RowRefused, Keyed, Readable, InboundIs, NextIs, PostIs, ReadyIs, ResetIs}
 use Rattle.udalopek_spec.specs.Claims.{AddIs, RemoveIs}
 use Rattle.udalopek_spec.proofs.Steps.{second, first, refused-words}
@@ -113,12 +113,12 @@ names-none p = (λ e. omega (arith, leb-false 6 (getD p 0 0 % 32) e), λ h. lt-l
 
 pub words-refused : WordsRefused
 unfolding inboundNumber
-words-refused w regions entries saved m p out n = sym (first _ 34 _ (refused-words w regions p (others-strange w n)))
+words-refused w regions entries saved m p out n = sym (first _ 34 _ (refused-words w regions p (others-malformed w n)))
 
 pub row-refused : RowRefused
 unfolding inboundNumber refused malformedFor names
 row-refused w regions entries saved m p out i h k n =
-    let s = row-strange (pairOf w .setup .memory) regions i h n in
+    let s = rows-tested (pairOf w .setup .memory) regions i h n in
     let o : malformedFor regions (pairOf w .setup .memory) p ≡ true = rw (le-leb 6 (getD p 0 0 % 32) k) s in
     sym (first _ 34 _ (either (malformed w) (malformedFor regions (pairOf w .setup .memory) p) o))
   where
@@ -150,8 +150,8 @@ reset-is q rows f s =
     )
 
 -- its table has no row out of range
-even : (q : Pair) (rows : List (List ℕ)) → PairFields q → RegionsSound (q .setup .memory) rows → Keyed rows → oddRegions (pairWords q) rows ≡ false
-unfolding oddRegions
+even : (q : Pair) (rows : List (List ℕ)) → PairFields q → RegionsSound (q .setup .memory) rows → Keyed rows → malformedRegions (pairWords q) rows ≡ false
+unfolding malformedRegions
 even q rows f s k = ap (λ x. malformedFrom rows (x .setup .memory) 0 16) (pair-back q f .0) ∙ regions-let-in (q .setup .memory) rows s k
 
 pub add-is : AddIs
@@ -173,9 +173,9 @@ remove-is q rows key f s g k =
       sym (second _ _ _ o ∙ second _ _ _ u ∙ second _ _ _ (b .1)),
     )
 
-pub told-says : ToldSays
+pub report-says : ReportSays
 unfolding reportWords
-told-says n c = record {
+report-says n c = record {
   outgoing = refl;
   completes = λ e. ap (λ b. cond b 1 0) e;
   nothing = λ e. ap (λ b. cond b 1 0) e;
@@ -190,6 +190,6 @@ pub kinds-are : KindsAre
 unfolding requestOf
 kinds-are address key length swap compare immediate = (refl, refl, refl, refl, refl, refl, refl)
 
-pub cut-tells : CutTells
+pub cut-reports : CutReports
 unfolding cutReport
-cut-tells n psn = (refl, λ k z. rw (ne-eqb k 0 z))
+cut-reports n psn = (refl, λ k z. rw (ne-eqb k 0 z))

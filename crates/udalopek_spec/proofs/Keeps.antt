@@ -14,9 +14,9 @@ use Rattle.pair.specs.Host.{readyStatus, addStatus, addRegions, removeStatus, r
 use Rattle.pair.specs.Host.{postEntries}
 use Rattle.responder_spec.specs.Response.{nextResponse, nextStatus, nextOut}
 use Rattle.abi_spec.specs.Pair.{pairOf, pairWords, malformed}
-use Rattle.abi_spec.proofs.Laws.{let-in, others-strange}
+use Rattle.abi_spec.proofs.Laws.{let-in, others-malformed}
 use Rattle.udalopek_spec.specs.Packets.{nextNumber, nextWords, nextOutput, nextReport}
-use Rattle.udalopek_spec.specs.Host.{otherLength, unmade, oddRegions, setUpNumber, setUpWords, setUpTable}
+use Rattle.udalopek_spec.specs.Host.{otherLength, unmade, malformedRegions, setUpNumber, setUpWords, setUpTable}
 use Rattle.udalopek_spec.specs.Host.{resetNumber, resetWords, resetTable, readyNumber, readyWords, addNumber}
 use Rattle.udalopek_spec.specs.Host.{addTable, removeNumber, removeTable, postNumber, postWords, postTable}
 use Rattle.udalopek_spec.specs.Claims.{NextKeeps, SetUpKeeps, ResetKeeps, ReadyKeeps, AddKeeps, RemoveKeeps, PostKeeps, OthersRefused}
@@ -61,13 +61,13 @@ reset-keeps w rows h = (
 pub add-keeps : AddKeeps
 unfolding addNumber addTable addRegions
 add-keeps w rows r h =
-    behind (malformed w) _ rows _ (λ b g. behind (oddRegions w rows) _ rows _ (λ c k. kept (addStatus (pairOf w) rows r) rows _ k) g) h
+    behind (malformed w) _ rows _ (λ b g. behind (malformedRegions w rows) _ rows _ (λ c k. kept (addStatus (pairOf w) rows r) rows _ k) g) h
 
 pub remove-keeps : RemoveKeeps
 unfolding removeNumber removeTable removeRegions
 remove-keeps w rows key h =
     behind (malformed w) _ rows _
-    (λ b g. behind (unmade w) _ rows _ (λ c k. behind (oddRegions w rows) _ rows _ (λ d l. kept (removeStatus rows key) rows _ l) k) g)
+    (λ b g. behind (unmade w) _ rows _ (λ c k. behind (malformedRegions w rows) _ rows _ (λ d l. kept (removeStatus rows key) rows _ l) k) g)
     h
 
 pub set-up-keeps : SetUpKeeps
@@ -88,7 +88,7 @@ next-keeps w m out h = (
 pub others-refused : OthersRefused
 unfolding nextNumber resetNumber readyNumber addNumber removeNumber postNumber
 others-refused w m out rows r key e n =
-    let s = others-strange w n in (
+    let s = others-malformed w n in (
       sym (first (malformed w) 34 _ s),
       sym (first (malformed w) 34 _ s),
       sym (first (malformed w) 34 _ s),

@@ -157,8 +157,8 @@ pub record Tells (n : ℕ) (c : Completion) (t : List ℕ) : Type 0 where
   pub none : c .immediate ≡ false → getD t 4 0 ≡ 0
   pub value : getD t 5 0 ≡ c .value
 
-abbrev pub ToldSays : Type 0
-ToldSays = (n : ℕ) (c : Completion) → Tells n c (reportWords n c)
+abbrev pub ReportSays : Type 0
+ReportSays = (n : ℕ) (c : Completion) → Tells n c (reportWords n c)
 
 abbrev pub KindsAre : Type 0
 KindsAre =
@@ -171,5 +171,5 @@ KindsAre =
     × (requestOf 5 address key length swap compare immediate ≡ CmpSwap (record { address = address; key = key; swap = swap; compare = compare }))
     × (requestOf 6 address key length swap compare immediate ≡ FetchAdd (record { address = address; key = key }) swap)
 
-abbrev pub CutTells : Type 0
-CutTells = (n psn : ℕ) → (cutReport 0 n psn ≡ n ∷ psn ∷ []) × ((k : ℕ) → (k ≡ 0 → ⊥) → cutReport k n psn ≡ 0 ∷ 0 ∷ [])
+abbrev pub CutReports : Type 0
+CutReports = (n psn : ℕ) → (cutReport 0 n psn ≡ n ∷ psn ∷ []) × ((k : ℕ) → (k ≡ 0 → ⊥) → cutReport k n psn ≡ 0 ∷ 0 ∷ [])

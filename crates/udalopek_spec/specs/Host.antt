@@ -47,22 +47,22 @@ unfoldable pub readyWords : List ℕ → List ℕ
 readyWords w = cond (malformed w) w (pairWords (madeReady (pairOf w) .pair))
 
 -- a table of regions with a row that no call wrote is refused too
-unfoldable pub oddRegions : List ℕ → List (List ℕ) → Bool
-oddRegions w rows = malformedFrom rows (pairOf w .setup .memory) 0 16
+unfoldable pub malformedRegions : List ℕ → List (List ℕ) → Bool
+malformedRegions w rows = malformedFrom rows (pairOf w .setup .memory) 0 16
 
 unfoldable pub addNumber : List ℕ → List (List ℕ) → Region → ℕ
-addNumber w rows r = cond (malformed w) Refusal.outOfRange (cond (oddRegions w rows) Refusal.outOfRange (statusNumber (addStatus (pairOf w) rows r)))
+addNumber w rows r = cond (malformed w) Refusal.outOfRange (cond (malformedRegions w rows) Refusal.outOfRange (statusNumber (addStatus (pairOf w) rows r)))
 
 unfoldable pub addTable : List ℕ → List (List ℕ) → Region → List (List ℕ)
-addTable w rows r = cond (malformed w) rows (cond (oddRegions w rows) rows (addRegions (pairOf w) rows r))
+addTable w rows r = cond (malformed w) rows (cond (malformedRegions w rows) rows (addRegions (pairOf w) rows r))
 
 unfoldable pub removeNumber : List ℕ → List (List ℕ) → ℕ → ℕ
 removeNumber w rows key =
-    cond (malformed w) Refusal.outOfRange (cond (unmade w) Refusal.outOfRange (cond (oddRegions w rows) Refusal.outOfRange (statusNumber (removeStatus rows key))))
+    cond (malformed w) Refusal.outOfRange (cond (unmade w) Refusal.outOfRange (cond (malformedRegions w rows) Refusal.outOfRange (statusNumber (removeStatus rows key))))
 
 unfoldable pub removeTable : List ℕ → List (List ℕ) → ℕ → List (List ℕ)
 removeTable w rows key =
-    cond (malformed w) rows (cond (unmade w) rows (cond (oddRegions w rows) rows (removeRegions rows key)))
+    cond (malformed w) rows (cond (unmade w) rows (cond (malformedRegions w rows) rows (removeRegions rows key)))
 
 unfoldable pub postNumber : List ℕ → Entry → ℕ
 postNumber w e = cond (malformed w) Refusal.outOfRange (statusNumber (posted (pairOf w) e .status))

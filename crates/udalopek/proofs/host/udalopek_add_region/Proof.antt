@@ -1,5 +1,5 @@
 use mathlib.Core.Path.{refl}
-use Rattle.udalopek_spec.specs.Host.{addNumber, addTable, oddRegions}
+use Rattle.udalopek_spec.specs.Host.{addNumber, addTable, malformedRegions}
 use borrow.Author.Needs.{needs}
 use Rattle.udalopek.proofs.host.udalopek_add_region.Statement.{statement}
 use Rattle.udalopek.proofs.host.udalopek_add_region.Tie as tie
@@ -8,7 +8,7 @@ malformed-requires : tie.Need-malformed-requires
 malformed-requires c κs = search needs
 
 returns : tie.Need-returns
-unfolding addNumber addTable oddRegions
+unfolding addNumber addTable malformedRegions
 returns c = simp (← c .before .malformed .ensures, c .if1 .taken) (refl, refl)
 
 pair-of-requires : tie.Need-pair-of-requires
@@ -21,7 +21,7 @@ regions-malformed-requires : tie.Need-regions-malformed-requires
 regions-malformed-requires c κs = search needs
 
 returns-2 : tie.Need-returns-2
-unfolding addNumber addTable oddRegions
+unfolding addNumber addTable malformedRegions
 returns-2 c =
     let c1 = c .before in let c2 = c1 .before in let c4 = c2 .before .before in let c5 = c4 .before in
     let c6 = c5 .before in
@@ -34,7 +34,7 @@ number-requires : tie.Need-number-requires
 number-requires c κs = search needs
 
 returns-3 : tie.Need-returns-3
-unfolding addNumber addTable oddRegions
+unfolding addNumber addTable malformedRegions
 returns-3 c =
     let c1 = c .before in let c3 = c1 .before .before in let c4 = c3 .before in let c5 = c4 .before in
     let c7 = c5 .before .before in let c8 = c7 .before in let c9 = c8 .before in
