@@ -13,7 +13,7 @@ use Rattle.pair.specs.Pair.{freshPair, blankPair}
 use Rattle.pair.specs.declared.Pair.{Pair}
 use Rattle.abi_spec.specs.Words.{eqWords, overwriteWords, flag, bit}
 use Rattle.abi_spec.specs.Pair.{narrowed, pairOf, pairWords, malformed, setupOf, messageOf, readOf}
-use Rattle.abi_spec.specs.Claims.{SameIs, LetIn, PairBack, SaidFits, OthersMalformed, SetupFields, PairFields}
+use Rattle.abi_spec.specs.Claims.{SameIs, WordsAccepted, PairBack, SaidFits, OthersMalformed, SetupFields, PairFields}
 
 pub same-self : (a : List ℕ) → eqWords a a ≡ true
 unfolding eqWords
@@ -34,7 +34,7 @@ same-only (x ∷ xs) (y ∷ ys) e = go (eqb x y) refl e (same-only xs ys)
 pub same-is : SameIs
 same-is a b = (same-only a b, λ e. ap (eqWords a) (sym e) ∙ same-self a)
 
-pub let-in : LetIn
+pub let-in : WordsAccepted
 unfolding malformed
 let-in w e = same-only w (pairWords (pairOf w)) (not-false (eqWords w (pairWords (pairOf w))) (malformed w) refl e)
 

@@ -14,7 +14,7 @@ use Rattle.table.specs.declared.Region.{Region}
 use Rattle.table.specs.Claims.{RowSound, RegionFits, Free}
 use Rattle.table.proofs.Regions.{region-tested}
 use Rattle.abi_spec.specs.Rows.{noRegionsRow, rowMalformed, malformedFrom}
-use Rattle.abi_spec.specs.Claims.{RegionsLetIn, RowsKnown, RowsTested, RegionNumbers}
+use Rattle.abi_spec.specs.Claims.{RegionsAccepted, RowsKnown, RowsTested, RegionNumbers}
 
 bit-small : (b : Bool) → ltb 1 (cond b 1 0) ≡ false
 bit-small true = refl
@@ -79,7 +79,7 @@ unfolding malformedFrom
 from memory rows f zero i h = refl
 from memory rows f (suc n) i h = rw (f i (omega arith)) (from memory rows f n (suc i) (omega arith))
 
-pub regions-let-in : RegionsLetIn
+pub regions-let-in : RegionsAccepted
 regions-let-in memory rows s k = from memory rows (λ j h. sound-row memory (getD rows j []) (k j h) (s .each j h)) 16 0 (omega arith)
 
 at-or-past : (i j : ℕ) → i ≤ j → (i ≡ j) ⊎ (suc i ≤ j)

@@ -24,8 +24,8 @@ SameIs = (a b : List ℕ) → (eqWords a b ≡ true → a ≡ b) × (a ≡ b →
 
 -- Words that are accepted are the words of the pair that they say: what a call does to that pair is all that it does to
 -- them.
-abbrev pub LetIn : Type 0
-LetIn = (w : List ℕ) → malformed w ≡ false → w ≡ pairWords (pairOf w)
+abbrev pub WordsAccepted : Type 0
+WordsAccepted = (w : List ℕ) → malformed w ≡ false → w ≡ pairWords (pairOf w)
 
 -- Numbers of a pair that fit its fields.
 pub record SetupFields (s : Setup) : Type 0 where
@@ -60,8 +60,8 @@ PairBack = (q : Pair) → PairFields q → (pairOf (pairWords q) ≡ q) × (malf
 
 -- A table of regions that calls made, with keys of 32 bits, has no malformed row; and each row of a table that has none
 -- is free or has the numbers of a region in memory.
-abbrev pub RegionsLetIn : Type 0
-RegionsLetIn =
+abbrev pub RegionsAccepted : Type 0
+RegionsAccepted =
     (memory : ℕ) (rows : List (List ℕ)) → RegionsSound memory rows → ((i : ℕ) → i < 16 → getD (getD rows i []) 0 0 < 2 ^ 32)
     → malformedFrom rows memory 0 16 ≡ false
 

@@ -126,7 +126,7 @@ fn executes(status: Status) -> bool
 }
 
 // Whether it is one of two answers.
-fn either(status: Status, a: Status, b: Status) -> bool
+fn one_of(status: Status, a: Status, b: Status) -> bool
     ensures { λ r. ⌜ r ≡ (eqb (statusNumber status) (statusNumber a) || eqb (statusNumber status) (statusNumber b)) ⌝ }
 {
     let first = status.is(a);
@@ -153,12 +153,12 @@ pub fn pair_after(pair: Pair, d: Decision) -> Pair
         next.read = read;
         return next;
     }
-    let marked = either(status, Status::SequenceNak, Status::NotReadyNak);
+    let marked = one_of(status, Status::SequenceNak, Status::NotReadyNak);
     if marked {
         next.nakmark = true;
         return next;
     }
-    let broken = either(status, Status::InvalidRequestNak, Status::AccessNak);
+    let broken = one_of(status, Status::InvalidRequestNak, Status::AccessNak);
     if broken {
         next.state = pair::ERROR;
         return next;

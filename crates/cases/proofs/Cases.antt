@@ -15,7 +15,7 @@ use Rattle.table.specs.Table.{outside, pastTop, regionOutside, regionRow, entry
 use Rattle.table.specs.View.{regionOf}
 use Rattle.pair.specs.Answer.{statusNumber, executed}
 use Rattle.pair.specs.Pair.{freshPair}
-use Rattle.pair.specs.Sound.{setupUnfit, setupUnsound, numbersUnsound, ringUnsound, messageUnsound, readUnsound, pairUnsound}
+use Rattle.pair.specs.Sound.{setupUnfit, setupUnsound, countersUnsound, ringUnsound, messageUnsound, readUnsound, pairUnsound}
 use Rattle.pair.specs.Host.{setUpStatus, setUp, setUpRegions, readyStatus, madeReady, addStatus, addRegions, postStatus, posted, postEntries}
 use Rattle.pair.specs.Calls.{begun, called, calledAll}
 use Rattle.cut_spec.specs.Message.{carries, carried, carriedLength, messageLength, packetsOf, lengthRefusal, packetsAnswer, responsesAnswer}
@@ -85,7 +85,7 @@ unfolding classAt psnClass opcode.placeOf kindOf placeIn sendWriteFollows follow
     read.readBy bthOf extensionOf headerOf badLength otherService bthBytes aethBytes extensionBytes headerBytes
     headerLength fullMember pkeysMatch wrongService isResponse beyondService headerReason admitted overwrite store padOf
     packetBytes pmtuFits pieces placeAt ends starts pieceAt partAt outside pastTop regionOutside regionRow entryRow
-    sought firstFrom slotAt regionOf statusNumber executed freshPair setupUnfit setupUnsound numbersUnsound ringUnsound
+    sought firstFrom slotAt regionOf statusNumber executed freshPair setupUnfit setupUnsound countersUnsound ringUnsound
     messageUnsound readUnsound pairUnsound setUpStatus setUp setUpRegions readyStatus madeReady addStatus addRegions
     postStatus posted postEntries begun called calledAll carries carried carriedLength packetsOf lowFor extensionFor
     bthAt sizeAt headerAt payloadAt cutBytes operandsOf packetOf carrying outOfSequence notEnabled padEarly overLimit

@@ -28,7 +28,7 @@ use Rattle.sequence.specs.declared.Psn.{Psn}
 use Rattle.request_spec.specs.Verdict.{outOfSequence, padEarly, entriesWaiting, noneWaiting, usesEntry, entryOutside, current}
 use Rattle.responder_spec.specs.Decide.{regionFor}
 use Rattle.delivery.specs.Stream.{packetCount, Slot}
-use Rattle.delivery.specs.Plain.{none, needsEntry}
+use Rattle.delivery.specs.Plain.{none, slotNeedsEntry}
 use Rattle.delivery.proofs.Chain.{Stands}
 use Rattle.delivery.proofs.Places.{Sizes, starts-at, ends-at, size-fits, pad-late}
 use Rattle.delivery.proofs.Cutting.{netFor, placeFor, cutPacket, pmtu-is, sizes}
@@ -39,7 +39,7 @@ use Rattle.delivery.proofs.Fitting.{named-is, named-limit, enabled-is, 
 
 -- a packet that needs an entry finds none held
 idle : (r : Request) (c : Connection) (d : List ℕ) (first : Psn) (i : ℕ) (opened : OpenMessage) (held : List Entry)
-    → needsEntry (record { message = record { connection = c; request = r; bytes = d }; first = first; index = i }) ≡ true
+    → slotNeedsEntry (record { message = record { connection = c; request = r; bytes = d }; first = first; index = i }) ≡ true
     → Under (eqb i 0) (record { message = record { connection = c; request = r; bytes = d }; first = first; index = i }) opened held
     → (opened .kind ≡ 0 → ⊥) × (held ≡ [])
 idle Send c d first i opened held q u =
@@ -142,14 +142,14 @@ module _ (s : Setup) (regions : List (List ℕ)) (f : SetupFit s) (t : Slot) (h 
 
   -- an entry is wanting exactly where the plain run says so
   pub waiting-is : (waiting : List Entry) (count : ℕ) → count ≡ length (held ++ waiting)
-      → noneWaiting (kindNumber (t .message .request)) (placeFor t) (cutPacket t .operands .immediate) (opened .kind) count ≡ (needsEntry t && none waiting)
+      → noneWaiting (kindNumber (t .message .request)) (placeFor t) (cutPacket t .operands .immediate) (opened .kind) count ≡ (slotNeedsEntry t && none waiting)
   unfolding noneWaiting
   waiting-is waiting count e =
       rw (needs-is (t .message .request) (placeFor t) (t .index) (packetCount (t .message)) (cutPacket t .operands .immediate)
       (starts-is s regions f t h opened) ends-is (says s regions f t h opened .immediate))
-      (go (needsEntry t) refl)
+      (go (slotNeedsEntry t) refl)
     where
-      go : (b : Bool) → needsEntry t ≡ b → (b && eqb (entriesWaiting (opened .kind) count) 0) ≡ (b && none waiting)
+      go : (b : Bool) → slotNeedsEntry t ≡ b → (b && eqb (entriesWaiting (opened .kind) count) 0) ≡ (b && none waiting)
       go false q = refl
       go true q =
           let i = idle (t .message .request) (t .message .connection) (t .message .bytes) (t .first) (t .index) opened held q U in

@@ -19,7 +19,7 @@ use Rattle.responder_spec.specs.Apply as apply
 use Rattle.responder_spec.specs.Calls.{reports}
 use Rattle.responder_spec.specs.declared.Decision.{Decision}
 use Rattle.delivery.specs.Stream.{Message, packetCount, Slot, slot, psnCount, numberAlong}
-use Rattle.delivery.specs.Plain.{Plain, takesEntry, completionFor, memoryAfter, isRead, heldNow, waitingNow, isLast, needsEntry, executeWith}
+use Rattle.delivery.specs.Plain.{Plain, takesEntry, completionFor, memoryAfter, isRead, heldNow, waitingNow, isLast, slotNeedsEntry, executeWith}
 use Rattle.delivery.specs.Demand.{Run, AllLongEnough, entryOf}
 use Rattle.delivery.proofs.Chain.{Turn, further, along-suc}
 use Rattle.delivery.proofs.Rel.{IsOf, Holding, Under, Link, stepBy}
@@ -98,6 +98,6 @@ module _ (ms : List Message) (S : List Slot) (p : Plain) (x : Run) (d : Decision
           completions = λ i. L .completions i ++ D .completion i;
           within = lt;
           number = number-next;
-          long = waiting-long (needsEntry (slot S (p .k)));
+          long = waiting-long (slotNeedsEntry (slot S (p .k)));
           opened = D .opened;
         })

@@ -13,14 +13,14 @@ use Rattle.pair.specs.Answer.{statusNumber, executed}
 use Rattle.pair.specs.Pair.{freshPair}
 use Rattle.pair.specs.Calls.{begun, called, calledAll}
 use Rattle.pair.specs.Host.{setUpStatus, setUp, setUpRegions, addStatus, addRegions, postStatus, posted, postEntries, readyStatus, madeReady}
-use Rattle.pair.specs.Sound.{setupUnfit, setupUnsound, numbersUnsound, ringUnsound, messageUnsound, readUnsound, pairUnsound}
+use Rattle.pair.specs.Sound.{setupUnfit, setupUnsound, countersUnsound, ringUnsound, messageUnsound, readUnsound, pairUnsound}
 use Rattle.pmtu.specs.Pieces.{pmtuFits, pieces}
 use Rattle.header.specs.Read.{otherService}
 use Rattle.cut_spec.specs.Message.{carries, carriedLength, messageLength, packetsOf}
 use Rattle.cut_spec.specs.Next.{psnsOf, nextPsn}
 use Rattle.delivery.specs.Stream.{slotsFrom, stream}
 use Rattle.delivery.specs.Demand.{Fresh}
-use Rattle.delivery.specs.Example.{setup, region, calls, made, message, messages, Met, memory, packets, Executed}
+use Rattle.delivery.specs.Example.{setup, region, calls, made, message, messages, Fulfilled, memory, packets, Executed}
 use Rattle.delivery.proofs.Made.{fresh-made}
 use Rattle.delivery.proofs.Whole.{delivery}
 use Rattle.delivery.proofs.Witness.{witness}
@@ -32,15 +32,15 @@ sound = (record { pmtu = inl refl; service = inl refl; ours = omega arith; their
 is-fresh : Fresh made
 unfolding made setup calls region calledAll called begun setUp setUpStatus setUpRegions addStatus addRegions
     postStatus posted postEntries readyStatus madeReady executed statusNumber freshPair setupUnfit setupUnsound
-    numbersUnsound ringUnsound messageUnsound readUnsound pairUnsound pmtuFits otherService outside pastTop
+    countersUnsound ringUnsound messageUnsound readUnsound pairUnsound pmtuFits otherService outside pastTop
     regionOutside firstFrom sought regionRow entryRow slotAt
 is-fresh = fresh-made setup [] (replicate 16 (replicate 3 0)) (replicate 16 (replicate 2 0)) calls sound refl refl refl (tt, (tt, (tt, tt))) .1 refl
 
 -- every request, permitted by computation
-pub is-met : Met
+pub is-met : Fulfilled
 unfolding made setup calls region messages message calledAll called begun setUp setUpStatus setUpRegions addStatus
     addRegions postStatus posted postEntries readyStatus madeReady executed statusNumber freshPair setupUnfit
-    setupUnsound numbersUnsound ringUnsound messageUnsound readUnsound pairUnsound pmtuFits otherService outside pastTop
+    setupUnsound countersUnsound ringUnsound messageUnsound readUnsound pairUnsound pmtuFits otherService outside pastTop
     regionOutside firstFrom sought regionRow entryRow slotAt regionOf ringFrom pkeysMatch fullMember
 is-met =
     record {
@@ -97,7 +97,7 @@ long-output = subst (λ n. 4112 ≤ n) (sym (length-replicate {A = ℕ} 4112 0))
 pub executed-all : Executed
 unfolding packets memory made setup calls region messages message calledAll called begun setUp setUpStatus
     setUpRegions addStatus addRegions postStatus posted postEntries readyStatus madeReady executed statusNumber
-    freshPair setupUnfit setupUnsound numbersUnsound ringUnsound messageUnsound readUnsound pairUnsound pmtuFits
+    freshPair setupUnfit setupUnsound countersUnsound ringUnsound messageUnsound readUnsound pairUnsound pmtuFits
     otherService outside pastTop regionOutside firstFrom sought regionRow entryRow slotAt stream slotsFrom nextPsn
     psnsOf messageLength packetsOf carriedLength carries pieces
 executed-all =

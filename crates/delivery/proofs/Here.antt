@@ -20,7 +20,7 @@ use Rattle.responder_spec.specs.Apply.{memoryBy, actsAtomic, savedBy, pairBy}
 use Rattle.responder_spec.specs.Apply as apply
 use Rattle.responder_spec.specs.declared.Decision.{Decision}
 use Rattle.delivery.specs.Stream.{Message, Slot, slot, packetAt}
-use Rattle.delivery.specs.Plain.{Plain, none, firstOf, needsEntry, isLast, heldNow, executeWith, executeNext}
+use Rattle.delivery.specs.Plain.{Plain, none, firstOf, slotNeedsEntry, isLast, heldNow, executeWith, executeNext}
 use Rattle.delivery.specs.Demand.{Run}
 use Rattle.delivery.proofs.Chain.{Stands, Good}
 use Rattle.delivery.proofs.Cutting.{placeFor, cutPacket}
@@ -68,7 +68,7 @@ module _ (ms : List Message) (S : List Slot) (p : Plain) (x : Run) (L : Link ms 
 
   wanting :
       noneWaiting (kindNumber (t .message .request)) (placeFor t) (cutPacket t .operands .immediate) (x .whole .pair .message .kind) (x .whole .pair .entries .count)
-      ≡ (needsEntry t && none (p .waiting))
+      ≡ (slotNeedsEntry t && none (p .waiting))
   wanting =
       waiting-is (x .whole .pair .setup) (x .whole .regions) fits t H (x .whole .pair .message) (p .held) (L .opened) (p .waiting) (x .whole .pair .entries .count)
       (count-is (x .whole .entries) (x .whole .pair .entries) (p .held ++ p .waiting) (L .entries))
@@ -77,7 +77,7 @@ module _ (ms : List Message) (S : List Slot) (p : Plain) (x : Run) (L : Link ms 
   decides = expectedDecision (cutPacket t) (x .whole .pair .setup) (x .whole .pair .message) (x .whole .pair .entries .count) entry region
 
   -- no entry: 19, and the NAK mark
-  waits : (needsEntry t && none (p .waiting)) ≡ true → Link ms S p (stepBy x decides (packetAt t))
+  waits : (slotNeedsEntry t && none (p .waiting)) ≡ true → Link ms S p (stepBy x decides (packetAt t))
   unfolding expectedDecision checkedDecision failed acknowledging statusNumber pairBy apply.after savedBy memoryBy actsAtomic
   waits e =
       subst
@@ -86,7 +86,7 @@ module _ (ms : List Message) (S : List Slot) (p : Plain) (x : Run) (L : Link ms 
       (eases L true (x .whole .pair .read) (p .r) (L .reads))
 
   -- it passes the checks: it does what d does
-  goes : (d : Decision) → (needsEntry t && none (p .waiting)) ≡ false
+  goes : (d : Decision) → (slotNeedsEntry t && none (p .waiting)) ≡ false
       → Behind (x .whole .pair .setup) (x .whole .pair .message) (cutPacket t) entry region
       → execute (cutPacket t) M (x .whole .pair .message) entry region (x .whole .pair .setup .pmtu) ≡ d
       → Does ms S p x d (packetAt t) (firstOf (heldNow p t))
@@ -119,7 +119,7 @@ module _ (ms : List Message) (S : List Slot) (p : Plain) (x : Run) (L : Link ms 
   unfolding execute
   carries-here e = rw e
 
-  module _ (free : (needsEntry t && none (p .waiting)) ≡ false) where
+  module _ (free : (slotNeedsEntry t && none (p .waiting)) ≡ false) where
     abbrev Executed : Type 0
     Executed = Link ms S (executeWith (x .whole .regions) p t (firstOf (heldNow p t))) (stepBy x decides (packetAt t))
 
@@ -179,9 +179,9 @@ module _ (ms : List Message) (S : List Slot) (p : Plain) (x : Run) (L : Link ms 
     by-request (FetchAdd y v) e = swap-here 20 2 _ (subst Single (sym e) (add-single y v)) (subst (λ r. Swaps r 20 2 (λ m at c w. fetchAdded m at w)) (sym e) (adds-swaps y v)) refl
 
   pub here : Link ms S (executeNext (x .whole .regions) p t) (stepBy x decides (packetAt t))
-  here = go (needsEntry t && none (p .waiting)) refl
+  here = go (slotNeedsEntry t && none (p .waiting)) refl
     where
-      go : (b : Bool) → (needsEntry t && none (p .waiting)) ≡ b
+      go : (b : Bool) → (slotNeedsEntry t && none (p .waiting)) ≡ b
           → Link ms S (cond b p (executeWith (x .whole .regions) p t (firstOf (heldNow p t)))) (stepBy x decides (packetAt t))
       go true e = waits e
       go false e = by-request e (t .message .request) refl

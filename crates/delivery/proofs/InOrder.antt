@@ -11,7 +11,7 @@ use Rattle.sequence.specs.Sequence.{space, psnAfter, msnNext}
 use Rattle.table.specs.declared.Entry.{Entry}
 use Rattle.pair.specs.declared.Setup.{Setup}
 use Rattle.delivery.specs.Stream.{Message, Slot, slot, psnCount, stream, numberAlong}
-use Rattle.delivery.specs.Plain.{Plain, Call, needsEntry, none, firstOf, isRead, isLast, takesEntry}
+use Rattle.delivery.specs.Plain.{Plain, Call, slotNeedsEntry, none, firstOf, isRead, isLast, takesEntry}
 use Rattle.delivery.specs.Plain.{completionFor, memoryAfter, withResponses, withWaiting, executeWith}
 use Rattle.delivery.specs.Plain.{executeNext, plainStep, plain, start}
 use Rattle.delivery.specs.Plain.Call.{Hand, Next, Post}
@@ -65,17 +65,17 @@ module _ (regions : List (List ℕ)) (S : List Slot) where
         r = 0;
       }
 
-  next-behind : (p : Plain) (rest : List Entry) → needsEntry (slot S (p .k)) && none (p .waiting) ≡ false
+  next-behind : (p : Plain) (rest : List Entry) → slotNeedsEntry (slot S (p .k)) && none (p .waiting) ≡ false
       → Equal (behind (executedNext regions S p) rest) (executedNext regions S (behind p rest))
   unfolding executeWith
   next-behind p rest e =
       let t = slot S (p .k) in
-      λ i. result p t (held-front (needsEntry t) (p .waiting) rest (p .held) e i) (waiting-front (needsEntry t) (p .waiting) rest e i)
+      λ i. result p t (held-front (slotNeedsEntry t) (p .waiting) rest (p .held) e i) (waiting-front (slotNeedsEntry t) (p .waiting) rest e i)
 
   module _ (from : Plain) where
     -- packet n has the entry that it needs
     abbrev HasEntry : ℕ → Type 0
-    HasEntry n = needsEntry (slot S n) && none (inOrder regions S from n .waiting) ≡ false
+    HasEntry n = slotNeedsEntry (slot S n) && none (inOrder regions S from n .waiting) ≡ false
 
     -- the plain run at p, with entries still to be posted, stands where its k packets in order stand, each of which had
     -- the entry that it needs
@@ -90,12 +90,12 @@ module _ (regions : List (List ℕ)) (S : List Slot) where
         go true e = subst HasEntry (sym (eqb-true n k e)) h
         go false e = f n (omega (arith, eqb-false n k e))
 
-    executes : (p : Plain) (rest : List Entry) → needsEntry (slot S (p .k)) && none (p .waiting) ≡ false → Follows p rest
+    executes : (p : Plain) (rest : List Entry) → slotNeedsEntry (slot S (p .k)) && none (p .waiting) ≡ false → Follows p rest
         → Follows (executedNext regions S p) rest
     unfolding executeWith inOrder
     executes p rest e F =
         let h : HasEntry (p .k) =
-        subst (λ x. needsEntry (slot S (p .k)) && none (x .waiting) ≡ false) (F .equal) (none-front (needsEntry (slot S (p .k))) (p .waiting) rest e) in
+        subst (λ x. slotNeedsEntry (slot S (p .k)) && none (x .waiting) ≡ false) (F .equal) (none-front (slotNeedsEntry (slot S (p .k))) (p .waiting) rest e) in
         record {
           equal = next-behind p rest e ∙ next-equal (behind p rest) (inOrder regions S from (p .k)) (F .equal);
           entry = λ n b. up-to (p .k) n h (F .entry) b;
@@ -118,7 +118,7 @@ module _ (regions : List (List ℕ)) (S : List Slot) where
         (λ b. either (not (eqb (p .r) 0)) (λ c. F)
         (λ c. either (eqb j (p .k))
         (λ d. subst (λ n. Follows (executeNext regions p (slot S n)) rest) (sym (eqb-true j (p .k) d))
-        (either (needsEntry (slot S (p .k)) && none (p .waiting)) (λ e. F) (λ e. executes p rest e F)))
+        (either (slotNeedsEntry (slot S (p .k)) && none (p .waiting)) (λ e. F) (λ e. executes p rest e F)))
         (λ d. either (ltb j (p .k) && isRead (slot S j .message .request)) (λ e. answers p rest (psnCount (slot S j)) F) (λ e. F)))))
 
     one : (s : Setup) (p : Plain) (c : Call) (rest : List Entry) → Follows p (acceptedNow s p c ++ rest)
@@ -208,7 +208,7 @@ module _ (s : Setup) (regions : List (List ℕ)) (ms : List Message) (S : List S
       (λ _. within (not (eqb (length (p .memory)) (s .memory))) (λ _. b)
       (λ _. within (not (eqb (p .r) 0)) (λ _. b)
       (λ _. within (eqb j (p .k))
-      (λ d. within (needsEntry (slot S j) && none (p .waiting)) (λ _. b) (λ _. record { is = omega (arith, eqb-true j (p .k) d, h .inside) }))
+      (λ d. within (slotNeedsEntry (slot S j) && none (p .waiting)) (λ _. b) (λ _. record { is = omega (arith, eqb-true j (p .k) d, h .inside) }))
       (λ _. within (ltb j (p .k) && isRead (slot S j .message .request)) (λ _. record { is = b .is }) (λ _. b)))))
   inside-one p (Next out) h b =
       within (eqb (p .r) 0) (λ _. b)

@@ -23,7 +23,7 @@ use Rattle.responder_spec.specs.Decide.{regionFor, completes, targetOffset, sto
 use Rattle.responder_spec.specs.Apply.{memoryBy}
 use Rattle.delivery.specs.Stream.{packetCount, Slot, packetAt}
 use Rattle.delivery.specs.Plain.{regionOffset, takesEntry, isLast}
-use Rattle.delivery.specs.Demand.{InRegion}
+use Rattle.delivery.specs.Demand.{LiesInRegion}
 use Rattle.delivery.proofs.Chain.{Stands}
 use Rattle.delivery.proofs.Places.{Sizes}
 use Rattle.delivery.proofs.Cutting.{netFor, placeFor, cutPacket, sizes}
@@ -130,7 +130,7 @@ module _ (s : Setup) (regions : List (List ℕ)) (f : SetupFit s) (t : Slot) (H 
     region-is = ap (λ k. regionFor k (M .key) regions) (Z .kind) ∙ ap (λ k. regionOf k regions) (N .key)
 
     -- what is named lies in the region
-    right : InRegion regions (λ r. r .write) (keyOf (t .message .request)) (addressOf (t .message .request)) (length (t .message .bytes))
+    right : LiesInRegion regions (λ r. r .write) (keyOf (t .message .request)) (addressOf (t .message .request)) (length (t .message .bytes))
     right = Z .right s regions (length (t .message .bytes)) (H .allowed)
 
     module _ (sound : RegionsSound (s .memory) regions) where

@@ -27,7 +27,7 @@ use Rattle.responder_spec.specs.Apply.{memoryBy}
 use Rattle.responder_spec.specs.declared.Decision.{Decision}
 use Rattle.delivery.specs.Stream.{psnCountOf}
 use Rattle.delivery.specs.Plain.{needsEntryAt, takesEntry, completionWith, completionFor, regionOffset, memoryAfter, isRead}
-use Rattle.delivery.specs.Demand.{InRegion, Allowed, AtLeast}
+use Rattle.delivery.specs.Demand.{LiesInRegion, Allowed, AtLeast}
 use Rattle.delivery.proofs.Operands.{keyOf, addressOf, namedOf, immediateOf, valueOf}
 use Rattle.delivery.proofs.Rel.{Holding}
 use Rattle.delivery.proofs.Fitting.{Suits, swap-right, add-right}
@@ -62,7 +62,7 @@ pub record Writes (r : Request) : Type 0 where
   pub holding : (n : ℕ) (held : List Entry) → held ≡ [] → Holding r n held
   pub held : (n : ℕ) (held : List Entry) → Holding r n held → held ≡ []
   pub suits : (n most : ℕ) → Suits r n most
-  pub right : (s : Setup) (regions : List (List ℕ)) (n : ℕ) → Allowed s regions r n → InRegion regions (λ x. x .write) (keyOf r) (addressOf r) n
+  pub right : (s : Setup) (regions : List (List ℕ)) (n : ℕ) → Allowed s regions r n → LiesInRegion regions (λ x. x .write) (keyOf r) (addressOf r) n
   pub named : (n : ℕ) → namedOf r n ≡ n
 
 -- READs and atomics: one packet, no entry
@@ -178,7 +178,7 @@ pub record Swaps (r : Request) (k act : ℕ) (does : List ℕ → ℕ → ℕ �
   pub read : isRead r ≡ false
   pub psnCount : (pmtu : ℕ) → psnCountOf r pmtu ≡ 1
   pub named : (n : ℕ) → namedOf r n ≡ 8
-  pub right : (s : Setup) (regions : List (List ℕ)) (n : ℕ) → Allowed s regions r n → InRegion regions (λ x. x .atomic) (keyOf r) (addressOf r) 8
+  pub right : (s : Setup) (regions : List (List ℕ)) (n : ℕ) → Allowed s regions r n → LiesInRegion regions (λ x. x .atomic) (keyOf r) (addressOf r) 8
   pub rights : (x : Region) → rightOf k (regionRow x) ≡ cond (x .atomic) 1 0
   pub lands :
       (n place : ℕ) (regions : List (List ℕ)) (pmtu : ℕ) (d : List ℕ) (i : ℕ) (e : Entry) (m : List ℕ)

@@ -22,7 +22,7 @@ use Rattle.responder_spec.specs.Decide.{headEntry, regionFor, completionOf, mes
 use Rattle.responder_spec.specs.Apply.{memoryBy, entriesBy}
 use Rattle.responder_spec.specs.Calls.{reports}
 use Rattle.delivery.specs.Stream.{Message, packetCount, Slot, slot, packetAt}
-use Rattle.delivery.specs.Plain.{Plain, takesEntry, completionFor, none, firstOf, needsEntry, isLast, heldNow, waitingNow}
+use Rattle.delivery.specs.Plain.{Plain, takesEntry, completionFor, none, firstOf, slotNeedsEntry, isLast, heldNow, waitingNow}
 use Rattle.delivery.specs.Demand.{Run, AllLongEnough, LongEnough, entryOf}
 use Rattle.delivery.proofs.Chain.{Stands, Good}
 use Rattle.delivery.proofs.Cutting.{placeFor, cutPacket}
@@ -53,7 +53,7 @@ module _ (ms : List Message) (S : List Slot) (p : Plain) (x : Run) (L : Link ms 
     (G : Good (x .whole .pair .setup) (x .whole .regions) ms S) (lt : p .k < length S)
     (ml : length (p .memory) ≡ x .whole .pair .setup .memory)
     (C : Carries (slot S (p .k) .message .request)) (Z : Sends (slot S (p .k) .message .request))
-    (free : (needsEntry (slot S (p .k)) && none (p .waiting)) ≡ false) where
+    (free : (slotNeedsEntry (slot S (p .k)) && none (p .waiting)) ≡ false) where
   abbrev t : Slot
   t = slot S (p .k)
 
@@ -72,7 +72,7 @@ module _ (ms : List Message) (S : List Slot) (p : Plain) (x : Run) (L : Link ms 
   pub entered : Entered
   entered = go (eqb (t .index) 0) refl (L .opened)
     where
-      needing-is : needsEntry t ≡ eqb (t .index) 0
+      needing-is : slotNeedsEntry t ≡ eqb (t .index) 0
       needing-is = Z .needsEntryAt (t .index) (packetCount (t .message))
 
       count : x .whole .pair .entries .count ≡ length (p .held ++ p .waiting)
@@ -130,7 +130,7 @@ module _ (ms : List Message) (S : List Slot) (p : Plain) (x : Run) (L : Link ms 
   last-is : ends (placeFor t) ≡ isLast t
   last-is = ends-is (x .whole .pair .setup) (x .whole .regions) fits t H (x .whole .pair .message) (p .held) (L .opened)
 
-  ring-is : (a b : Bool) → needsEntry t ≡ a → (isLast t && takesEntry (t .message .request)) ≡ b → isLast t ≡ b
+  ring-is : (a b : Bool) → slotNeedsEntry t ≡ a → (isLast t && takesEntry (t .message .request)) ≡ b → isLast t ≡ b
       → map entryOf (inRing (x .whole .entries) (entriesBy b (x .whole .pair .entries)))
       ≡ cond (isLast t) [] (heldNow p t) ++ waitingNow p t
   ring-is a b e f g =
@@ -159,7 +159,7 @@ module _ (ms : List Message) (S : List Slot) (p : Plain) (x : Run) (L : Link ms 
         completion = completionWith .0;
         entries =
             ap (λ b. map entryOf (inRing (x .whole .entries) (entriesBy b (x .whole .pair .entries)))) (completionWith .1)
-            ∙ ring-is (needsEntry t) (isLast t && takesEntry (t .message .request)) refl refl (sym (and-true (isLast t)) ∙ ap (λ b. isLast t && b) (sym (Z .takesEntry)));
+            ∙ ring-is (slotNeedsEntry t) (isLast t && takesEntry (t .message .request)) refl refl (sym (and-true (isLast t)) ∙ ap (λ b. isLast t && b) (sym (Z .takesEntry)));
         opened =
             under-next S (p .k) (messageAfter (placeFor t) M (payloadSize (cutPacket t))) (cond (isLast t) [] (heldNow p t)) (G .turn (p .k) lt) (H .outgoing .inside)
             (λ e. (grown-last (x .whole .pair .setup) (x .whole .regions) fits t H (x .whole .pair .message) (p .held) (L .opened) C entry region e, ap (λ b. cond b [] (heldNow p t)) e))

@@ -22,7 +22,7 @@ use Rattle.responder_spec.specs.Decide.{noCompletion, regionFor, acceptRead, ru
 use Rattle.responder_spec.specs.Apply.{memoryBy, readBy, entriesBy}
 use Rattle.responder_spec.specs.Calls.{reports}
 use Rattle.delivery.specs.Stream.{Message, packetCount, Slot, slot, psnCount, packetAt}
-use Rattle.delivery.specs.Plain.{Plain, regionOffset, takesEntry, completionFor, firstOf, needsEntry, isLast, heldNow, waitingNow}
+use Rattle.delivery.specs.Plain.{Plain, regionOffset, takesEntry, completionFor, firstOf, slotNeedsEntry, isLast, heldNow, waitingNow}
 use Rattle.delivery.specs.Demand.{Run, entryOf}
 use Rattle.delivery.proofs.Chain.{Stands, Good}
 use Rattle.delivery.proofs.Cutting.{placeFor, cutPacket}
@@ -67,7 +67,7 @@ module _ (ms : List Message) (S : List Slot) (p : Plain) (x : Run) (L : Link ms 
   placed-none : M .stored ≡ 0
   placed-none = N .stored ∙ omega (arith, ap (λ i. i * t .message .connection .pmtu) zeroth)
 
-  needing-is : needsEntry t ≡ false
+  needing-is : slotNeedsEntry t ≡ false
   needing-is = O .needsEntryAt (t .index) (packetCount (t .message))
 
   ring-is : map entryOf (inRing (x .whole .entries) (entriesBy false (x .whole .pair .entries))) ≡ cond (isLast t) [] (heldNow p t) ++ waitingNow p t
@@ -85,9 +85,9 @@ module _ (ms : List Message) (S : List Slot) (p : Plain) (x : Run) (L : Link ms 
   nothing-told true e = e
   nothing-told false e = refl
 
-  untold : reports noCompletion
+  unreported : reports noCompletion
       ≡ cond (isLast t && takesEntry (t .message .request)) (completionFor (t .message .request) (firstOf (heldNow p t)) (length (t .message .bytes)) ∷ []) []
-  untold =
+  unreported =
       ap (λ b. cond b (completionFor (t .message .request) (firstOf (heldNow p t)) (length (t .message .bytes)) ∷ []) [])
       (sym (nothing-told (isLast t) (O .takesEntry)))
 
@@ -105,7 +105,7 @@ module _ (ms : List Message) (S : List Slot) (p : Plain) (x : Run) (L : Link ms 
         ends = sym last-is;
         reads = rw (ne-eqb (pieces (M .length) (x .whole .pair .setup .pmtu)) 0 (λ z. absurd (omega arith)), R .read) n;
         memory = L .memory ∙ sym (R .lands (x .whole .regions) (t .message .connection .pmtu) (t .message .bytes) (t .index) (firstOf (heldNow p t)) (p .memory));
-        completion = untold;
+        completion = unreported;
         entries = ring-is;
         opened = under-is;
       }
@@ -147,7 +147,7 @@ module _ (ms : List Message) (S : List Slot) (p : Plain) (x : Run) (L : Link ms 
             W .acts D (x .memory) (packetAt t) a
             ∙ ((λ i. does (L .memory i) (at-is k act does W z i) (cutPacket t .operands .compare) (cutPacket t .operands .swap))
             ∙ sym (W .lands n (placeFor t) (x .whole .regions) (t .message .connection .pmtu) (t .message .bytes) (t .index) (firstOf (heldNow p t)) (p .memory)));
-        completion = untold;
+        completion = unreported;
         entries = ring-is;
         opened = under-is;
       }

@@ -17,7 +17,7 @@ use Rattle.pair.specs.declared.Setup.{Setup}
 use Rattle.pair.specs.declared.OpenMessage.{OpenMessage}
 use Rattle.request_spec.specs.declared.Packet.{Packet}
 use Rattle.delivery.specs.Plain.{regionOffset}
-use Rattle.delivery.specs.Demand.{InRegion}
+use Rattle.delivery.specs.Demand.{LiesInRegion}
 use Rattle.request_spec.specs.Verdict.{outOfSequence, notEnabled, padEarly, overLimit, noneWaiting, entryOutside}
 use Rattle.request_spec.specs.Verdict.{keyFails, keyLacking, bytesToCome, rightOf, lacks, lengthsOff, current}
 use Rattle.request_spec.specs.Verdict.{requestCode, expectedCode}
@@ -92,11 +92,11 @@ module _ (memory kind key address n off : ℕ) (rows : List (List ℕ)) (right :
       )
       (le-ltb (r .address + r .length) (m .address + m .stored + (m .length - m .stored)) (omega arith))
 
-  pub key-passes : InRegion rows right key address n → keyFails memory kind m (regionOf key rows) ≡ false
+  pub key-passes : LiesInRegion rows right key address n → keyFails memory kind m (regionOf key rows) ≡ false
   unfolding keyFails keyLacking bytesToCome
   key-passes h = go (eqb kind 0) (eqb (m .length - m .stored) 0) refl h
     where
-      go : (a b : Bool) → eqb (m .length - m .stored) 0 ≡ b → InRegion rows right key address n
+      go : (a b : Bool) → eqb (m .length - m .stored) 0 ≡ b → LiesInRegion rows right key address n
           → cond a false (cond b false (lacks (regionOf key rows) (rightOf kind (regionOf key rows)) memory (m .address + m .stored) (m .length - m .stored))) ≡ false
       go true b e h = refl
       go false true e h = refl
@@ -107,7 +107,7 @@ module _ (memory kind key address n off : ℕ) (rows : List (List ℕ)) (right :
           (held-span (g .0) (g .1) (g .2) (g .3) (g .4) o)
 
   -- and says where they go
-  pub spot-is : InRegion rows right key address n → off < n
+  pub spot-is : LiesInRegion rows right key address n → off < n
       → (memoryOffset (regionOf key rows) (m .address + m .stored) (bytesToCome (m .length) (m .stored)) ≡ regionOffset rows key address + off)
       × (regionOffset rows key address + n ≤ memory)
   unfolding memoryOffset bytesToCome regionOffset regionRow

@@ -20,7 +20,7 @@ use Rattle.responder_spec.specs.Kept.{Steady}
 use Rattle.responder_spec.specs.declared.Decision.{Decision}
 use Rattle.responder_spec.proofs.Kept.{inbound-steady, next-steady, post-steady}
 use Rattle.delivery.specs.Stream.{Message, Slot, slot, stream, psnCount, numberAlong}
-use Rattle.delivery.specs.Plain.{Plain, Call, none, firstOf, isRead, needsEntry, isLast, heldNow, withResponses, withWaiting, executeWith, plainStep, plain, start}
+use Rattle.delivery.specs.Plain.{Plain, Call, none, firstOf, isRead, slotNeedsEntry, isLast, heldNow, withResponses, withWaiting, executeWith, plainStep, plain, start}
 use Rattle.delivery.specs.Plain.Call.{Hand, Next, Post}
 use Rattle.delivery.specs.Demand.{Run, step, LongEnough, CallPermitted, AllCallsPermitted, Handed, Posted, waitingAt}
 use Rattle.delivery.specs.Witness.{wholeEntry, draining, inTurn, Witness}
@@ -116,7 +116,7 @@ module _ (s : Setup) (regions : List (List ℕ)) (ms : List Message) (S : List S
       → plainStep s regions S p (Hand j out) ≡ executeWith regions p (slot S j) (firstOf (heldNow p (slot S j)))
   taken p j e r m w =
       rw (le-ltb (length out) 24 (omega arith), eq-eqb (length (p .memory)) (s .memory) m, eq-eqb (p .r) 0 r, eq-eqb j (p .k) e, w)
-      (ap (λ b. cond b p (executeWith regions p (slot S j) (firstOf (heldNow p (slot S j))))) (and-false (needsEntry (slot S j))))
+      (ap (λ b. cond b p (executeWith regions p (slot S j) (firstOf (heldNow p (slot S j))))) (and-false (slotNeedsEntry (slot S j))))
 
   -- asking for a response takes one away, if there is one
   fewer : (p : Plain) → length (p .memory) ≡ s .memory → plainStep s regions S p (Next out) ≡ withResponses p (p .r - 1)
@@ -165,7 +165,7 @@ module _ (s : Setup) (regions : List (List ℕ)) (ms : List Message) (S : List S
       drains (psnCount (slot S j)) p2 _ (inTurn s out S (suc j) n) (subst (λ q. Together q (step S (step S x (Post (wholeEntry s))) (Hand j out))) e T2)
       (answers (isRead (slot S j .message .request)) (psnCount (slot S j)) (p1 .r) (A .r ∙ r))
       (λ y U. turns n (suc j) (withResponses p2 0) y U (ap suc (A .k ∙ k)) (omega (arith, l)) refl
-      (none-few (isLast (slot S j)) (heldNow p1 (slot S j)) (few (needsEntry (slot S j)) (p1 .held) (p1 .waiting) (subst (λ es. length es ≤ 1) (sym (A .held)) h)))) in
+      (none-few (isLast (slot S j)) (heldNow p1 (slot S j)) (few (slotNeedsEntry (slot S j)) (p1 .held) (p1 .waiting) (subst (λ es. length es ≤ 1) (sym (A .held)) h)))) in
       let a = subst (λ q. Goal q (draining out (psnCount (slot S j)) (inTurn s out S (suc j) n))) (sym e) g in
       ((m1, (m2, a .0)), a .1)
 

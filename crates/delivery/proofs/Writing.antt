@@ -19,7 +19,7 @@ use Rattle.responder_spec.specs.Decide.{headEntry, regionFor, completionOf, mes
 use Rattle.responder_spec.specs.Apply.{memoryBy, entriesBy}
 use Rattle.responder_spec.specs.Calls.{reports}
 use Rattle.delivery.specs.Stream.{Message, packetCount, Slot, slot, packetAt}
-use Rattle.delivery.specs.Plain.{Plain, regionOffset, takesEntry, completionFor, none, firstOf, needsEntry, isLast, heldNow, waitingNow}
+use Rattle.delivery.specs.Plain.{Plain, regionOffset, takesEntry, completionFor, none, firstOf, slotNeedsEntry, isLast, heldNow, waitingNow}
 use Rattle.delivery.specs.Demand.{Run, entryOf}
 use Rattle.delivery.proofs.Chain.{Stands, Good}
 use Rattle.delivery.proofs.Cutting.{placeFor, cutPacket}
@@ -48,7 +48,7 @@ module _ (ms : List Message) (S : List Slot) (p : Plain) (x : Run) (L : Link ms 
     (G : Good (x .whole .pair .setup) (x .whole .regions) ms S) (lt : p .k < length S)
     (ml : length (p .memory) ≡ x .whole .pair .setup .memory)
     (C : Carries (slot S (p .k) .message .request)) (Z : Writes (slot S (p .k) .message .request))
-    (free : (needsEntry (slot S (p .k)) && none (p .waiting)) ≡ false) where
+    (free : (slotNeedsEntry (slot S (p .k)) && none (p .waiting)) ≡ false) where
   abbrev t : Slot
   t = slot S (p .k)
 
@@ -77,11 +77,11 @@ module _ (ms : List Message) (S : List Slot) (p : Plain) (x : Run) (L : Link ms 
   last-is : ends (placeFor t) ≡ isLast t
   last-is = ends-is (x .whole .pair .setup) (x .whole .regions) fits t H (x .whole .pair .message) (p .held) (L .opened)
 
-  needing-is : needsEntry t ≡ (isLast t && takesEntry (t .message .request))
+  needing-is : slotNeedsEntry t ≡ (isLast t && takesEntry (t .message .request))
   needing-is = Z .needsEntryAt (t .index) (packetCount (t .message)) ∙ ap (λ b. isLast t && b) (sym (Z .takesEntry))
 
   -- where an entry is taken, there is one
-  pub taken : needsEntry t ≡ true → (1 ≤ x .whole .pair .entries .count) × (entryOf entry ≡ firstOf (heldNow p t))
+  pub taken : slotNeedsEntry t ≡ true → (1 ≤ x .whole .pair .entries .count) × (entryOf entry ≡ firstOf (heldNow p t))
   taken e =
       let w = head-taken (p .waiting) (subst (λ b. (b && none (p .waiting)) ≡ false) e free) in
       let c : 1 ≤ x .whole .pair .entries .count =

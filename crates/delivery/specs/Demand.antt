@@ -4,16 +4,12 @@ use mathlib.Core.Path.{_≡_}
 use mathlib.Core.Bool.{Bool, true, false}
 use mathlib.Core.List.{List, [], _∷_, _++_, map}
 use mathlib.Core.Logic.{_⊎_}
-use lib.ListN.{length}
-use Rattle.opcode.specs.Service as Service
+use lib.ListN.{getD, length}
 use Rattle.header.specs.Check.{pkeysMatch}
-use Rattle.table.specs.EntryRow as EntryRow
 use Rattle.table.specs.Table.{regionRow}
 use Rattle.table.specs.View.{regionOf}
 use Rattle.table.specs.declared.Region.{Region}
 use Rattle.table.specs.declared.Entry.{Entry}
-use Rattle.pair.specs.State as State
-use Rattle.pair.specs.Pair.{closed}
 use Rattle.pair.specs.View.{entriesOf}
 use Rattle.pair.specs.Calls.HostCall.{PostEntry}
 use Rattle.pair.specs.Calls.{Whole, called}
@@ -64,18 +60,18 @@ run S x (c ∷ cs) = run S (step S x c) cs
 -- A fresh pair: made by calls, reliable, Ready, its regions added, nothing delivered. Entries may wait.
 pub record Fresh (w : Whole) : Type 0 where
   pub sound : WholeSound w
-  pub reliable : w .pair .setup .service ≡ Service.rc
-  pub ready : w .pair .state ≡ State.ready
+  pub reliable : w .pair .setup .service ≡ 0
+  pub ready : w .pair .state ≡ 1
   pub expected : w .pair .expected ≡ w .pair .setup .start
   pub msn : w .pair .msn .0 ≡ 0
   pub nakmark : w .pair .nakmark ≡ false
-  pub message : w .pair .message .kind ≡ closed
+  pub message : w .pair .message .kind ≡ 255
   pub read : w .pair .read .remaining ≡ 0
   pub saved : w .pair .saved .count ≡ 0
 
 -- A permitted message. Bytes named lie in the region of the R_Key, which has the right; no bytes lie anywhere.
-abbrev pub InRegion : List (List ℕ) → (Region → Bool) → ℕ → ℕ → ℕ → Type 0
-InRegion regions right key address n =
+abbrev pub LiesInRegion : List (List ℕ) → (Region → Bool) → ℕ → ℕ → ℕ → Type 0
+LiesInRegion regions right key address n =
     (n ≡ 0)
     ⊎ ((r : Region) × (regionOf key regions ≡ regionRow r) × (right r ≡ true) × (r .address ≤ address) × (address + n ≤ r .address + r .length))
 
@@ -83,11 +79,11 @@ InRegion regions right key address n =
 abbrev pub Allowed : Setup → List (List ℕ) → Request → ℕ → Type 0
 Allowed s regions Send n = s .send ≡ true
 Allowed s regions (SendImmediate v) n = s .send ≡ true
-Allowed s regions (Write t) n = (s .write ≡ true) × InRegion regions (λ r. r .write) (t .key) (t .address) n
-Allowed s regions (WriteImmediate t v) n = (s .write ≡ true) × InRegion regions (λ r. r .write) (t .key) (t .address) n
-Allowed s regions (Read a) n = (s .read ≡ true) × InRegion regions (λ r. r .read) (a .key) (a .address) (a .length)
-Allowed s regions (CmpSwap a) n = (s .atomic ≡ true) × InRegion regions (λ r. r .atomic) (a .key) (a .address) 8 × (a .address % 8 ≡ 0)
-Allowed s regions (FetchAdd t v) n = (s .atomic ≡ true) × InRegion regions (λ r. r .atomic) (t .key) (t .address) 8 × (t .address % 8 ≡ 0)
+Allowed s regions (Write t) n = (s .write ≡ true) × LiesInRegion regions (λ r. r .write) (t .key) (t .address) n
+Allowed s regions (WriteImmediate t v) n = (s .write ≡ true) × LiesInRegion regions (λ r. r .write) (t .key) (t .address) n
+Allowed s regions (Read a) n = (s .read ≡ true) × LiesInRegion regions (λ r. r .read) (a .key) (a .address) (a .length)
+Allowed s regions (CmpSwap a) n = (s .atomic ≡ true) × LiesInRegion regions (λ r. r .atomic) (a .key) (a .address) 8 × (a .address % 8 ≡ 0)
+Allowed s regions (FetchAdd t v) n = (s .atomic ≡ true) × LiesInRegion regions (λ r. r .atomic) (t .key) (t .address) 8 × (t .address % 8 ≡ 0)
 
 -- It comes to the pair: it is cut at the pair's PMTU, passes its header checks, is within the limits, each number
 -- within its field
@@ -152,7 +148,7 @@ AllCallsPermitted s regions ms S p (c ∷ cs) = CallPermitted s ms S p c × AllC
 
 -- the entries that wait at the start
 abbrev pub entryOf : List ℕ → Entry
-entryOf row = record { number = EntryRow.number row; offset = EntryRow.offset row; length = EntryRow.length row }
+entryOf row = record { number = getD row 0 0; offset = getD row 1 0; length = getD row 2 0 }
 
 abbrev pub waitingAt : Whole → List Entry
 waitingAt w = map entryOf (entriesOf (w .pair) (w .entries))

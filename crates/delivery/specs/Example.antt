@@ -59,7 +59,7 @@ messages =
     ∷ message 65535 (FetchAdd (record { address = 66552; key = 7 }) 2) 0
     ∷ []
 
-pub record Met : Type 0 where
+pub record Fulfilled : Type 0 where
   pub fresh : Fresh made
   pub permitted : AllPermitted (made .pair .setup) (made .regions) messages
   pub waiting : AllLongEnough messages (waitingAt made)

@@ -10,7 +10,7 @@ use Rattle.table.specs.declared.Entry.{Entry}
 use Rattle.pair.specs.Calls.{Whole}
 use Rattle.pair.specs.declared.Setup.{Setup}
 use Rattle.delivery.specs.Stream.{Message, Slot, slot, stream, numberAlong}
-use Rattle.delivery.specs.Plain.{Plain, Call, needsEntry, none, firstOf, heldNow, executeWith, plainStep, plain, start}
+use Rattle.delivery.specs.Plain.{Plain, Call, slotNeedsEntry, none, firstOf, heldNow, executeWith, plainStep, plain, start}
 use Rattle.delivery.specs.Plain.Call.{Hand, Next, Post}
 use Rattle.delivery.specs.Demand.{run, Fresh, AllPermitted, AllLongEnough, AllCallsPermitted, waitingAt, Agree}
 
@@ -72,7 +72,7 @@ abbrev pub Supplied : Type 0
 Supplied =
     (s : Setup) (regions : List (List ℕ)) (S : List Slot) (m : List ℕ) (waiting : List Entry) (calls : List Call) (n : ℕ)
     → n < plain s regions S (start s m waiting) calls .k
-    → needsEntry (slot S n) && none (inOrder regions S (supplied s regions S m waiting calls) n .waiting) ≡ false
+    → slotNeedsEntry (slot S n) && none (inOrder regions S (supplied s regions S m waiting calls) n .waiting) ≡ false
 
 -- So the pair's run, under what demand 3 asks, is k packets of the stream in order, each once.
 abbrev pub ExactlyOnce : Type 0

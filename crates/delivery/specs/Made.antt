@@ -3,8 +3,6 @@ use Prim.Native.Nat.{ℕ}
 use mathlib.Core.Path.{_≡_}
 use mathlib.Core.List.{List, [], _∷_}
 use lib.ListN.{length}
-use Rattle.opcode.specs.Service as Service
-use Rattle.pair.specs.State as State
 use Rattle.pair.specs.Calls.{Whole, HostCall, begun, called, calledAll}
 use Rattle.pair.specs.Calls.HostCall.{SetUp, Reset, MakeReady, AddRegion, RemoveRegion, PostEntry}
 use Rattle.pair.specs.Claims.{SetupSound}
@@ -27,12 +25,12 @@ NoneSetUp (c ∷ cs) = NotSetUp c × NoneSetUp cs
 abbrev pub FreshMade : Type 0
 FreshMade =
     (s : Setup) (regions entries saved : List (List ℕ)) (calls : List HostCall) → SetupSound s
-    → s .service ≡ Service.rc
+    → s .service ≡ 0
     → length entries ≡ 16
     → length saved ≡ 16
     → NoneSetUp calls
     → let w = calledAll (begun s regions entries saved) calls in
-    (w .pair .setup ≡ s) × (w .pair .state ≡ State.ready → Fresh w)
+    (w .pair .setup ≡ s) × (w .pair .state ≡ 1 → Fresh w)
 
 -- And make ready, after whichever of them, leaves it Ready.
 abbrev pub ReadyMade : Type 0
@@ -41,15 +39,15 @@ ReadyMade =
     → length entries ≡ 16
     → length saved ≡ 16
     → NoneSetUp calls
-    → called (calledAll (begun s regions entries saved) calls) MakeReady .pair .state ≡ State.ready
+    → called (calledAll (begun s regions entries saved) calls) MakeReady .pair .state ≡ 1
 
 -- So it is after a reset, whatever the pair has received and its tables hold.
 abbrev pub FreshReset : Type 0
 FreshReset =
     (w : Whole) (calls : List HostCall) → SetupSound (w .pair .setup)
-    → w .pair .setup .service ≡ Service.rc
+    → w .pair .setup .service ≡ 0
     → length (w .entries) ≡ 16
     → length (w .saved) ≡ 16
     → NoneSetUp calls
     → let v = calledAll (called w Reset) calls in
-    (v .pair .setup ≡ w .pair .setup) × (v .pair .state ≡ State.ready → Fresh v)
+    (v .pair .setup ≡ w .pair .setup) × (v .pair .state ≡ 1 → Fresh v)

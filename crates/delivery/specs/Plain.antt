@@ -4,14 +4,13 @@ use Prim.Native.Nat.{ℕ, suc, _+_, _-_, _*_}
 use mathlib.Core.Bool.{Bool, true, false, cond, not, _&&_}
 use mathlib.Core.List.{List, [], _∷_, _++_}
 use lib.Dec.{leb, ltb, eqb}
-use lib.ListN.{length, take, drop}
+use lib.ListN.{getD, length, take, drop}
 use Rattle.sequence.specs.Sequence.{psnAfter, msnNext}
 use Rattle.sequence.specs.declared.Psn.{Psn}
 use Rattle.sequence.specs.declared.Msn.{Msn}
 use Rattle.memory.specs.Memory.{overwrite}
 use Rattle.memory.specs.Word.{fetchAdded, swapped}
 use Rattle.pmtu.specs.Pieces.{pieceAt}
-use Rattle.table.specs.RegionRow as RegionRow
 use Rattle.table.specs.View.{regionOf}
 use Rattle.table.specs.declared.Entry.{Entry}
 use Rattle.pair.specs.declared.Setup.{Setup}
@@ -74,7 +73,7 @@ completionFor (FetchAdd t v) e n = completionWith e n false 0
 -- where in memory the address of a region lies
 unfoldable pub regionOffset : List (List ℕ) → ℕ → ℕ → ℕ
 regionOffset regions key address =
-    RegionRow.offset (regionOf key regions) + (address - RegionRow.address (regionOf key regions))
+    getD (regionOf key regions) 3 0 + (address - getD (regionOf key regions) 1 0)
 
 -- memory after packet i, of the entry e: piece i of the message at its offset
 abbrev pub memoryAfter : Request → List (List ℕ) → ℕ → List ℕ → ℕ → Entry → List ℕ → List ℕ
@@ -105,8 +104,8 @@ abbrev pub firstOf : List Entry → Entry
 firstOf [] = record { number = 0; offset = 0; length = 0 }
 firstOf (e ∷ es) = e
 
-abbrev pub needsEntry : Slot → Bool
-needsEntry t = needsEntryAt (t .message .request) (t .index) (packetCount (t .message))
+abbrev pub slotNeedsEntry : Slot → Bool
+slotNeedsEntry t = needsEntryAt (t .message .request) (t .index) (packetCount (t .message))
 
 abbrev pub isLast : Slot → Bool
 isLast t = eqb (suc (t .index)) (packetCount (t .message))
@@ -122,10 +121,10 @@ withWaiting p waiting =
 
 -- packet k takes the first entry, if it needs one
 abbrev pub heldNow : Plain → Slot → List Entry
-heldNow p t = cond (needsEntry t) (take 1 (p .waiting)) (p .held)
+heldNow p t = cond (slotNeedsEntry t) (take 1 (p .waiting)) (p .held)
 
 abbrev pub waitingNow : Plain → Slot → List Entry
-waitingNow p t = cond (needsEntry t) (drop 1 (p .waiting)) (p .waiting)
+waitingNow p t = cond (slotNeedsEntry t) (drop 1 (p .waiting)) (p .waiting)
 
 -- packet k is executed, once, with its entry e
 unfoldable pub executeWith : List (List ℕ) → Plain → Slot → Entry → Plain
@@ -143,7 +142,7 @@ executeWith regions p t e =
 
 -- packet k has come: without the entry that it needs, nothing
 abbrev pub executeNext : List (List ℕ) → Plain → Slot → Plain
-executeNext regions p t = cond (needsEntry t && none (p .waiting)) p (executeWith regions p t (firstOf (heldNow p t)))
+executeNext regions p t = cond (slotNeedsEntry t && none (p .waiting)) p (executeWith regions p t (firstOf (heldNow p t)))
 
 -- packet j is delivered: packet k is executed, a READ before it, a duplicate, is answered, all else changes nothing
 abbrev pub deliver : List (List ℕ) → List Slot → Plain → ℕ → Plain
@@ -155,8 +154,8 @@ deliver regions S p j =
 abbrev pub answerRoom : ℕ
 answerRoom = 24
 
-abbrev pub responseHeaders : ℕ
-responseHeaders = 16
+abbrev pub responseRoom : ℕ
+responseRoom = 16
 
 -- a call that the order of checks refuses changes nothing
 abbrev pub plainStep : Setup → List (List ℕ) → List Slot → Plain → Call → Plain
@@ -165,7 +164,7 @@ plainStep s regions S p (Hand j out) =
     (cond (not (eqb (length (p .memory)) (s .memory))) p (cond (not (eqb (p .r) 0)) p (deliver regions S p j)))
 plainStep s regions S p (Next out) =
     cond (eqb (p .r) 0) p
-    (cond (ltb (length out) (responseHeaders + s .pmtu)) p (cond (not (eqb (length (p .memory)) (s .memory))) p (withResponses p (p .r - 1))))
+    (cond (ltb (length out) (responseRoom + s .pmtu)) p (cond (not (eqb (length (p .memory)) (s .memory))) p (withResponses p (p .r - 1))))
 plainStep s regions S p (Post e) =
     cond (ltb (s .memory) (e .offset + e .length)) p
     (cond (leb 16 (length (p .held) + length (p .waiting))) p (withWaiting p (p .waiting ++ (e ∷ []))))

@@ -31,10 +31,10 @@ use Rattle.entry_order.specs.Order.{Call, History, start, goes, hosted, 
 use Rattle.entry_order.specs.Order.Call.{Host, Inbound, Next}
 
 -- what is kept: the entries held and waiting are the rows of the ring, and the table has 16 rows
-record Kept (posted : List (List ℕ)) (told : List Completion) (rows : List (List ℕ)) (r : Ring) : Type 0 where
+record Kept (posted : List (List ℕ)) (reported : List Completion) (rows : List (List ℕ)) (r : Ring) : Type 0 where
   rows16 : length rows ≡ 16
   completed : List (List ℕ)
-  names : map (λ c. c .number) told ≡ map (λ row. getD row 0 0) completed
+  names : map (λ c. c .number) reported ≡ map (λ row. getD row 0 0) completed
   order : posted ≡ completed ++ inRing rows r
 
 abbrev Keeps : History → Type 0
@@ -89,8 +89,8 @@ module _ (x : History) (k : Keeps x) where
   rows = x .whole .entries
 
   -- nothing posted, nothing reported, the ring as it was
-  same : (told : List Completion) (new : Ring) → told ≡ x .completions → new ≡ q .entries → Kept (x .posted) told rows new
-  same told new n e =
+  same : (reported : List Completion) (new : Ring) → reported ≡ x .completions → new ≡ q .entries → Kept (x .posted) reported rows new
+  same reported new n e =
       record {
         rows16 = k .rows16;
         completed = k .completed;
@@ -193,7 +193,7 @@ in-order : (x : History) → Keeps x → PostingOrder x
 in-order x k =
     record {
       completed = k .completed;
-      told = k .names;
+      reported = k .names;
       order = k .order ∙ ap (λ l. k .completed ++ l) (sym (held-waiting (x .whole .pair) (x .whole .entries)));
     }
 

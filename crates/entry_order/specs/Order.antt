@@ -4,8 +4,7 @@ use Prim.Native.Nat.{ℕ}
 use mathlib.Core.Path.{_≡_}
 use mathlib.Core.Bool.{cond}
 use mathlib.Core.List.{List, [], _∷_, _++_, map}
-use lib.ListN.{length}
-use Rattle.table.specs.EntryRow as EntryRow
+use lib.ListN.{getD, length}
 use Rattle.table.specs.Table.{entryRow}
 use Rattle.pair.specs.Answer.{executed}
 use Rattle.pair.specs.Host.{resetStatus, postStatus}
@@ -83,7 +82,7 @@ waiting x = waitingOf (x .whole .pair) (x .whole .entries)
 -- Completed are those reported to the host, each by its number and in that order.
 pub record PostingOrder (x : History) : Type 0 where
   pub completed : List (List ℕ)
-  pub told : map (λ c. c .number) (x .completions) ≡ map (λ row. EntryRow.number row) completed
+  pub reported : map (λ c. c .number) (x .completions) ≡ map (λ row. getD row 0 0) completed
   pub order : x .posted ≡ completed ++ (held x ++ waiting x)
 
 -- From any pair on that has no entries, and a table of 16 rows. Nothing is asked of the rest of the pair or of any

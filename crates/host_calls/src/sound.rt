@@ -5,7 +5,7 @@ use sequence::Msn;
 use sequence::Psn;
 ghost use mathlib.Core.Path.{_≡_};
 ghost use Rattle.table.specs.Table.{outside};
-ghost use Rattle.pair.specs.Sound.{setupUnfit, setupUnsound, ringUnsound, sendUnsound, messageUnsound, readUnsound, numbersUnsound, pairUnsound};
+ghost use Rattle.pair.specs.Sound.{setupUnfit, setupUnsound, ringUnsound, sendUnsound, messageUnsound, readUnsound, countersUnsound, pairUnsound};
 
 fn outside(offset: usize, length: usize, memory: usize) -> bool
     ensures { λ r. ⌜ r ≡ outside offset length memory ⌝ }
@@ -126,8 +126,8 @@ pub fn read_unsound(
 }
 
 // The state is one of three, PSN and MSN have 24 bits.
-pub fn numbers_unsound(state: u8, expected: Psn, msn: Msn) -> bool
-    ensures { λ r. ⌜ r ≡ numbersUnsound state (expected .0) (msn .0) ⌝ }
+pub fn counters_unsound(state: u8, expected: Psn, msn: Msn) -> bool
+    ensures { λ r. ⌜ r ≡ countersUnsound state (expected .0) (msn .0) ⌝ }
 {
     if pair::ERROR < state {
         return true;
@@ -147,7 +147,7 @@ pub fn unsound(pair: Pair) -> bool
     if a {
         return true;
     }
-    let b = numbers_unsound(pair.state, pair.expected, pair.msn);
+    let b = counters_unsound(pair.state, pair.expected, pair.msn);
     if b {
         return true;
     }

@@ -15,7 +15,7 @@ use Rattle.pmtu.proofs.Counting.{pmtus}
 use Rattle.table.specs.Table.{addresses, outside, pastTop}
 use Rattle.pair.specs.declared.Setup.{Setup}
 use Rattle.pair.specs.declared.Pair.{Pair}
-use Rattle.pair.specs.Sound.{memoryLimit, setupUnfit, setupUnsound, numbersUnsound, ringUnsound, noEntry, sendUnsound, writeUnsound, messageUnsound, readUnsound, pairUnsound}
+use Rattle.pair.specs.Sound.{memoryLimit, setupUnfit, setupUnsound, countersUnsound, ringUnsound, noEntry, sendUnsound, writeUnsound, messageUnsound, readUnsound, pairUnsound}
 use Rattle.pair.specs.Claims.{SetupFit, SetupSound, MessageSound, Sound, SetupTested, Tested}
 
 -- a flag that names a failing test, and the test
@@ -183,8 +183,8 @@ module _ (remaining offset n psn msn pmtu memory : ℕ) where
       go true = refl
       go false = rest
 
-numbers-fit : (state expected msn : ℕ) → numbersUnsound state expected msn ≡ false → (state ≤ 2) × (expected < 2 ^ 24) × (msn < 2 ^ 24)
-unfolding numbersUnsound
+numbers-fit : (state expected msn : ℕ) → countersUnsound state expected msn ≡ false → (state ≤ 2) × (expected < 2 ^ 24) × (msn < 2 ^ 24)
+unfolding countersUnsound
 numbers-fit state expected msn h =
     let k = or-right (ltb 2 state) _ h in (
       ltb-false 2 state (or-left (ltb 2 state) _ h),
@@ -192,8 +192,8 @@ numbers-fit state expected msn h =
       leb-false space msn (or-right (leb space expected) _ k),
     )
 
-fit-numbers : (state expected msn : ℕ) → (state ≤ 2) × (expected < 2 ^ 24) × (msn < 2 ^ 24) → numbersUnsound state expected msn ≡ false
-unfolding numbersUnsound
+fit-numbers : (state expected msn : ℕ) → (state ≤ 2) × (expected < 2 ^ 24) × (msn < 2 ^ 24) → countersUnsound state expected msn ≡ false
+unfolding countersUnsound
 fit-numbers state expected msn (a, b, c) = neither (le-ltb 2 state a) (neither (lt-leb space expected b) (lt-leb space msn c))
 
 pub tested : Tested
@@ -203,11 +203,11 @@ tested q = (fits, passes)
     fits : pairUnsound q ≡ false → Sound q
     fits h =
         let h2 = or-right (setupUnsound (q .setup)) _ h in
-        let h3 = or-right (numbersUnsound (q .state) (q .expected .0) (q .msn .0)) _ h2 in
+        let h3 = or-right (countersUnsound (q .state) (q .expected .0) (q .msn .0)) _ h2 in
         let h4 = or-right (ringUnsound (q .entries .head) (q .entries .count)) _ h3 in
         let h5 = or-right (ringUnsound (q .saved .head) (q .saved .count)) _ h4 in
         let m = messageUnsound (q .message .kind) (q .message .stored) (q .message .address) (q .message .length) (q .entries .count) in
-        let n = numbers-fit (q .state) (q .expected .0) (q .msn .0) (or-left (numbersUnsound (q .state) (q .expected .0) (q .msn .0)) _ h2) in
+        let n = numbers-fit (q .state) (q .expected .0) (q .msn .0) (or-left (countersUnsound (q .state) (q .expected .0) (q .msn .0)) _ h2) in
         record {
           setup = setup-sound (q .setup) (or-left (setupUnsound (q .setup)) _ h);
           state = n .0;

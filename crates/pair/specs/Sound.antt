@@ -31,8 +31,8 @@ unfoldable pub setupUnsound : Setup → Bool
 setupUnsound s = setupUnfit s || ltb memoryLimit (s .memory)
 
 -- the state is one of the three, PSN and MSN have 24 bits
-unfoldable pub numbersUnsound : ℕ → ℕ → ℕ → Bool
-numbersUnsound state expected msn = ltb State.error state || (leb space expected || leb msnSpace msn)
+unfoldable pub countersUnsound : ℕ → ℕ → ℕ → Bool
+countersUnsound state expected msn = ltb State.error state || (leb space expected || leb msnSpace msn)
 
 -- a table has 16 rows
 unfoldable pub ringUnsound : ℕ → ℕ → Bool
@@ -65,7 +65,7 @@ readUnsound remaining offset length psn msn pmtu memory =
 unfoldable pub pairUnsound : Pair → Bool
 pairUnsound q =
     setupUnsound (q .setup)
-    || (numbersUnsound (q .state) (q .expected .0) (q .msn .0)
+    || (countersUnsound (q .state) (q .expected .0) (q .msn .0)
     || (ringUnsound (q .entries .head) (q .entries .count)
     || (ringUnsound (q .saved .head) (q .saved .count)
     || (messageUnsound (q .message .kind) (q .message .stored) (q .message .address) (q .message .length) (q .entries .count)

@@ -1,6 +1,6 @@
 // Refusals of the inbound call, before its packet is looked at.
+use host_calls::sound::counters_unsound;
 use host_calls::sound::message_unsound;
-use host_calls::sound::numbers_unsound;
 use host_calls::sound::read_unsound;
 use host_calls::sound::ring_unsound;
 use host_calls::sound::setup_unsound;
@@ -17,7 +17,8 @@ fn reads_full(pair: Pair) -> bool
     pair.read.remaining != 0
 }
 
-// The tests of host_calls::sound::unsound, by numbers: a call with the pair would write it to memory for every packet.
+// The tests of host_calls::sound::unsound, by numbers: a call with the pair would write it to memory for every packet,
+// and a SEND takes some 8 ns longer.
 fn unsound(pair: Pair) -> bool
     ensures { λ r. ⌜ r ≡ pairUnsound pair ⌝ }
 {
@@ -26,7 +27,7 @@ fn unsound(pair: Pair) -> bool
     if a {
         return true;
     }
-    let b = numbers_unsound(pair.state, pair.expected, pair.msn);
+    let b = counters_unsound(pair.state, pair.expected, pair.msn);
     if b {
         return true;
     }

@@ -14,18 +14,18 @@ ghost use Prim.Native.Nat.{_+_, _≤_};
 ghost use lib.Dec.{ltb};
 ghost use lib.ListN.{length};
 ghost use Rattle.responder_spec.specs.Apply.{with};
-ghost use Rattle.responder_spec.specs.Response.{indexOf, responseOpcode, responseExtension, responseHeader, nextStatus, oneFewer, nextResponse, nextOut};
+ghost use Rattle.responder_spec.specs.Response.{responseHeaders, indexOf, responseOpcode, responseExtension, responseHeader, nextStatus, oneFewer, nextResponse, nextOut};
 ghost use Rattle.header.specs.Write.{doneBytes};
 ghost use Rattle.responder.specs.Unchanged.{responded};
 
 // Whether an output has no room for the longest response; no sum is made, so that none wraps.
 fn no_room(room: usize, pmtu: usize) -> bool
-    ensures { λ r. ⌜ r ≡ ltb room (16 + pmtu) ⌝ }
+    ensures { λ r. ⌜ r ≡ ltb room (responseHeaders + pmtu) ⌝ }
 {
-    if room < 16 {
+    if room < opcode::WITH_AETH {
         return true;
     }
-    room - 16 < pmtu
+    room - opcode::WITH_AETH < pmtu
 }
 
 // Which refusal the call gets, or that it is none.

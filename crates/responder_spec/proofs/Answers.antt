@@ -43,7 +43,9 @@ use Rattle.responder_spec.specs.Decide.{duplicateReadFails, duplicateRea
 use Rattle.responder_spec.specs.Decide.{regionFor, headEntry, decisionByClass, rcDecision, packetDecision}
 use Rattle.responder_spec.specs.Decide.{readsFull, inboundRefusal, decided}
 use Rattle.responder_spec.specs.Inbound.{outcomeBy, decision, inbound}
-use Rattle.responder_spec.specs.Answers.{Willing, headerBy, HeaderDropped, entryAtHead, Expects, Aheads, ReadAnswerable, DuplicateAnswers, Classed, HeaderPassed, DuplicateReplies, DuplicateSent}
+use Rattle.responder_spec.specs.Answers.{Willing, headerBy, HeaderDropped, entryAtHead, Expects, Aheads}
+use Rattle.responder_spec.specs.Answers.{ReadAnswerable, DuplicateAnswers, Classed, HeaderPassed}
+use Rattle.responder_spec.specs.Answers.{DuplicateReplies, DuplicateSent}
 use Rattle.responder_spec.proofs.Codes.{Codes, codes}
 
 -- nothing refuses the call

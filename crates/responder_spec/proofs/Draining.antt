@@ -160,9 +160,9 @@ read-served q regions entries saved m p out outs h S P e n R = go h
 
     go : (l .number ≡ 2) ⊎ ((l .number ≡ 4) × (l .outgoing ≡ 0)) → Drains (l .pair) m outs
     go (inl two) = serve (msnNext (q .msn)) (T .accepts two .executed .setup) (T .accepts two .begun)
-    go (inr (four, none)) = again (T .repeats four .answer)
+    go (inr (four, none)) = again (T .duplicates four .answer)
       where
         again : AnsweredOr q regions p out l → Drains (l .pair) m outs
         again (inl (inl x, y)) = absurd (omega arith)
         again (inl (inr x, y)) = absurd (omega arith)
-        again (inr z) = serve (q .msn) (T .repeats four .fixed .setup) (z .2)
+        again (inr z) = serve (q .msn) (T .duplicates four .fixed .setup) (z .2)

@@ -469,10 +469,10 @@ module _ (q : Pair) (regions saved : List (List ℕ)) (m p out : List ℕ) where
   table a l e x =
       record {
         quiet = λ h. quiets h;
-        marks = λ h. nakmark h;
+        nakmarks = λ h. nakmark h;
         errs = λ h. err h;
         abandons = λ h. is a l 6 (sym e ∙ h) x;
-        repeats = λ h. is a l 4 (sym e ∙ h) x;
+        duplicates = λ h. is a l 4 (sym e ∙ h) x;
         swaps = λ h. is a l 3 (sym e ∙ h) x;
         accepts = λ h. is a l 2 (sym e ∙ h) x;
         acknowledges = λ h. is a l 1 (sym e ∙ h) x;

@@ -164,7 +164,7 @@ module _ (q : Pair) (regions entries saved : List (List ℕ)) (m p out : List �
   told : packetIn p .place ≡ 4 → Completes (packetIn p) (getD (entryAtHead q entries) 0 0) (length (payloadOf p)) (l .completion)
   told z =
       let n : 0 + length (payloadOf p) ≡ length (payloadOf p) = omega arith in
-      subst (λ x. Completes (packetIn p) (getD (entryAtHead q entries) 0 0) x (l .completion)) n (puts .outgoing send (inr z))
+      subst (λ x. Completes (packetIn p) (getD (entryAtHead q entries) 0 0) x (l .completion)) n (puts .sent-whole send (inr z))
 
   only-taken : packetIn p .place ≡ 4 → (heldOf (l .pair) entries ≡ []) × (waitingOf (l .pair) entries ≡ waitingOf q entries)
   unfolding packetOf headerOf

@@ -298,7 +298,7 @@ module _ (q : Pair) (saved : List (List ℕ)) (m p out : List ℕ) where
       record {
         acknowledged = λ h. is a l 1 (sym e ∙ h) x;
         swapped = λ h. is a l 3 (sym e ∙ h) x;
-        repeated = λ h. is a l 4 (sym e ∙ h) x;
+        duplicate = λ h. is a l 4 (sym e ∙ h) x;
         sequence = λ h. is a l 16 (sym e ∙ h) x;
         invalid = λ h. is a l 17 (sym e ∙ h) x;
         access = λ h. is a l 18 (sym e ∙ h) x;

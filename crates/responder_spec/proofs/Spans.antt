@@ -193,12 +193,12 @@ module _ (q : Pair) (regions entries saved : List (List ℕ)) (m p : List ℕ) (
             λ e h.
             let z : length (payloadOf p) ≡ 0 = omega (arith, size, rest L e, h) in
             put-memory 0 (at-none e h) ∙ placed-none m 0 (payloadOf p) z;
-        outgoing =
+        sent-whole =
             λ e h.
             told (M .stored + length (payloadOf p)) h (inl e)
             (rw (eq-eqb (k .kind) 0 e) (ap (λ x. M .stored + x) net-size));
         written = λ e h i. told (M .length) h (inr i) (rw (ne-eqb (k .kind) 0 (λ x. omega arith)));
-        untold = λ e i. untold-by e i;
+        unreported = λ e i. untold-by e i;
         onward = λ h. onward-by h;
         opens = λ h. opened (length (payloadOf p)) net-size (same-kind (T .0)) h;
       }
@@ -313,9 +313,9 @@ module _ (q : Pair) (regions entries saved : List (List ℕ)) (m p out : List �
         sends = P .sends;
         writes = P .writes;
         nothing = P .nothing;
-        outgoing = P .outgoing;
+        sent-whole = P .sent-whole;
         written = P .written;
-        untold = P .untold;
+        unreported = P .unreported;
         onward = P .onward;
         opens = λ h. same-message t ∙ P .opens h;
       }

@@ -192,11 +192,11 @@ pub record Puts (q : Pair) (regions entries : List (List ℕ)) (bytes p : List �
   pub writes : k .kind ≡ 6 → 0 < t .length - t .stored
       → InRegion (regionOf (t .key) regions) (q .setup .memory) (t .address + t .stored) (t .length - t .stored) (payloadOf p) bytes (l .memory)
   pub nothing : k .kind ≡ 6 → t .length - t .stored ≡ 0 → l .memory ≡ bytes
-  pub outgoing : k .kind ≡ 0 → Ends (k .place)
+  pub sent-whole : k .kind ≡ 0 → Ends (k .place)
       → Completes k (getD (entryAtHead q entries) 0 0) (t .stored + length (payloadOf p)) (l .completion)
   pub written : k .kind ≡ 6 → Ends (k .place) → k .operands .immediate ≡ true
       → Completes k (getD (entryAtHead q entries) 0 0) (t .length) (l .completion)
-  pub untold : k .kind ≡ 6 → k .operands .immediate ≡ false → Silent (l .completion)
+  pub unreported : k .kind ≡ 6 → k .operands .immediate ≡ false → Silent (l .completion)
   pub onward : HasMore (k .place) → Silent (l .completion)
   pub opens : HasMore (k .place)
       → l .pair .message

@@ -204,10 +204,10 @@ pub record Swaps (q : Pair) (rows : List (List ℕ)) (bytes p : List ℕ) (l : L
 -- The table, for every pair, whatever the tables, memory, packet and output hold.
 pub record Table (q : Pair) (regions rows : List (List ℕ)) (bytes p output : List ℕ) (l : Left) : Type 0 where
   pub quiet : (l .number ≡ 5) ⊎ (32 ≤ l .number) → Unchanged q rows bytes output l
-  pub marks : (l .number ≡ 16) ⊎ (l .number ≡ 19) → NakMarkAlone q rows bytes l
+  pub nakmarks : (l .number ≡ 16) ⊎ (l .number ≡ 19) → NakMarkAlone q rows bytes l
   pub errs : (l .number ≡ 17) ⊎ (l .number ≡ 18) → ErrorAlone q rows bytes l
   pub abandons : l .number ≡ 6 → Abandons q rows bytes output l
-  pub repeats : l .number ≡ 4 → DuplicateLeaves q regions rows bytes p output l
+  pub duplicates : l .number ≡ 4 → DuplicateLeaves q regions rows bytes p output l
   pub swaps : l .number ≡ 3 → Swaps q rows bytes p l
   pub accepts : l .number ≡ 2 → Accepts q regions rows bytes p output l
   pub acknowledges : l .number ≡ 1 → Places q rows bytes p l × (l .outgoing ≡ 16)

@@ -38,7 +38,7 @@ pub record Replies (q : Pair) (rows : List (List ℕ)) (bytes p output : List �
   pub acknowledged : l .number ≡ 1 → AckSent q output l (bthOf p .psn) 31
   pub swapped : l .number ≡ 3
       → (at : ℕ) × ValueSent q output l (bthOf p .psn) (wordAt bytes at) × (l .saved ≡ savedRows rows (q .saved) (bthOf p .psn .0) (wordAt bytes at))
-  pub repeated : l .number ≡ 4
+  pub duplicate : l .number ≡ 4
       → AckSent q output l (psnAfter (q .expected) 16777215) 31
       ⊎ (((v : ℕ) × (newestSaved (bthOf p .psn .0) rows (q .saved) ≡ Value v) × ValueSent q output l (bthOf p .psn) v) ⊎ (l .outgoing ≡ 0))
   pub sequence : l .number ≡ 16 → AckSent q output l (q .expected) 96

@@ -16,11 +16,11 @@ use Rattle.pair.specs.Answer.{statusNumber, executed}
 use Rattle.pair.specs.Pair.{freshPair}
 use Rattle.pair.specs.Calls.{begun, called, calledAll}
 use Rattle.pair.specs.Host.{setUpStatus, setUp, setUpRegions, addStatus, addRegions, postStatus, posted, postEntries, readyStatus, madeReady}
-use Rattle.pair.specs.Sound.{setupUnfit, setupUnsound, numbersUnsound, ringUnsound, messageUnsound, readUnsound, pairUnsound}
+use Rattle.pair.specs.Sound.{setupUnfit, setupUnsound, countersUnsound, ringUnsound, messageUnsound, readUnsound, pairUnsound}
 use Rattle.cut_spec.specs.Message.{carries, carriedLength, packetsOf}
 use Rattle.cut_spec.specs.declared.Request.the-variants.{Send, SendImmediate}
 use Rattle.uc_delivery.specs.Message.{Standing, packetOf, handed, Comes, firstWaiting, Unreported}
-use Rattle.uc_delivery.specs.Example.{setup, region, calls, made, message, out, first, fresh, AllMet, Delivered, broken, Interrupted}
+use Rattle.uc_delivery.specs.Example.{setup, region, calls, made, message, out, first, fresh, AllFulfilled, Delivered, broken, Interrupted}
 use Rattle.responder_spec.specs.Calls.{received}
 use Rattle.delivery.specs.Demand.{AtLeast, entryOf}
 use Rattle.uc_delivery.proofs.Before.{stands-made, leaves}
@@ -32,14 +32,14 @@ unfolding setup
 sound = (record { pmtu = inl refl; service = inr refl; ours = omega arith; theirs = omega arith; start = omega arith; pkey = λ e. absurd (omega arith); timer = omega arith }, omega arith)
 
 is-standing : Standing made
-unfolding made setup calls region calledAll called begun setUp setUpStatus setUpRegions addStatus addRegions postStatus posted postEntries readyStatus madeReady executed statusNumber freshPair setupUnfit setupUnsound numbersUnsound ringUnsound messageUnsound readUnsound pairUnsound pmtuFits otherService outside pastTop regionOutside firstFrom sought regionRow entryRow slotAt
+unfolding made setup calls region calledAll called begun setUp setUpStatus setUpRegions addStatus addRegions postStatus posted postEntries readyStatus madeReady executed statusNumber freshPair setupUnfit setupUnsound countersUnsound ringUnsound messageUnsound readUnsound pairUnsound pmtuFits otherService outside pastTop regionOutside firstFrom sought regionRow entryRow slotAt
 is-standing = stands-made setup [] (replicate 16 (replicate 3 0)) (replicate 16 (replicate 2 0)) calls sound refl refl refl (tt, (tt, (tt, tt))) refl .0
 
 room : (i : ℕ) → 24 ≤ length (replicate {A = ℕ} 24 0)
 room i = omega arith
 
-pub all-met : AllMet
-unfolding fresh made setup calls region message calledAll called begun setUp setUpStatus setUpRegions addStatus addRegions postStatus posted postEntries readyStatus madeReady executed statusNumber freshPair setupUnfit setupUnsound numbersUnsound ringUnsound messageUnsound readUnsound pairUnsound pmtuFits otherService outside pastTop regionOutside firstFrom sought regionRow entryRow slotAt regionOf pkeysMatch fullMember
+pub all-met : AllFulfilled
+unfolding fresh made setup calls region message calledAll called begun setUp setUpStatus setUpRegions addStatus addRegions postStatus posted postEntries readyStatus madeReady executed statusNumber freshPair setupUnfit setupUnsound countersUnsound ringUnsound messageUnsound readUnsound pairUnsound pmtuFits otherService outside pastTop regionOutside firstFrom sought regionRow entryRow slotAt regionOf pkeysMatch fullMember
 all-met =
     record {
       send =

@@ -36,7 +36,7 @@ use Rattle.responder_spec.proofs.Sizes.{inbound-lengths}
 use Rattle.responder_spec.proofs.Kept.{inbound-steady}
 use Rattle.responder_spec.specs.Calls.{reports}
 use Rattle.delivery.specs.Stream.{Message, Slot, packetCount, packetAt}
-use Rattle.delivery.specs.Plain.{takesEntry, needsEntryAt, needsEntry, isLast, none, completionFor, regionOffset}
+use Rattle.delivery.specs.Plain.{takesEntry, needsEntryAt, slotNeedsEntry, isLast, none, completionFor, regionOffset}
 use Rattle.delivery.specs.Demand.{Run, taken, Permitted, AtLeast}
 use Rattle.delivery.proofs.Chain.{Stands}
 use Rattle.delivery.proofs.Cutting.{placeFor, cutPacket, psn-small}
@@ -226,10 +226,10 @@ module _ (w : Whole) (m : Message) (first : Psn) (P : Permitted (w .pair .setup)
         let l = held-there (m .request) (eqb i 0) (firstWaiting w) (w .pair .entries .count) (λ e. omega (arith, sup .some e)) in
         omega (arith, length-append (held i) waiting, length-replicate (w .pair .entries .count - length (held i)) (firstWaiting w), l)
 
-    wanted : (needsEntry t && none waiting) ≡ false
-    wanted = go (needsEntry t) refl
+    wanted : (slotNeedsEntry t && none waiting) ≡ false
+    wanted = go (slotNeedsEntry t) refl
       where
-        go : (c : Bool) → needsEntry t ≡ c → (c && none waiting) ≡ false
+        go : (c : Bool) → slotNeedsEntry t ≡ c → (c && none waiting) ≡ false
         go false e = refl
         go true e =
             let z = sup .some (needs-takes (m .request) i (packetCount m) e) in

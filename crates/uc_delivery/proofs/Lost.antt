@@ -162,8 +162,8 @@ module _ (outs : ℕ → List ℕ) (m : Message) (first : Psn) (x : Run) (K : Co
       record { completions = rw e (append-nil (x .completions)); msn = rw e; entries = rw e }
   untold-by l d outside = record { completions = append-nil (x .completions); msn = refl; entries = refl }
 
-  pub untold : suc i < packetCount m → Unreported x left
-  untold l = subst (Unreported x) (sym (left-is _ is-decided)) (untold-by l _ went)
+  pub unreported : suc i < packetCount m → Unreported x left
+  unreported l = subst (Unreported x) (sym (left-is _ is-decided)) (untold-by l _ went)
 
   -- A Middle or Last that is not of the open message: nothing is reported, and none is open
   pub record Gone (y : Run) : Type 0 where
@@ -284,7 +284,7 @@ module _ (outs : ℕ → List ℕ) (m : Message) (first : Psn) where
   part few (true ∷ bs) i x K n (suc k, l, e) a =
       let h : i < packetCount m = omega arith in
       let y = taken x (packet i) (outs i) in
-      untold-chain x y _ (untold outs m first x K i h (omega arith))
+      untold-chain x y _ (unreported outs m first x K i h (omega arith))
       (part few bs (suc i) y (comes outs m first x K i h) (omega arith) (k, omega arith, e) (inr (go (onward outs m first x K i h))))
     where
       go : (taken x (packet i) (outs i) .whole .pair .message .kind ≡ 255) ⊎ (taken x (packet i) (outs i) .whole .pair .expected ≡ psnAfter first (suc i))

@@ -58,16 +58,16 @@ out i = replicate answerRoom 0
 unfoldable pub fresh : Run
 fresh = record { whole = made; memory = replicate 4096 0; completions = [] }
 
-pub record Met (m : Message) : Type 0 where
+pub record Fulfilled (m : Message) : Type 0 where
   pub comes : Comes out m first fresh
   pub allowed : Allowed (made .pair .setup) (made .regions) (m .request) (length (m .bytes))
   pub supplied : Supplied made m
 
-pub record AllMet : Type 0 where
-  pub send : Met (message Send 3)
-  pub sendImmediate : Met (message (SendImmediate 77) 600)
-  pub write : Met (message (Write (record { address = 65540; key = 7 })) 300)
-  pub writeImmediate : Met (message (WriteImmediate (record { address = 65536; key = 7 }) 1) 0)
+pub record AllFulfilled : Type 0 where
+  pub send : Fulfilled (message Send 3)
+  pub sendImmediate : Fulfilled (message (SendImmediate 77) 600)
+  pub write : Fulfilled (message (Write (record { address = 65540; key = 7 })) 300)
+  pub writeImmediate : Fulfilled (message (WriteImmediate (record { address = 65536; key = 7 }) 1) 0)
 
 -- So three packets are handed in, and the run is as it should be.
 abbrev pub Delivered : Type 0

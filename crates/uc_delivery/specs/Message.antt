@@ -1,22 +1,19 @@
 -- A message on the unreliable connection. Handed in whole it is stored and reported once; with a packet lost it is
 -- reported never, whatever came before.
-use Prim.Native.Nat.{ℕ, suc, _-_, _≤_, _<_}
+use Prim.Native.Nat.{_^_, ℕ, suc, _-_, _≤_, _<_}
 use mathlib.Core.Path.{_≡_}
 use mathlib.Core.Bool.{Bool, true, false, cond}
 use mathlib.Core.List.{List, [], _∷_, _++_}
 use mathlib.Core.Logic.{_⊎_}
 use lib.ListN.{length, getD, replicate}
-use Rattle.sequence.specs.Sequence.{space, psnAfter, msnNext}
+use Rattle.sequence.specs.Sequence.{psnAfter, msnNext}
 use Rattle.sequence.specs.declared.Psn.{Psn}
-use Rattle.opcode.specs.Service as Service
 use Rattle.header.specs.Bytes.{Bytes}
 use Rattle.header.specs.Read.{bthOf}
 use Rattle.memory.specs.Memory.{overwrite}
 use Rattle.table.specs.Table.{slotAt}
 use Rattle.table.specs.declared.Entry.{Entry}
 use Rattle.table.specs.declared.Ring.{Ring}
-use Rattle.pair.specs.State as State
-use Rattle.pair.specs.Pair.{closed, noMessage}
 use Rattle.pair.specs.Calls.{Whole, HostCall, begun, calledAll}
 use Rattle.pair.specs.Claims.{SetupSound}
 use Rattle.pair.specs.declared.Setup.{Setup}
@@ -33,21 +30,21 @@ use Rattle.delivery.specs.Demand.{Run, taken, Allowed, Addressed, AtLeast, entr
 -- and any PSN expected. A READ is never being answered on such a pair.
 pub record Standing (w : Whole) : Type 0 where
   pub steady : Steady w
-  pub unreliable : w .pair .setup .service ≡ Service.uc
-  pub ready : w .pair .state ≡ State.ready
+  pub unreliable : w .pair .setup .service ≡ 1
+  pub ready : w .pair .state ≡ 1
   pub idle : w .pair .read .remaining ≡ 0
 
 -- So is a pair that was set up, given regions and entries and made Ready by any calls of the host; none is open then.
 abbrev pub StandsMade : Type 0
 StandsMade =
     (s : Setup) (regions entries saved : List (List ℕ)) (calls : List HostCall) → SetupSound s
-    → s .service ≡ Service.uc
+    → s .service ≡ 1
     → length entries ≡ 16
     → length saved ≡ 16
     → NoneSetUp calls
     → let w = calledAll (begun s regions entries saved) calls in
-    w .pair .state ≡ State.ready
-    → Standing w × (w .pair .message .kind ≡ closed)
+    w .pair .state ≡ 1
+    → Standing w × (w .pair .message .kind ≡ 255)
 
 -- packet i of a message whose first packet has the PSN given; its bytes are those that the cutting call writes
 abbrev pub packetOf : Message → Psn → ℕ → List ℕ
@@ -65,7 +62,7 @@ pub record Comes (outs : ℕ → List ℕ) (m : Message) (first : Psn) (x : Run)
   pub standing : Standing (x .whole)
   pub memory : length (x .memory) ≡ x .whole .pair .setup .memory
   pub outputs : (i : ℕ) → answerRoom ≤ length (outs i)
-  pub first24 : first .0 < space
+  pub first24 : first .0 < 2 ^ 24
   pub addressed : Addressed (x .whole .pair .setup) m
   pub carries : Carrier (m .request)
 
@@ -108,7 +105,7 @@ handedAll x m first =
                   expected = psnAfter first (packetCount m);
                   msn = msnNext (q .msn);
                   nakmark = false;
-                  message = noMessage;
+                  message = record { kind = 255; stored = 0; address = 0; key = 0; length = 0 };
                   entries = without (takesEntry (m .request)) (q .entries);
                   read = q .read;
                   saved = q .saved;

@@ -22,11 +22,11 @@ pub extern "C" fn udalopek_read_header(
     let found = decode::read(packet);
     match found {
         HeaderRead::Dropped(check) => check,
-        HeaderRead::Accepted(h) => tell_header(h, bth, extension),
+        HeaderRead::Accepted(h) => report_header(h, bth, extension),
     }
 }
 
-fn tell_header(h: Header, bth: &mut [u64; 11], extension: &mut [u64; 10]) -> u8
+fn report_header(h: Header, bth: &mut [u64; 11], extension: &mut [u64; 10]) -> u8
     ensures { λ r. ⌜ r ≡ 0 ⌝ }
     ensures { λ r. ⌜ now (bth .exit) ≡ bthWords (h .bth) ⌝ }
     ensures { λ r. ⌜ now (extension .exit) ≡ extensionWords (h .extension) ⌝ }

@@ -136,8 +136,8 @@ pub extern "C" fn udalopek_add_region(
         return header::OUT_OF_RANGE;
     }
     let q = abi::pair_of(pair);
-    let odd = abi::regions_malformed(regions, number::usize_to_u64(q.setup.memory));
-    if odd {
+    let malformed = abi::regions_malformed(regions, number::usize_to_u64(q.setup.memory));
+    if malformed {
         return header::OUT_OF_RANGE;
     }
     let region = Region {
@@ -168,8 +168,8 @@ pub extern "C" fn udalopek_remove_region(pair: &[u64], regions: &mut [[u64; 7]; 
     if unsound {
         return header::OUT_OF_RANGE;
     }
-    let odd = abi::regions_malformed(regions, number::usize_to_u64(q.setup.memory));
-    if odd {
+    let malformed = abi::regions_malformed(regions, number::usize_to_u64(q.setup.memory));
+    if malformed {
         return header::OUT_OF_RANGE;
     }
     let status = host_calls::remove_region(regions, key);
@@ -192,8 +192,8 @@ pub extern "C" fn udalopek_post_entry(
 {
     let q = abi::pair_of(pair);
     let own = abi::pair_words(q);
-    let said = abi::same(pair, &own);
-    if !said {
+    let same = abi::same(pair, &own);
+    if !same {
         return header::OUT_OF_RANGE;
     }
     let entry = Entry {

@@ -60,13 +60,13 @@ pub extern "C" fn udalopek_inbound(
 {
     let q = abi::pair_of(pair);
     let own = abi::pair_words(q);
-    let said = abi::same(pair, &own);
-    if !said {
+    let same = abi::same(pair, &own);
+    if !same {
         *report = [0; 6];
         return header::OUT_OF_RANGE;
     }
-    let odd = malformed_for(regions, number::usize_to_u64(q.setup.memory), packet);
-    if odd {
+    let malformed = malformed_for(regions, number::usize_to_u64(q.setup.memory), packet);
+    if malformed {
         *report = [0; 6];
         return header::OUT_OF_RANGE;
     }
@@ -96,8 +96,8 @@ pub extern "C" fn udalopek_next_response(
 {
     let q = abi::pair_of(pair);
     let own = abi::pair_words(q);
-    let said = abi::same(pair, &own);
-    if !said {
+    let same = abi::same(pair, &own);
+    if !same {
         *report = [0; 1];
         return header::OUT_OF_RANGE;
     }

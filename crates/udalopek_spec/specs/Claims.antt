@@ -147,7 +147,7 @@ RemoveIs =
 
 -- The report to the host, word by word, listed here once more and not by the definition under test; so are the kinds of
 -- a cut and what a cut reports.
-pub record Tells (n : ℕ) (c : Completion) (t : List ℕ) : Type 0 where
+pub record Reports (n : ℕ) (c : Completion) (t : List ℕ) : Type 0 where
   pub outgoing : getD t 0 0 ≡ n
   pub completes : c .some ≡ true → getD t 1 0 ≡ 1
   pub nothing : c .some ≡ false → getD t 1 0 ≡ 0
@@ -158,7 +158,7 @@ pub record Tells (n : ℕ) (c : Completion) (t : List ℕ) : Type 0 where
   pub value : getD t 5 0 ≡ c .value
 
 abbrev pub ReportSays : Type 0
-ReportSays = (n : ℕ) (c : Completion) → Tells n c (reportWords n c)
+ReportSays = (n : ℕ) (c : Completion) → Reports n c (reportWords n c)
 
 abbrev pub KindsAre : Type 0
 KindsAre =

@@ -17,22 +17,22 @@ unfoldable pub readCheck : HeaderRead → ℕ
 readCheck (Accepted h) = 0
 readCheck (Dropped check) = check
 
-unfoldable pub toldBth : HeaderRead → List ℕ → List ℕ
-toldBth (Accepted h) old = bthWords (h .bth)
-toldBth (Dropped check) old = old
+unfoldable pub reportedBth : HeaderRead → List ℕ → List ℕ
+reportedBth (Accepted h) old = bthWords (h .bth)
+reportedBth (Dropped check) old = old
 
-unfoldable pub toldExtension : HeaderRead → List ℕ → List ℕ
-toldExtension (Accepted h) old = extensionWords (h .extension)
-toldExtension (Dropped check) old = old
+unfoldable pub reportedExtension : HeaderRead → List ℕ → List ℕ
+reportedExtension (Accepted h) old = extensionWords (h .extension)
+reportedExtension (Dropped check) old = old
 
 unfoldable pub readHeaderNumber : List ℕ → ℕ
 readHeaderNumber p = readCheck (readHeader p)
 
 unfoldable pub readBth : List ℕ → List ℕ → List ℕ
-readBth p old = toldBth (readHeader p) old
+readBth p old = reportedBth (readHeader p) old
 
 unfoldable pub readExtension : List ℕ → List ℕ → List ℕ
-readExtension p old = toldExtension (readHeader p) old
+readExtension p old = reportedExtension (readHeader p) old
 
 -- words are those of the header that they say: each fits its field, and a field that the headers lack is 0
 unfoldable pub ownWords : List ℕ → List ℕ → Bool

@@ -81,7 +81,7 @@ returns-2 c =
     let c1 = c .before in let c2 = c1 .before in let c3 = c2 .before in let c4 = c3 .before in let c5 = c4 .before in
     let c6 = c5 .before in let c7 = c6 .before in let c8 = c7 .before in let c9 = c8 .before in let c10 = c9 .before in
     let c12 = c10 .before .before in let c13 = c12 .before in
-    let S = c13 .before .before in let A = S .args in let s = A .pair .setup in
+    let S = c .before .before .before .before .before .before .before .before .before .before .before .before .before .before .before in let A = S .args in let s = A .pair .setup in
     let opened = A .pair .message in let entry = c6 .entry-at in let region = c5 .key-region in let kind = c4 .open-kind in
     let found = sym (c9 .is .ensures) ∙ c8 .if2 .taken in
     let passed = sym (c2 .is2 .ensures) ∙ c1 .if3 .taken in
@@ -103,7 +103,7 @@ returns-3 c =
     let c1 = c .before in let c2 = c1 .before in let c3 = c2 .before in let c4 = c3 .before in let c5 = c4 .before in
     let c6 = c5 .before in let c7 = c6 .before in let c8 = c7 .before in let c9 = c8 .before in let c10 = c9 .before in
     let c12 = c10 .before .before in let c13 = c12 .before in
-    let S = c13 .before .before in let A = S .args in let s = A .pair .setup in
+    let S = c .before .before .before .before .before .before .before .before .before .before .before .before .before .before .before in let A = S .args in let s = A .pair .setup in
     let opened = A .pair .message in let entry = c6 .entry-at in let region = c5 .key-region in let kind = c4 .open-kind in
     let found = sym (c9 .is .ensures) ∙ c8 .if2 .taken in
     let passed = sym (c2 .is2 .ensures) ∙ c1 .if3 .left in

@@ -4,7 +4,7 @@ use borrow.Author.Needs.{needs}
 use Rattle.apply.proofs.state.pair_after.Statement.{statement}
 use Rattle.apply.proofs.state.pair_after.Tie as tie
 use Rattle.apply.proofs.state.closing.Reads as closing-reads
-use Rattle.apply.proofs.state.either.Reads as either-reads
+use Rattle.apply.proofs.state.one_of.Reads as one-of-reads
 use Rattle.apply.proofs.state.executed_pair.Reads as executed-pair-reads
 use Rattle.apply.proofs.state.executes.Reads as executes-reads
 use Rattle.apply.proofs.state.read_by.Reads as read-by-reads
@@ -32,24 +32,24 @@ returns-2 c =
     let c2 = c .before .before in let c3 = c2 .before in let c4 = c3 .before in let c5 = c4 .before in
     simp (← c5 .executes .ensures, c4 .if1 .left, ← c3 .is .ensures, c2 .if2 .taken, ← c .read-by .ensures)
 
-either-requires : tie.Need-either-requires
-either-requires c κs = search needs
+one-of-requires : tie.Need-one-of-requires
+one-of-requires c κs = search needs
 
 returns-3 : tie.Need-returns-3
 unfolding statusNumber after pairBy
 returns-3 c =
     let c1 = c .before in let c2 = c1 .before in let c3 = c2 .before in let c4 = c3 .before in let c5 = c4 .before in
-    simp (← c5 .executes .ensures, c4 .if1 .left, ← c3 .is .ensures, c2 .if2 .left, ← c1 .either .ensures, c .if3 .taken)
+    simp (← c5 .executes .ensures, c4 .if1 .left, ← c3 .is .ensures, c2 .if2 .left, ← c1 .one-of .ensures, c .if3 .taken)
 
-either-requires-2 : tie.Need-either-requires-2
-either-requires-2 c κs = search needs
+one-of-requires-2 : tie.Need-one-of-requires-2
+one-of-requires-2 c κs = search needs
 
 returns-4 : tie.Need-returns-4
 unfolding statusNumber after pairBy
 returns-4 c =
     let c1 = c .before in let c2 = c1 .before in let c3 = c2 .before in let c4 = c3 .before in let c5 = c4 .before in
     let c6 = c5 .before in let c7 = c6 .before in
-    simp (← c7 .executes .ensures, c6 .if1 .left, ← c5 .is .ensures, c4 .if2 .left, ← c3 .either .ensures, c2 .if3 .left, ← c1 .either2 .ensures, c .if4 .taken)
+    simp (← c7 .executes .ensures, c6 .if1 .left, ← c5 .is .ensures, c4 .if2 .left, ← c3 .one-of .ensures, c2 .if3 .left, ← c1 .one-of2 .ensures, c .if4 .taken)
 
 is-requires-2 : tie.Need-is-requires-2
 is-requires-2 c κs = search needs
@@ -62,14 +62,14 @@ unfolding statusNumber after pairBy
 returns-5 c =
     let c1 = c .before in let c2 = c1 .before in let c3 = c2 .before in let c4 = c3 .before in let c5 = c4 .before in
     let c6 = c5 .before in let c7 = c6 .before in let c8 = c7 .before in let c9 = c8 .before in let c10 = c9 .before in
-    simp (← c10 .executes .ensures, c9 .if1 .left, ← c8 .is .ensures, c7 .if2 .left, ← c6 .either .ensures, c5 .if3 .left, ← c4 .either2 .ensures, c3 .if4 .left, ← c2 .is2 .ensures, c1 .if5 .taken, ← c .closing .ensures)
+    simp (← c10 .executes .ensures, c9 .if1 .left, ← c8 .is .ensures, c7 .if2 .left, ← c6 .one-of .ensures, c5 .if3 .left, ← c4 .one-of2 .ensures, c3 .if4 .left, ← c2 .is2 .ensures, c1 .if5 .taken, ← c .closing .ensures)
 
 returns-6 : tie.Need-returns-6
 unfolding statusNumber after pairBy
 returns-6 c =
     let c1 = c .before in let c2 = c1 .before in let c3 = c2 .before in let c4 = c3 .before in let c5 = c4 .before in
     let c6 = c5 .before in let c7 = c6 .before in let c8 = c7 .before in let c9 = c8 .before in
-    simp (← c9 .executes .ensures, c8 .if1 .left, ← c7 .is .ensures, c6 .if2 .left, ← c5 .either .ensures, c4 .if3 .left, ← c3 .either2 .ensures, c2 .if4 .left, ← c1 .is2 .ensures, c .if5 .left)
+    simp (← c9 .executes .ensures, c8 .if1 .left, ← c7 .is .ensures, c6 .if2 .left, ← c5 .one-of .ensures, c4 .if3 .left, ← c3 .one-of2 .ensures, c2 .if4 .left, ← c1 .is2 .ensures, c .if5 .left)
 
 pub pair-after-spec : {M : Type 1} → statement M
 pair-after-spec =
@@ -81,9 +81,9 @@ pair-after-spec =
     is-requires
     read-by-requires
     returns-2
-    either-requires
+    one-of-requires
     returns-3
-    either-requires-2
+    one-of-requires-2
     returns-4
     is-requires-2
     closing-requires

@@ -1,8 +1,8 @@
 use borrow.Author.Needs.{needs}
-use Rattle.apply.proofs.state.either.Statement.{statement}
-use Rattle.apply.proofs.state.either.Tie as tie
-use Rattle.apply.proofs.state.either.Reads as reads
-use Rattle.apply.proofs.state.either.Lts as lts
+use Rattle.apply.proofs.state.one_of.Statement.{statement}
+use Rattle.apply.proofs.state.one_of.Tie as tie
+use Rattle.apply.proofs.state.one_of.Reads as reads
+use Rattle.apply.proofs.state.one_of.Lts as lts
 use Rattle.pair.proofs.Status.is.Reads as is-reads
 
 is-requires : tie.Need-is-requires
@@ -17,5 +17,5 @@ is-requires-2 c κs = search needs
 returns-2 : tie.Need-returns-2
 returns-2 c = simp (← c .before .before .is .ensures, c .before .if1 .left, ← c .is2 .ensures)
 
-pub either-spec : {M : Type 1} → statement M
-either-spec = tie.close (tie.spec is-requires returns is-requires-2 returns-2)
+pub one-of-spec : {M : Type 1} → statement M
+one-of-spec = tie.close (tie.spec is-requires returns is-requires-2 returns-2)
