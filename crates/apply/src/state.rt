@@ -8,8 +8,7 @@ use sequence::Msn;
 use sequence::Psn;
 use table::Ring;
 ghost use mathlib.Core.Path.{_≡_};
-ghost use mathlib.Core.Bool.{_||_};
-ghost use lib.Dec.{eqb, leb};
+ghost use lib.Dec.{leb};
 ghost use Rattle.sequence.specs.Sequence.{psnAfter};
 ghost use Rattle.responder_spec.specs.Apply.{ringTaken, entriesBy, savedRingBy, msnBy, readBy, executedPair, closing, pairBy};
 ghost use Rattle.pair.specs.Answer.{statusNumber};
@@ -125,17 +124,6 @@ fn executes(status: Status) -> bool
     status.number() <= last.number()
 }
 
-// Whether it is one of two answers.
-fn one_of(status: Status, a: Status, b: Status) -> bool
-    ensures { λ r. ⌜ r ≡ (eqb (statusNumber status) (statusNumber a) || eqb (statusNumber status) (statusNumber b)) ⌝ }
-{
-    let first = status.is(a);
-    if first {
-        return true;
-    }
-    status.is(b)
-}
-
 // By the answer.
 pub fn pair_after(pair: Pair, d: Decision) -> Pair
     ensures { λ r. ⌜ r ≡ pairBy pair d ⌝ }
@@ -153,13 +141,23 @@ pub fn pair_after(pair: Pair, d: Decision) -> Pair
         next.read = read;
         return next;
     }
-    let marked = one_of(status, Status::SequenceNak, Status::NotReadyNak);
-    if marked {
+    let ahead = status.is(Status::SequenceNak);
+    if ahead {
         next.nakmark = true;
         return next;
     }
-    let broken = one_of(status, Status::InvalidRequestNak, Status::AccessNak);
-    if broken {
+    let unready = status.is(Status::NotReadyNak);
+    if unready {
+        next.nakmark = true;
+        return next;
+    }
+    let invalid = status.is(Status::InvalidRequestNak);
+    if invalid {
+        next.state = pair::ERROR;
+        return next;
+    }
+    let access = status.is(Status::AccessNak);
+    if access {
         next.state = pair::ERROR;
         return next;
     }

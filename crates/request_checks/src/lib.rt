@@ -14,7 +14,7 @@ pub use place::uses_entry;
 use request_spec::Packet;
 ghost use mathlib.Core.Path.{_≡_};
 ghost use Rattle.pair.specs.Answer.{statusNumber};
-ghost use Rattle.request_spec.specs.Verdict.{carrying, single, fragment, notEnabled, overLimit, current, expectedCodeOf};
+ghost use Rattle.request_spec.specs.Verdict.{carrying, single, fragment, notEnabled, overLimit, current, requestCodeOf, expectedCodeOf};
 
 // Whether the kind is one of the two that carry bytes.
 pub fn carrying(kind: u8) -> bool
@@ -93,22 +93,18 @@ pub fn fragment(p: Packet) -> bool
     false
 }
 
-// The request checks, for a packet of the message m: the answer of the first that fails, or that none does.
-pub fn expected_status(
-    s: Setup,
-    opened: u8,
-    m: OpenMessage,
+// The checks but that of the sequence. Apart from that one, so that the compiler inlines all of them.
+fn request_status(
     p: Packet,
+    m: OpenMessage,
+    opened: u8,
+    s: Setup,
     count: usize,
-    entry: [u64; 3],
     region: [u64; 7],
+    entry: [u64; 3],
 ) -> Status
-    ensures { λ r. ⌜ statusNumber r ≡ expectedCodeOf s opened m p count entry region ⌝ }
+    ensures { λ r. ⌜ statusNumber r ≡ requestCodeOf s opened m p count entry region ⌝ }
 {
-    let unexpected = place::out_of_sequence(opened, p.kind, p.place);
-    if unexpected {
-        return Status::InvalidRequestNak;
-    }
     let off = not_enabled(s, p.kind);
     if off {
         return Status::InvalidRequestNak;
@@ -138,4 +134,23 @@ pub fn expected_status(
         return Status::InvalidRequestNak;
     }
     Status::Executed
+}
+
+// The request checks, for a packet of the message m: the answer of the first that fails, or that none does.
+pub fn expected_status(
+    s: Setup,
+    opened: u8,
+    m: OpenMessage,
+    p: Packet,
+    count: usize,
+    entry: [u64; 3],
+    region: [u64; 7],
+) -> Status
+    ensures { λ r. ⌜ statusNumber r ≡ expectedCodeOf s opened m p count entry region ⌝ }
+{
+    let unexpected = place::out_of_sequence(opened, p.kind, p.place);
+    if unexpected {
+        return Status::InvalidRequestNak;
+    }
+    request_status(p, m, opened, s, count, region, entry)
 }

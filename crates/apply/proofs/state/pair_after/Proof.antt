@@ -4,7 +4,6 @@ use borrow.Author.Needs.{needs}
 use Rattle.apply.proofs.state.pair_after.Statement.{statement}
 use Rattle.apply.proofs.state.pair_after.Tie as tie
 use Rattle.apply.proofs.state.closing.Reads as closing-reads
-use Rattle.apply.proofs.state.one_of.Reads as one-of-reads
 use Rattle.apply.proofs.state.executed_pair.Reads as executed-pair-reads
 use Rattle.apply.proofs.state.executes.Reads as executes-reads
 use Rattle.apply.proofs.state.read_by.Reads as read-by-reads
@@ -32,44 +31,67 @@ returns-2 c =
     let c2 = c .before .before in let c3 = c2 .before in let c4 = c3 .before in let c5 = c4 .before in
     simp (← c5 .executes .ensures, c4 .if1 .left, ← c3 .is .ensures, c2 .if2 .taken, ← c .read-by .ensures)
 
-one-of-requires : tie.Need-one-of-requires
-one-of-requires c κs = search needs
+is-requires-2 : tie.Need-is-requires-2
+is-requires-2 c κs = search needs
 
 returns-3 : tie.Need-returns-3
 unfolding statusNumber after pairBy
 returns-3 c =
     let c1 = c .before in let c2 = c1 .before in let c3 = c2 .before in let c4 = c3 .before in let c5 = c4 .before in
-    simp (← c5 .executes .ensures, c4 .if1 .left, ← c3 .is .ensures, c2 .if2 .left, ← c1 .one-of .ensures, c .if3 .taken)
+    simp (← c5 .executes .ensures, c4 .if1 .left, ← c3 .is .ensures, c2 .if2 .left, ← c1 .is2 .ensures, c .if3 .taken)
 
-one-of-requires-2 : tie.Need-one-of-requires-2
-one-of-requires-2 c κs = search needs
+is-requires-3 : tie.Need-is-requires-3
+is-requires-3 c κs = search needs
 
 returns-4 : tie.Need-returns-4
 unfolding statusNumber after pairBy
 returns-4 c =
     let c1 = c .before in let c2 = c1 .before in let c3 = c2 .before in let c4 = c3 .before in let c5 = c4 .before in
     let c6 = c5 .before in let c7 = c6 .before in
-    simp (← c7 .executes .ensures, c6 .if1 .left, ← c5 .is .ensures, c4 .if2 .left, ← c3 .one-of .ensures, c2 .if3 .left, ← c1 .one-of2 .ensures, c .if4 .taken)
+    simp (← c7 .executes .ensures, c6 .if1 .left, ← c5 .is .ensures, c4 .if2 .left, ← c3 .is2 .ensures, c2 .if3 .left, ← c1 .is3 .ensures, c .if4 .taken)
 
-is-requires-2 : tie.Need-is-requires-2
-is-requires-2 c κs = search needs
-
-closing-requires : tie.Need-closing-requires
-closing-requires c κs = search needs
+is-requires-4 : tie.Need-is-requires-4
+is-requires-4 c κs = search needs
 
 returns-5 : tie.Need-returns-5
 unfolding statusNumber after pairBy
 returns-5 c =
     let c1 = c .before in let c2 = c1 .before in let c3 = c2 .before in let c4 = c3 .before in let c5 = c4 .before in
-    let c6 = c5 .before in let c7 = c6 .before in let c8 = c7 .before in let c9 = c8 .before in let c10 = c9 .before in
-    simp (← c10 .executes .ensures, c9 .if1 .left, ← c8 .is .ensures, c7 .if2 .left, ← c6 .one-of .ensures, c5 .if3 .left, ← c4 .one-of2 .ensures, c3 .if4 .left, ← c2 .is2 .ensures, c1 .if5 .taken, ← c .closing .ensures)
+    let c6 = c5 .before in let c7 = c6 .before in let c8 = c7 .before in let c9 = c8 .before in
+    simp (← c9 .executes .ensures, c8 .if1 .left, ← c7 .is .ensures, c6 .if2 .left, ← c5 .is2 .ensures, c4 .if3 .left, ← c3 .is3 .ensures, c2 .if4 .left, ← c1 .is4 .ensures, c .if5 .taken)
+
+is-requires-5 : tie.Need-is-requires-5
+is-requires-5 c κs = search needs
 
 returns-6 : tie.Need-returns-6
 unfolding statusNumber after pairBy
 returns-6 c =
     let c1 = c .before in let c2 = c1 .before in let c3 = c2 .before in let c4 = c3 .before in let c5 = c4 .before in
-    let c6 = c5 .before in let c7 = c6 .before in let c8 = c7 .before in let c9 = c8 .before in
-    simp (← c9 .executes .ensures, c8 .if1 .left, ← c7 .is .ensures, c6 .if2 .left, ← c5 .one-of .ensures, c4 .if3 .left, ← c3 .one-of2 .ensures, c2 .if4 .left, ← c1 .is2 .ensures, c .if5 .left)
+    let c6 = c5 .before in let c7 = c6 .before in let c8 = c7 .before in let c9 = c8 .before in let c10 = c9 .before in
+    let c11 = c10 .before in
+    simp (← c11 .executes .ensures, c10 .if1 .left, ← c9 .is .ensures, c8 .if2 .left, ← c7 .is2 .ensures, c6 .if3 .left, ← c5 .is3 .ensures, c4 .if4 .left, ← c3 .is4 .ensures, c2 .if5 .left, ← c1 .is5 .ensures, c .if6 .taken)
+
+is-requires-6 : tie.Need-is-requires-6
+is-requires-6 c κs = search needs
+
+closing-requires : tie.Need-closing-requires
+closing-requires c κs = search needs
+
+returns-7 : tie.Need-returns-7
+unfolding statusNumber after pairBy
+returns-7 c =
+    let c1 = c .before in let c2 = c1 .before in let c3 = c2 .before in let c4 = c3 .before in let c5 = c4 .before in
+    let c6 = c5 .before in let c7 = c6 .before in let c8 = c7 .before in let c9 = c8 .before in let c10 = c9 .before in
+    let c11 = c10 .before in let c12 = c11 .before in let c13 = c12 .before in let c14 = c13 .before in
+    simp (← c14 .executes .ensures, c13 .if1 .left, ← c12 .is .ensures, c11 .if2 .left, ← c10 .is2 .ensures, c9 .if3 .left, ← c8 .is3 .ensures, c7 .if4 .left, ← c6 .is4 .ensures, c5 .if5 .left, ← c4 .is5 .ensures, c3 .if6 .left, ← c2 .is6 .ensures, c1 .if7 .taken, ← c .closing .ensures)
+
+returns-8 : tie.Need-returns-8
+unfolding statusNumber after pairBy
+returns-8 c =
+    let c1 = c .before in let c2 = c1 .before in let c3 = c2 .before in let c4 = c3 .before in let c5 = c4 .before in
+    let c6 = c5 .before in let c7 = c6 .before in let c8 = c7 .before in let c9 = c8 .before in let c10 = c9 .before in
+    let c11 = c10 .before in let c12 = c11 .before in let c13 = c12 .before in
+    simp (← c13 .executes .ensures, c12 .if1 .left, ← c11 .is .ensures, c10 .if2 .left, ← c9 .is2 .ensures, c8 .if3 .left, ← c7 .is3 .ensures, c6 .if4 .left, ← c5 .is4 .ensures, c4 .if5 .left, ← c3 .is5 .ensures, c2 .if6 .left, ← c1 .is6 .ensures, c .if7 .left)
 
 pub pair-after-spec : {M : Type 1} → statement M
 pair-after-spec =
@@ -81,11 +103,15 @@ pair-after-spec =
     is-requires
     read-by-requires
     returns-2
-    one-of-requires
-    returns-3
-    one-of-requires-2
-    returns-4
     is-requires-2
-    closing-requires
+    returns-3
+    is-requires-3
+    returns-4
+    is-requires-4
     returns-5
-    returns-6)
+    is-requires-5
+    returns-6
+    is-requires-6
+    closing-requires
+    returns-7
+    returns-8)
