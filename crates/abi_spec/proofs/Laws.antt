@@ -34,21 +34,21 @@ same-only (x ∷ xs) (y ∷ ys) e = go (eqb x y) refl e (same-only xs ys)
 pub same-is : SameIs
 same-is a b = (same-only a b, λ e. ap (eqWords a) (sym e) ∙ same-self a)
 
-pub let-in : WordsAccepted
+pub words-accepted : WordsAccepted
 unfolding malformed
-let-in w e = same-only w (pairWords (pairOf w)) (not-false (eqWords w (pairWords (pairOf w))) (malformed w) refl e)
+words-accepted w e = same-only w (pairWords (pairOf w)) (not-false (eqWords w (pairWords (pairOf w))) (malformed w) refl e)
 
 -- words that are accepted are as many as those of any pair
 as-many : (w : List ℕ) → malformed w ≡ false → length w ≡ 30
 unfolding pairWords
-as-many w e = ap length (let-in w e)
+as-many w e = ap length (words-accepted w e)
 
-pub put-many : (w : List ℕ) (q : Pair) → length w ≡ 30 → overwriteWords w (pairWords q) ≡ pairWords q
+pub overwrite-many : (w : List ℕ) (q : Pair) → length w ≡ 30 → overwriteWords w (pairWords q) ≡ pairWords q
 unfolding overwriteWords pairWords
-put-many w q e = ap (λ b. cond b (pairWords q) w) (eq-eqb (length w) 30 e)
+overwrite-many w q e = ap (λ b. cond b (pairWords q) w) (eq-eqb (length w) 30 e)
 
-pub put-pair : (w : List ℕ) (q : Pair) → malformed w ≡ false → overwriteWords w (pairWords q) ≡ pairWords q
-put-pair w q e = put-many w q (as-many w e)
+pub overwrite-pair : (w : List ℕ) (q : Pair) → malformed w ≡ false → overwriteWords w (pairWords q) ≡ pairWords q
+overwrite-pair w q e = overwrite-many w q (as-many w e)
 
 pub flag-back : (b : Bool) → flag (bit b) ≡ b
 unfolding flag
@@ -136,4 +136,4 @@ others-malformed w n = go (malformed w) refl
   where
     go : (b : Bool) → malformed w ≡ b → malformed w ≡ true
     go true e = e
-    go false e = absurd (n (pairOf w) (said-fits w) (let-in w e))
+    go false e = absurd (n (pairOf w) (said-fits w) (words-accepted w e))

@@ -10,18 +10,18 @@ use Rattle.abi_spec.specs.Words.{eqWords}
 use Rattle.abi_spec.specs.Rows.{rowMalformed, malformedFrom}
 
 -- one word more of new over old
-pub put-one : (new old : List ℕ) (i : ℕ) → i < length new → i < length old → set (take i new ++ drop i old) i (getD new i 0) ≡ take (suc i) new ++ drop (suc i) old
-put-one [] old i h k = absurd (omega arith)
-put-one (x ∷ xs) [] i h k = absurd (omega arith)
-put-one (x ∷ xs) (y ∷ ys) zero h k = refl
-put-one (x ∷ xs) (y ∷ ys) (suc i) h k = ap (λ (l : List ℕ). x ∷ l) (put-one xs ys i (omega arith) (omega arith))
+pub overwrite-one : (new old : List ℕ) (i : ℕ) → i < length new → i < length old → set (take i new ++ drop i old) i (getD new i 0) ≡ take (suc i) new ++ drop (suc i) old
+overwrite-one [] old i h k = absurd (omega arith)
+overwrite-one (x ∷ xs) [] i h k = absurd (omega arith)
+overwrite-one (x ∷ xs) (y ∷ ys) zero h k = refl
+overwrite-one (x ∷ xs) (y ∷ ys) (suc i) h k = ap (λ (l : List ℕ). x ∷ l) (overwrite-one xs ys i (omega arith) (omega arith))
 
 -- all of new over as many words
-pub put-all : (new old : List ℕ) → length old ≡ length new → take (length new) new ++ drop (length new) old ≡ new
-put-all [] [] e = refl
-put-all [] (y ∷ ys) e = absurd (omega arith)
-put-all (x ∷ xs) [] e = absurd (omega arith)
-put-all (x ∷ xs) (y ∷ ys) e = ap (λ (l : List ℕ). x ∷ l) (put-all xs ys (omega arith))
+pub overwrite-all : (new old : List ℕ) → length old ≡ length new → take (length new) new ++ drop (length new) old ≡ new
+overwrite-all [] [] e = refl
+overwrite-all [] (y ∷ ys) e = absurd (omega arith)
+overwrite-all (x ∷ xs) [] e = absurd (omega arith)
+overwrite-all (x ∷ xs) (y ∷ ys) e = ap (λ (l : List ℕ). x ∷ l) (overwrite-all xs ys (omega arith))
 
 -- two lists from a position on, where both have a word: equal words, then the rest
 pub same-next :
@@ -63,23 +63,23 @@ module _ (rows : List (List ℕ)) (memory i n : ℕ) (h : i < n) where
   add-one : i + 1 ≡ suc i
   add-one = omega arith
 
-  pub strange-here : rowMalformed (getD rows i []) memory ≡ true → malformedFrom rows memory i (n - i) ≡ true
+  pub malformed-here : rowMalformed (getD rows i []) memory ≡ true → malformedFrom rows memory i (n - i) ≡ true
   unfolding malformedFrom
-  strange-here e = rw (one-more, e)
+  malformed-here e = rw (one-more, e)
 
-  pub strange-next : rowMalformed (getD rows i []) memory ≡ false → malformedFrom rows memory i (n - i) ≡ malformedFrom rows memory (i + 1) (n - (i + 1))
+  pub malformed-next : rowMalformed (getD rows i []) memory ≡ false → malformedFrom rows memory i (n - i) ≡ malformedFrom rows memory (i + 1) (n - (i + 1))
   unfolding malformedFrom
-  strange-next e = rw (one-more, e) (rw add-one)
+  malformed-next e = rw (one-more, e) (rw add-one)
 
-pub strange-end : (rows : List (List ℕ)) (memory i n : ℕ) → n ≤ i → malformedFrom rows memory i (n - i) ≡ false
+pub malformed-end : (rows : List (List ℕ)) (memory i n : ℕ) → n ≤ i → malformedFrom rows memory i (n - i) ≡ false
 unfolding malformedFrom
-strange-end rows memory i n h = let e : n - i ≡ 0 = omega arith in rw e
+malformed-end rows memory i n h = let e : n - i ≡ 0 = omega arith in rw e
 
 -- one word more of the test: equal so far, and here
-pub still-next : (ok : Bool) (a b : List ℕ) (i : ℕ) → i < length a → i < length b
+pub so-far-next : (ok : Bool) (a b : List ℕ) (i : ℕ) → i < length a → i < length b
     → cond ok (eqWords (drop i a) (drop i b)) false
     ≡ cond (cond (eqb (getD a i 0) (getD b i 0)) ok false) (eqWords (drop (suc i) a) (drop (suc i) b)) false
-still-next ok a b i h k =
+so-far-next ok a b i h k =
     ap (λ x. cond ok x false) (same-next a b i h k) ∙ go ok (eqb (getD a i 0) (getD b i 0))
   where
     go : (ok e : Bool) → cond ok (cond e (eqWords (drop (suc i) a) (drop (suc i) b)) false) false ≡ cond (cond e ok false) (eqWords (drop (suc i) a) (drop (suc i) b)) false
@@ -89,8 +89,8 @@ still-next ok a b i h k =
     go false false = refl
 
 -- and past the end the test is over
-pub still-end : (ok : Bool) (a b : List ℕ) (i : ℕ) → length a ≤ i → length a ≡ length b → cond ok (eqWords (drop i a) (drop i b)) false ≡ ok
-still-end ok a b i h e = ap (λ x. cond ok x false) (same-end a b i h e) ∙ go ok
+pub so-far-end : (ok : Bool) (a b : List ℕ) (i : ℕ) → length a ≤ i → length a ≡ length b → cond ok (eqWords (drop i a) (drop i b)) false ≡ ok
+so-far-end ok a b i h e = ap (λ x. cond ok x false) (same-end a b i h e) ∙ go ok
   where
     go : (ok : Bool) → cond ok true false ≡ ok
     go true = refl

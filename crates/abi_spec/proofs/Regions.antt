@@ -79,8 +79,8 @@ unfolding malformedFrom
 from memory rows f zero i h = refl
 from memory rows f (suc n) i h = rw (f i (omega arith)) (from memory rows f n (suc i) (omega arith))
 
-pub regions-let-in : RegionsAccepted
-regions-let-in memory rows s k = from memory rows (λ j h. sound-row memory (getD rows j []) (k j h) (s .each j h)) 16 0 (omega arith)
+pub regions-accepted : RegionsAccepted
+regions-accepted memory rows s k = from memory rows (λ j h. sound-row memory (getD rows j []) (k j h) (s .each j h)) 16 0 (omega arith)
 
 at-or-past : (i j : ℕ) → i ≤ j → (i ≡ j) ⊎ (suc i ≤ j)
 at-or-past i j h = go (eqb i j) refl

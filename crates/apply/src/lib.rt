@@ -1,10 +1,7 @@
-// What a decision does: to memory, to the saved atomics, to the pair, and the packet that it sends. The definitions and
-// their laws stand in the crate responder_spec.
-mod answer;
+// What a decision does: to memory, to the saved atomics and to the pair. The definitions and their laws stand in the
+// crate responder_spec.
 mod state;
 
-pub use answer::reply;
-pub use answer::reply_bth;
 use responder_spec::Decision;
 use sequence::Psn;
 pub use state::pair_after;

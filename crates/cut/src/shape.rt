@@ -62,7 +62,7 @@ fn send_extension(v: u32, place: u8) -> Extension
 fn write_extension(t: Target, n: u32, place: u8) -> Extension
     ensures { λ r. ⌜ r ≡ writeExtension (rethFor t n) place ⌝ }
 {
-    let begins = pmtu::starts(place);
+    let begins = opcode::starts(place);
     if begins {
         let a = reth_for(t, n);
         return Extension::Remote(a);
@@ -85,7 +85,7 @@ fn write_immediate_extension(t: Target, n: u32, v: u32, place: u8) -> Extension
     ensures { λ r. ⌜ r ≡ writeImmediateExtension (rethFor t n) v place ⌝ }
 {
     if opcode::LAST <= place {
-        let begins = pmtu::starts(place);
+        let begins = opcode::starts(place);
         return write_end(t, n, v, begins);
     }
     write_extension(t, n, place)

@@ -7,7 +7,8 @@ use lib.Dec.{eqb}
 use borrow.Author.Tests.{ltb-false}
 use Rattle.lemmas.proofs.Tests.{cond-le}
 use Rattle.header.specs.Read.{otherService}
-use Rattle.pmtu.specs.Pieces.{pmtuFits, pieces, placeAt, ends}
+use Rattle.opcode.specs.Place.{ends}
+use Rattle.pmtu.specs.Pieces.{pmtuFits, pieces, placeAt}
 use Rattle.pmtu.proofs.Counting.{counts, pmtu-bounds}
 use Rattle.cut_spec.specs.Message.{carries, carriedLength, messageLength, messageLimit, packetsOf}
 use Rattle.cut_spec.specs.Cut.{withImmediate, lowFor}

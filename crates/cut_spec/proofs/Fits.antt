@@ -27,7 +27,7 @@ use Rattle.cut_spec.specs.declared.Request.{Request}
 use Rattle.pmtu.proofs.Cuts.{place-bound}
 use Rattle.cut_spec.proofs.Bounds.{low-bound, service-small}
 use Rattle.cut_spec.proofs.Fitting.{known}
-use Rattle.cut_spec.proofs.Steps.{part-carried, span-inside}
+use Rattle.cut_spec.proofs.Steps.{part-carried, range-inside}
 use Rattle.cut_spec.proofs.Shapes.{shape, place-said, few, widths, carries-carrier, carrier-carries, in-limit, class-is}
 
 -- a request carries bytes, or it does not
@@ -43,7 +43,7 @@ pub size-is : (c : Connection) (r : Request) (d : List ℕ) (i : ℕ) → sizeAt
 unfolding sizeAt payloadAt
 size-is c r d i =
     let s = partAt (carriedLength r (length d)) (c .pmtu) i in
-    let I = span-inside r (length d) (carriedLength r (length d)) (c .pmtu) i s refl refl in
+    let I = range-inside r (length d) (carriedLength r (length d)) (c .pmtu) i s refl refl in
     let a : s .start ≤ s .end = I .0 in
     let b : s .end ≤ length d = I .1 in
     let l : length (take (s .end - s .start) (drop (s .start) d)) ≡ s .end - s .start =

@@ -9,7 +9,8 @@ use Rattle.sequence.specs.Sequence.{psnAfter}
 use Rattle.sequence.specs.declared.Psn.{Psn}
 use Rattle.sequence.proofs.Circle.{after-none, after-after}
 use Rattle.opcode.specs.Opcode.{placeOf, lowClass, classOf}
-use Rattle.pmtu.specs.Pieces.{pieces, placeAt, ends, starts}
+use Rattle.opcode.specs.Place.{ends, starts}
+use Rattle.pmtu.specs.Pieces.{pieces, placeAt}
 use Rattle.pmtu.proofs.Cuts.{places}
 use Rattle.cut_spec.specs.Message.{carries, carriedLength, messageLength, packetsOf}
 use Rattle.cut_spec.specs.Next.{psnsOf, nextPsn}

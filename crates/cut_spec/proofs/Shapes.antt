@@ -10,7 +10,8 @@ use borrow.Author.Tests.{lt-ltb}
 use Rattle.opcode.specs.Opcode.{serviceOf, lowOf, kindOf, placeIn, placeOf, sendWriteFollows, followsOf, lowClass, ucHas, classOf}
 use Rattle.header.specs.Write.{followsBy, extensionBytes, rethBytes}
 use Rattle.header.specs.Claims.{RethWidths, Widths}
-use Rattle.pmtu.specs.Pieces.{pieces, placeAt, ends, starts}
+use Rattle.opcode.specs.Place.{ends, starts}
+use Rattle.pmtu.specs.Pieces.{pieces, placeAt}
 use Rattle.cut_spec.specs.Message.{carries, carriedLength, packetsOf, messageLength, messageLimit}
 use Rattle.cut_spec.specs.Cut.{withImmediate, lowFor, sendExtension, rethFor, writeExtension, writeEnd, writeImmediateExtension, fetchAddEth, extensionFor}
 use Rattle.cut_spec.specs.Claims.{Carrier, TargetWidths, RequestWidths, InLimit, CutMany, CutOne, kindNumber}

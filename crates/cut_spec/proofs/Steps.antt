@@ -112,10 +112,10 @@ part-carried r d pmtu i = go (carries r)
     go true = parts d pmtu i
     go false = none d pmtu i
 
-pub span-inside : (r : Request) (n carried pmtu i : ℕ) (part : Range) → carried ≡ carriedLength r n → part ≡ partAt carried pmtu i
+pub range-inside : (r : Request) (n carried pmtu i : ℕ) (part : Range) → carried ≡ carriedLength r n → part ≡ partAt carried pmtu i
     → (part .start ≤ part .end) × (part .end ≤ n)
 unfolding carriedLength
-span-inside r n carried pmtu i part o s =
+range-inside r n carried pmtu i part o s =
     let f : carried ≤ n = subst (λ x. x ≤ n) (sym o) (cond-le (carries r) (omega arith) (omega arith)) in
     let W = parts-within carried pmtu i in (
       subst (λ x. x .start ≤ x .end) (sym s) (W .0),

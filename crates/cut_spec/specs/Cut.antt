@@ -20,7 +20,8 @@ use Rattle.header.specs.declared.Extension.the-variants.{Bare, Remote, RemoteIm
 use Rattle.header.specs.declared.Header.{Header}
 use Rattle.header.specs.declared.Answer.{Answer}
 use Rattle.packet.specs.Packet.{padOf, packetBytes, packetLength, packetAnswer}
-use Rattle.pmtu.specs.Pieces.{pmtuFits, placeAt, starts, ends, pieceAt, partAt}
+use Rattle.opcode.specs.Place.{starts, ends}
+use Rattle.pmtu.specs.Pieces.{pmtuFits, placeAt, pieceAt, partAt}
 use Rattle.cut_spec.specs.Message.{carries, carried, carriedLength, messageLength, messageLimit, packetsOf}
 use Rattle.cut_spec.specs.declared.Connection.{Connection}
 use Rattle.cut_spec.specs.declared.Target.{Target}

@@ -89,11 +89,11 @@ module _ (ms : List Message) (S : List Slot) (p : Plain) (x : Run) (L : Link ms 
       (cond (unsound-no i) status.OutOfRange (cond (not (eqb (L .reads i) 0)) status.ReadUnfinished status.Executed)))
 
   -- a packet of the stream passes the header checks
-  let-in : (j : ℕ) → j < length S
+  permitted : (j : ℕ) → j < length S
       → orDrop (admitted (x .whole .pair .setup .service) (x .whole .pair .setup .ours) (x .whole .pair .setup .pkey) (eqb (x .whole .pair .state) 1) (packetAt (slot S j)))
       (λ h. packetDecision (x .whole .pair) (x .whole .regions) (x .whole .entries) (x .whole .saved) (packetOf h (length (packetAt (slot S j)))))
       ≡ packetDecision (x .whole .pair) (x .whole .regions) (x .whole .entries) (x .whole .saved) (cutPacket (slot S j))
-  let-in j i =
+  permitted j i =
       let H = G .stands j i in
       let f = Y .pair .setup .0 in
       rw (eq-eqb (x .whole .pair .state) 1 (L .ready), admits (x .whole .pair .setup) f (slot S j) (H .outgoing))
@@ -121,7 +121,7 @@ module _ (ms : List Message) (S : List Slot) (p : Plain) (x : Run) (L : Link ms 
       go false true false e f g = busy (packetAt (slot S j))
       go false true true e f g =
           let m = eqb-true (length (p .memory)) (x .whole .pair .setup .memory) f in
-          rw (let-in j (D .inside))
+          rw (permitted j (D .inside))
           (arrives ms S p x L Y G j (D .inside) R m (D .near (ltb-false (length out) 24 e) m (eqb-true (p .r) 0 g)))
 
   -- next response

@@ -210,14 +210,14 @@ along-zero [] = refl
 along-zero (t ∷ S) = refl
 
 -- every packet takes a number
-span-some : (r : Request) (pmtu : ℕ) → 0 < pmtu → 1 ≤ psnCountOf r pmtu
-span-some Send pmtu h = omega arith
-span-some (SendImmediate v) pmtu h = omega arith
-span-some (Write t) pmtu h = omega arith
-span-some (WriteImmediate t v) pmtu h = omega arith
-span-some (Read a) pmtu h = counts (a .length) pmtu h .some
-span-some (CmpSwap a) pmtu h = omega arith
-span-some (FetchAdd t v) pmtu h = omega arith
+count-positive : (r : Request) (pmtu : ℕ) → 0 < pmtu → 1 ≤ psnCountOf r pmtu
+count-positive Send pmtu h = omega arith
+count-positive (SendImmediate v) pmtu h = omega arith
+count-positive (Write t) pmtu h = omega arith
+count-positive (WriteImmediate t v) pmtu h = omega arith
+count-positive (Read a) pmtu h = counts (a .length) pmtu h .some
+count-positive (CmpSwap a) pmtu h = omega arith
+count-positive (FetchAdd t v) pmtu h = omega arith
 
 pub record Good (s : Setup) (regions : List (List ℕ)) (ms : List Message) (S : List Slot) : Type 0 where
   pub opening : slot S 0 .index ≡ 0
@@ -241,5 +241,5 @@ good s regions ms f v p =
       some = λ j h.
           let q : slot S j .message .connection .pmtu ≡ s .pmtu = stands-at s regions S j w h .outgoing .addressed .pmtu in
           let b : 256 ≤ s .pmtu = bounds (s .pmtu) (f .pmtu) .0 in
-          span-some (slot S j .message .request) (slot S j .message .connection .pmtu) (omega arith);
+          count-positive (slot S j .message .request) (slot S j .message .connection .pmtu) (omega arith);
     }

@@ -9,7 +9,7 @@ use lib.Dec.{eqb}
 use lib.ListN.{length, getD}
 use borrow.Author.Tests.{eqb-true, eq-eqb, ne-eqb}
 use Rattle.packet.specs.Packet.{padOf}
-use Rattle.pmtu.specs.Pieces.{starts, ends}
+use Rattle.opcode.specs.Place.{starts, ends}
 use Rattle.pmtu.proofs.Counting.{bounds}
 use Rattle.table.specs.Table.{outside}
 use Rattle.table.specs.Claims.{RegionsSound}
@@ -31,27 +31,27 @@ use Rattle.delivery.specs.Stream.{packetCount, Slot}
 use Rattle.delivery.specs.Plain.{none, slotNeedsEntry}
 use Rattle.delivery.proofs.Chain.{Stands}
 use Rattle.delivery.proofs.Places.{Sizes, starts-at, ends-at, size-fits, pad-late}
-use Rattle.delivery.proofs.Cutting.{netFor, placeFor, cutPacket, pmtu-is, sizes}
+use Rattle.delivery.proofs.Cutting.{slotSize, placeFor, cutPacket, pmtu-is, sizes}
 use Rattle.delivery.proofs.Operands.{addressOf, keyOf, namedOf, Said, said}
-use Rattle.delivery.proofs.Rel.{Is, IsOf, Under}
+use Rattle.delivery.proofs.Rel.{Is, IsOf, OpenedFor}
 use Rattle.delivery.proofs.Verdicts.{Before, Behind}
-use Rattle.delivery.proofs.Fitting.{named-is, named-limit, enabled-is, and-false, needs-is, Room, key-good, Suits, net-total, lengths-good}
+use Rattle.delivery.proofs.Fitting.{named-is, named-limit, enabled-is, and-false, needs-is, Room, key-good, Suits, payload-total, lengths-good}
 
 -- a packet that needs an entry finds none held
 idle : (r : Request) (c : Connection) (d : List ℕ) (first : Psn) (i : ℕ) (opened : OpenMessage) (held : List Entry)
     → slotNeedsEntry (record { message = record { connection = c; request = r; bytes = d }; first = first; index = i }) ≡ true
-    → Under (eqb i 0) (record { message = record { connection = c; request = r; bytes = d }; first = first; index = i }) opened held
+    → OpenedFor (eqb i 0) (record { message = record { connection = c; request = r; bytes = d }; first = first; index = i }) opened held
     → (opened .kind ≡ 0 → ⊥) × (held ≡ [])
 idle Send c d first i opened held q u =
-    let v = subst (λ b. Under b (record { message = record { connection = c; request = Send; bytes = d }; first = first; index = i }) opened held) q u in
+    let v = subst (λ b. OpenedFor b (record { message = record { connection = c; request = Send; bytes = d }; first = first; index = i }) opened held) q u in
     ((λ z. absurd (omega (arith, v .0))), v .1)
 idle (SendImmediate x) c d first i opened held q u =
-    let v = subst (λ b. Under b (record { message = record { connection = c; request = SendImmediate x; bytes = d }; first = first; index = i }) opened held) q u in
+    let v = subst (λ b. OpenedFor b (record { message = record { connection = c; request = SendImmediate x; bytes = d }; first = first; index = i }) opened held) q u in
     ((λ z. absurd (omega (arith, v .0))), v .1)
 idle (Write y) c d first i opened held q u = absurd (true≢false (sym q))
 idle (WriteImmediate y x) c d first i opened held q u = go (eqb i 0) u
   where
-    go : (b : Bool) → Under b (record { message = record { connection = c; request = WriteImmediate y x; bytes = d }; first = first; index = i }) opened held
+    go : (b : Bool) → OpenedFor b (record { message = record { connection = c; request = WriteImmediate y x; bytes = d }; first = first; index = i }) opened held
         → (opened .kind ≡ 0 → ⊥) × (held ≡ [])
     go true v = ((λ z. absurd (omega (arith, v .0))), v .1)
     go false v = ((λ z. absurd (omega (arith, v .0 .kind))), v .1)
@@ -98,7 +98,7 @@ module _ (s : Setup) (regions : List (List ℕ)) (f : SetupFit s) (t : Slot) (h 
   going z = rw (starts-is ∙ z)
 
 module _ (s : Setup) (regions : List (List ℕ)) (f : SetupFit s) (t : Slot) (h : Stands s regions t) (opened : OpenMessage) (held : List Entry)
-    (U : Under (eqb (t .index) 0) t opened held) where
+    (U : OpenedFor (eqb (t .index) 0) t opened held) where
   pub ends-is : ends (placeFor t) ≡ eqb (suc (t .index)) (packetCount (t .message))
   ends-is = ends-at (packetCount (t .message)) (t .index) (h .outgoing .inside)
 
@@ -106,7 +106,7 @@ module _ (s : Setup) (regions : List (List ℕ)) (f : SetupFit s) (t : Slot) (h 
   pub now : IsOf t (current opened (cutPacket t))
   now = go (eqb (t .index) 0) refl U
     where
-      go : (b : Bool) → eqb (t .index) 0 ≡ b → Under b t opened held → IsOf t (current opened (cutPacket t))
+      go : (b : Bool) → eqb (t .index) 0 ≡ b → OpenedFor b t opened held → IsOf t (current opened (cutPacket t))
       go true z u = begun s regions f t h opened z
       go false z u = subst (IsOf t) (sym (going s regions f t h opened z)) (u .0)
 
@@ -114,19 +114,19 @@ module _ (s : Setup) (regions : List (List ℕ)) (f : SetupFit s) (t : Slot) (h 
   unfolding outOfSequence
   sequence-is = rw (starts-is s regions f t h opened) (go (eqb (t .index) 0) U)
     where
-      go : (b : Bool) → Under b t opened held
+      go : (b : Bool) → OpenedFor b t opened held
           → cond b (not (eqb (opened .kind) 255)) (not (eqb (opened .kind) (kindNumber (t .message .request)))) ≡ false
       go true u = ap not (eq-eqb (opened .kind) 255 (u .0))
       go false u = ap not (eq-eqb (opened .kind) (kindNumber (t .message .request)) (u .0 .kind))
 
   -- a request that carries bytes, or none
-  pad-is : (Carrier (t .message .request) ⊎ (Carrier (t .message .request) → ⊥)) → padEarly (placeFor t) (padOf (netFor t)) ≡ false
+  pad-is : (Carrier (t .message .request) ⊎ (Carrier (t .message .request) → ⊥)) → padEarly (placeFor t) (padOf (slotSize t)) ≡ false
   unfolding padEarly padOf
   pad-is (inl c) =
-      pad-late (packetCount (t .message)) (t .index) (h .outgoing .inside) (netFor t) (t .message .connection .pmtu) (length (t .message .bytes)) (sizes s f t (h .outgoing) c)
+      pad-late (packetCount (t .message)) (t .index) (h .outgoing .inside) (slotSize t) (t .message .connection .pmtu) (length (t .message .bytes)) (sizes s f t (h .outgoing) c)
       (bounds (t .message .connection .pmtu) (pmtu-is s f t (h .outgoing)) .2)
   pad-is (inr c) =
-      let z : padOf (netFor t) ≡ 0 = ap padOf (none-carried (t .message .connection) (t .message .request) (t .message .bytes) (t .index) c) in
+      let z : padOf (slotSize t) ≡ 0 = ap padOf (none-carried (t .message .connection) (t .message .request) (t .message .bytes) (t .index) c) in
       rw z (and-false (not (ends (placeFor t))))
 
   pub before : Before s opened (cutPacket t)
@@ -163,15 +163,15 @@ module _ (s : Setup) (regions : List (List ℕ)) (f : SetupFit s) (t : Slot) (h 
       (namedOf (t .message .request) (length (t .message .bytes))) (current opened (cutPacket t)))
       (h .outgoing .addressed .pmtu) now
 
-  sizes-here : Carrier (t .message .request) → Sizes (t .index) (packetCount (t .message)) (netFor t) (s .pmtu) (length (t .message .bytes))
+  sizes-here : Carrier (t .message .request) → Sizes (t .index) (packetCount (t .message)) (slotSize t) (s .pmtu) (length (t .message .bytes))
   sizes-here c =
-      subst (λ z. Sizes (t .index) (packetCount (t .message)) (netFor t) z (length (t .message .bytes))) (h .outgoing .addressed .pmtu) (sizes s f t (h .outgoing) c)
+      subst (λ z. Sizes (t .index) (packetCount (t .message)) (slotSize t) z (length (t .message .bytes))) (h .outgoing .addressed .pmtu) (sizes s f t (h .outgoing) c)
 
   room-is : Room (t .message .request) (t .index * s .pmtu) (length (t .message .bytes))
   room-is = go (t .message .request) refl
     where
       within : Carrier (t .message .request) → t .index * s .pmtu ≤ length (t .message .bytes)
-      within c = omega (arith, net-total (t .index) (packetCount (t .message)) (netFor t) (s .pmtu) (length (t .message .bytes)) (h .outgoing .inside) (sizes-here c))
+      within c = omega (arith, payload-total (t .index) (packetCount (t .message)) (slotSize t) (s .pmtu) (length (t .message .bytes)) (h .outgoing .inside) (sizes-here c))
 
       zeroth : packetCount (t .message) ≡ 1 → t .index * s .pmtu ≡ 0
       zeroth e =
@@ -197,9 +197,9 @@ module _ (s : Setup) (regions : List (List ℕ)) (f : SetupFit s) (t : Slot) (h 
         entry-in = both (usesEntry (kindNumber (t .message .request)) (cutPacket t .operands .immediate)) (outside (getD entry 1 0) (getD entry 2 0) (s .memory)) inside;
         key = key-good (t .message .request) s regions (length (t .message .bytes)) (t .index * s .pmtu) (current opened (cutPacket t)) sound (h .allowed) now-here room-is;
         lengths =
-            lengths-good (t .message .request) s regions (cutPacket t) (current opened (cutPacket t)) (t .index) (packetCount (t .message)) (netFor t) (length (t .message .bytes)) (getD entry 2 0)
+            lengths-good (t .message .request) s regions (cutPacket t) (current opened (cutPacket t)) (t .index) (packetCount (t .message)) (slotSize t) (length (t .message .bytes)) (getD entry 2 0)
             refl refl ends-is (h .outgoing .inside) (h .allowed) now-here
-            (λ c. (sizes-here c, size-fits (packetCount (t .message)) (t .index) (h .outgoing .inside) (netFor t) (s .pmtu) (length (t .message .bytes)) (sizes-here c)))
+            (λ c. (sizes-here c, size-fits (packetCount (t .message)) (t .index) (h .outgoing .inside) (slotSize t) (s .pmtu) (length (t .message .bytes)) (sizes-here c)))
             (λ c. let z = none-carried (t .message .connection) (t .message .request) (t .message .bytes) (t .index) c in (z, ap padOf z ∙ none-pad))
             suits;
       }

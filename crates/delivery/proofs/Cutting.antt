@@ -38,8 +38,8 @@ headerFor t = headerAt (t .message .connection) (t .message .request) (length (t
 abbrev pub payloadFor : Slot → List ℕ
 payloadFor t = payloadAt (t .message .connection) (t .message .request) (t .message .bytes) (t .index)
 
-abbrev pub netFor : Slot → ℕ
-netFor t = length (payloadFor t)
+abbrev pub slotSize : Slot → ℕ
+slotSize t = length (payloadFor t)
 
 abbrev pub placeFor : Slot → ℕ
 placeFor t = placeAt (packetCount (t .message)) (t .index)
@@ -50,10 +50,10 @@ cutPacket t =
       kind = kindNumber (t .message .request);
       place = placeFor t;
       ackreq = headerFor t .bth .ackreq;
-      pad = padOf (netFor t);
+      pad = padOf (slotSize t);
       psn = psnAfter (t .first) (t .index);
       start = headerLength (headerFor t);
-      padded = netFor t + padOf (netFor t);
+      body = slotSize t + padOf (slotSize t);
       operands = operandsOf (extensionFor (t .message .request) (messageLength (t .message .request) (length (t .message .bytes))) (placeFor t));
     }
 
@@ -101,13 +101,13 @@ module _ (s : Setup) (f : SetupFit s) (t : Slot) (h : Sent s t) where
   unfolding packetAt
   payload-is = cut-reads (t .message .connection) (t .message .request) (t .message .bytes) (t .first) (t .index) cuttable (h .inside) .payload
 
-  pad-is : headerFor t .bth .pad ≡ padOf (netFor t)
+  pad-is : headerFor t .bth .pad ≡ padOf (slotSize t)
   unfolding packetAt
   pad-is = cut-pad (t .message .connection) (t .message .request) (t .message .bytes) (t .first) (t .index) cuttable ∙ ap (λ x. padOf (length x)) payload-is
 
-  raw-is : length (packetAt t) - headerLength (headerFor t) ≡ netFor t + padOf (netFor t)
+  body-is : length (packetAt t) - headerLength (headerFor t) ≡ slotSize t + padOf (slotSize t)
   unfolding packetAt cutBytes packetLength
-  raw-is =
+  body-is =
       let l = length-packet (headerFor t) (payloadFor t) (header-fits (t .message .connection) (t .message .request) (length (t .message .bytes)) (t .first) (t .index) cuttable) in
       omega (arith, l)
 
@@ -123,16 +123,16 @@ module _ (s : Setup) (f : SetupFit s) (t : Slot) (h : Sent s t) where
         pad = pad-is k;
         psn = psn-is k;
         start = headerLength (headerFor t);
-        padded = raw-is k;
+        body = body-is k;
         operands = operandsOf (extensionFor (t .message .request) (messageLength (t .message .request) (length (t .message .bytes))) (placeFor t));
       }
 
   -- the payload stands behind the headers
-  pub carried-is : take (netFor t) (drop (headerLength (headerFor t)) (packetAt t)) ≡ payloadFor t
+  pub carried-is : take (slotSize t) (drop (headerLength (headerFor t)) (packetAt t)) ≡ payloadFor t
   unfolding packetAt
   carried-is = cut-reads (t .message .connection) (t .message .request) (t .message .bytes) (t .first) (t .index) cuttable (h .inside) .bytes
 
-  pub sizes : Carrier (t .message .request) → Sizes (t .index) (packetCount (t .message)) (netFor t) (t .message .connection .pmtu) (length (t .message .bytes))
+  pub sizes : Carrier (t .message .request) → Sizes (t .index) (packetCount (t .message)) (slotSize t) (t .message .connection .pmtu) (length (t .message .bytes))
   unfolding packetAt
   sizes r =
       record {

@@ -43,7 +43,7 @@ use Rattle.delivery.specs.Stream.{Message, Slot, slot, psnCount, numberA
 use Rattle.delivery.specs.Plain.{Plain, isRead, withResponses, executeNext, deliver}
 use Rattle.delivery.specs.Demand.{Run, Near}
 use Rattle.delivery.proofs.Chain.{Stands, Good, along-less}
-use Rattle.delivery.proofs.Cutting.{netFor, cutPacket}
+use Rattle.delivery.proofs.Cutting.{slotSize, cutPacket}
 use Rattle.delivery.proofs.Rel.{IsOf, Link, stepBy, eases}
 use Rattle.delivery.proofs.Fitting.{Room, named-limit, enabled-is, key-good}
 use Rattle.delivery.proofs.Checks.{none-pad, begun}
@@ -129,11 +129,11 @@ module _ (ms : List Message) (S : List Slot) (p : Plain) (x : Run) (L : Link ms 
       N : IsOf t M
       N = begun (x .whole .pair .setup) (x .whole .regions) fits t H (x .whole .pair .message) (eq-eqb (t .index) 0 zeroth)
 
-      none : netFor t ≡ 0
+      none : slotSize t ≡ 0
       none = none-carried (t .message .connection) (t .message .request) (t .message .bytes) (t .index) (O .bare)
 
-      raw-none : netFor t + padOf (netFor t) ≡ 0
-      raw-none = omega (arith, none, ap padOf none, none-pad)
+      body-none : slotSize t + padOf (slotSize t) ≡ 0
+      body-none = omega (arith, none, ap padOf none, none-pad)
 
       key-holds : keyFails (x .whole .pair .setup .memory) 12 M region ≡ false
       key-holds =
@@ -149,23 +149,23 @@ module _ (ms : List Message) (S : List Slot) (p : Plain) (x : Run) (L : Link ms 
           (λ k. distance ((ap (λ e. e .0) (L .expected) ∙ L .number) k) (G .number j i k))
           ∙ distance-is (x .whole .pair .setup .start .0) (numberAlong S (p .k)) (numberAlong S j) (omega (arith, back)) near
 
-      again-passes : duplicateReadFails (cutPacket t) (x .whole .pair .setup) M (x .whole .pair .expected) region ≡ false
+      duplicate-passes : duplicateReadFails (cutPacket t) (x .whole .pair .setup) M (x .whole .pair .expected) region ≡ false
       unfolding duplicateReadFails
-      again-passes =
+      duplicate-passes =
           let en : notEnabled (x .whole .pair .setup) 12 ≡ false =
           subst (λ k. notEnabled (x .whole .pair .setup) k ≡ false) (R .kind)
           (enabled-is (x .whole .pair .setup) (x .whole .regions) (t .message .request) (length (t .message .bytes)) (H .allowed)) in
           let lim : overLimit (M .length) ≡ false =
           over-no (M .length) (subst (λ k. k ≤ 1048576) (sym (N .length)) (named-limit (t .message .request) (length (t .message .bytes)) (H .outgoing .addressed .limit))) in
-          let w : eqb (netFor t + padOf (netFor t)) 0 ≡ true = eq-eqb (netFor t + padOf (netFor t)) 0 raw-none in
-          let z : eqb (padOf (netFor t)) 0 ≡ true = eq-eqb (padOf (netFor t)) 0 (omega (arith, raw-none)) in
+          let w : eqb (slotSize t + padOf (slotSize t)) 0 ≡ true = eq-eqb (slotSize t + padOf (slotSize t)) 0 body-none in
+          let z : eqb (padOf (slotSize t)) 0 ≡ true = eq-eqb (padOf (slotSize t)) 0 (omega (arith, body-none)) in
           let all : ltb (distance (x .whole .pair .expected .0) (cutPacket t .psn .0)) (pieces (M .length) (x .whole .pair .setup .pmtu)) ≡ false =
           le-ltb (distance (x .whole .pair .expected .0) (cutPacket t .psn .0)) (pieces (M .length) (x .whole .pair .setup .pmtu)) (omega (arith, far, count-is, back)) in
           λ k. en k || (lim k || (not (w k) || (not (z k) || (key-holds k || all k))))
 
       again : (b : List ℕ) → Link ms S (withResponses p (psnCount t)) (stepBy x (duplicateRead (cutPacket t) (x .whole .pair .setup) M (x .whole .pair .expected) region) b)
       unfolding duplicateRead
-      again b = rw again-passes (begins _ (psnCount t) _ _ _ b (subst (λ k. 1 ≤ k) (sym count-is) (G .some j i)) count-is)
+      again b = rw duplicate-passes (begins _ (psnCount t) _ _ _ b (subst (λ k. 1 ≤ k) (sym count-is) (G .some j i)) count-is)
 
     -- a packet that was executed before: an ACK, a READ's answer, a saved value
     abbrev Late : Saved → List ℕ → Type 0

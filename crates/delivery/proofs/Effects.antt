@@ -22,7 +22,7 @@ use Rattle.delivery.specs.Stream.{Message, packetCount, Slot, slot, psnC
 use Rattle.delivery.specs.Plain.{Plain, takesEntry, completionFor, memoryAfter, isRead, heldNow, waitingNow, isLast, slotNeedsEntry, executeWith}
 use Rattle.delivery.specs.Demand.{Run, AllLongEnough, entryOf}
 use Rattle.delivery.proofs.Chain.{Turn, further, along-suc}
-use Rattle.delivery.proofs.Rel.{IsOf, Holding, Under, Link, stepBy}
+use Rattle.delivery.proofs.Rel.{IsOf, Holding, OpenedFor, Link, stepBy}
 
 -- an answer from 0 to 3 is that of an executed packet
 pub executed-by : (q : Pair) (d : Decision) → statusNumber (d .status) ≤ 3 → pairBy q d ≡ executedPair q d
@@ -30,20 +30,20 @@ unfolding pairBy apply.after
 executed-by q d h = rw (le-leb (statusNumber (d .status)) 3 h)
 
 -- what stands open after packet k of S
-pub under-next : (S : List Slot) (k : ℕ) (u : OpenMessage) (held : List Entry) → Turn (slot S k) (slot S (suc k)) → slot S k .index < packetCount (slot S k .message)
+pub opened-next : (S : List Slot) (k : ℕ) (u : OpenMessage) (held : List Entry) → Turn (slot S k) (slot S (suc k)) → slot S k .index < packetCount (slot S k .message)
     → (isLast (slot S k) ≡ true → (u .kind ≡ 255) × (held ≡ []))
     → (isLast (slot S k) ≡ false → IsOf (further (slot S k)) u × Holding (slot S k .message .request) (length (slot S k .message .bytes)) held)
-    → Under (eqb (slot S (suc k) .index) 0) (slot S (suc k)) u held
-under-next S k u held turn inside done more = go (isLast (slot S k)) refl
+    → OpenedFor (eqb (slot S (suc k) .index) 0) (slot S (suc k)) u held
+opened-next S k u held turn inside done more = go (isLast (slot S k)) refl
   where
-    go : (b : Bool) → isLast (slot S k) ≡ b → Under (eqb (slot S (suc k) .index) 0) (slot S (suc k)) u held
+    go : (b : Bool) → isLast (slot S k) ≡ b → OpenedFor (eqb (slot S (suc k) .index) 0) (slot S (suc k)) u held
     go true e =
         let z : slot S (suc k) .index ≡ 0 = turn .last (eqb-true (suc (slot S k .index)) (packetCount (slot S k .message)) e) in
-        subst (λ b. Under b (slot S (suc k)) u held) (sym (eq-eqb (slot S (suc k) .index) 0 z)) (done e)
+        subst (λ b. OpenedFor b (slot S (suc k)) u held) (sym (eq-eqb (slot S (suc k) .index) 0 z)) (done e)
     go false e =
         let l : suc (slot S k .index) < packetCount (slot S k .message) = omega (arith, tests) in
-        subst (λ t. Under (eqb (t .index) 0) t u held) (sym (turn .more l))
-        (subst (λ b. Under b (further (slot S k)) u held) (sym (ne-eqb (suc (slot S k .index)) 0 (λ z. absurd (omega arith)))) (more e))
+        subst (λ t. OpenedFor (eqb (t .index) 0) t u held) (sym (turn .more l))
+        (subst (λ b. OpenedFor b (further (slot S k)) u held) (sym (ne-eqb (suc (slot S k .index)) 0 (λ z. absurd (omega arith)))) (more e))
 
 drop-long : (ms : List Message) (es : List Entry) → AllLongEnough ms es → AllLongEnough ms (drop 1 es)
 drop-long ms [] h = h
@@ -67,7 +67,7 @@ module _ (ms : List Message) (S : List Slot) (p : Plain) (x : Run) (d : Decision
     pub entries :
         map entryOf (inRing (x .whole .entries) (entriesBy (d .completion .some) (x .whole .pair .entries)))
         ≡ cond (isLast (slot S (p .k))) [] (heldNow p (slot S (p .k))) ++ waitingNow p (slot S (p .k))
-    pub opened : Under (eqb (slot S (suc (p .k)) .index) 0) (slot S (suc (p .k))) (d .message) (cond (isLast (slot S (p .k))) [] (heldNow p (slot S (p .k))))
+    pub opened : OpenedFor (eqb (slot S (suc (p .k)) .index) 0) (slot S (suc (p .k))) (d .message) (cond (isLast (slot S (p .k))) [] (heldNow p (slot S (p .k))))
 
   module _ (L : Link ms S p x) (lt : p .k < length S) (e : Entry) (D : Does e) where
     number-next : psnAfter (p .expected) (psnCount (slot S (p .k))) .0 ≡ after (x .whole .pair .setup .start .0) (numberAlong S (suc (p .k)))

@@ -9,7 +9,7 @@ use lib.ListN.{length}
 use borrow.Author.Tests.{eqb-true, eq-eqb, le-ltb, lt-ltb}
 use Rattle.lemmas.proofs.Auto.{tests}
 use Rattle.lemmas.proofs.Tests.{and-true}
-use Rattle.pmtu.specs.Pieces.{starts, ends}
+use Rattle.opcode.specs.Place.{starts, ends}
 use Rattle.table.specs.Table.{regionRow}
 use Rattle.table.specs.Claims.{RegionsSound}
 use Rattle.table.specs.declared.Region.{Region}
@@ -120,22 +120,22 @@ key-good (FetchAdd t v) s regions n off m z a e l =
     rw (e .key) (key-passes (s .memory) 20 (t .key) (t .address) 8 off regions (λ r. r .atomic) m z add-right (e .address) (e .stored) (e .length) (omega arith) (a .1))
 
 -- lengths, of a packet that carries bytes and of one that does not
-pub lengths-carry : (p : Packet) (pmtu : ℕ) (m : OpenMessage) (most size : ℕ) → p .padded ≡ size + p .pad → carrying (p .kind) ≡ true
+pub lengths-carry : (p : Packet) (pmtu : ℕ) (m : OpenMessage) (most size : ℕ) → p .body ≡ size + p .pad → carrying (p .kind) ≡ true
     → sizeOff (p .place) pmtu size ≡ false
     → totalOff (p .kind) (p .place) (m .stored) size (m .length) most ≡ false
     → lengthsOff p pmtu m most ≡ false
 unfolding lengthsOff payloadSize
 lengths-carry p pmtu m most size e c a b =
-    let z : p .padded - p .pad ≡ size = omega arith in
-    let w : ltb (p .padded) (p .pad) ≡ false = le-ltb (p .padded) (p .pad) (omega arith) in
+    let z : p .body - p .pad ≡ size = omega arith in
+    let w : ltb (p .body) (p .pad) ≡ false = le-ltb (p .body) (p .pad) (omega arith) in
     rw (w, c, z, a, b)
 
-pub lengths-bare : (p : Packet) (pmtu : ℕ) (m : OpenMessage) (most : ℕ) → p .padded ≡ 0 → p .pad ≡ 0 → carrying (p .kind) ≡ false
-    → bareOff (p .kind) (p .padded) (m .address) ≡ false
+pub lengths-bare : (p : Packet) (pmtu : ℕ) (m : OpenMessage) (most : ℕ) → p .body ≡ 0 → p .pad ≡ 0 → carrying (p .kind) ≡ false
+    → bareOff (p .kind) (p .body) (m .address) ≡ false
     → lengthsOff p pmtu m most ≡ false
 unfolding lengthsOff
 lengths-bare p pmtu m most e z c a =
-    let w : ltb (p .padded) (p .pad) ≡ false = le-ltb (p .padded) (p .pad) (omega arith) in
+    let w : ltb (p .body) (p .pad) ≡ false = le-ltb (p .body) (p .pad) (omega arith) in
     rw (w, c, a)
 
 -- the entry takes a SEND
@@ -149,8 +149,8 @@ Suits (CmpSwap a) n most = Unit {0}
 Suits (FetchAdd t v) n most = Unit {0}
 
 -- the packets of a message end it, and do not go past its end
-pub net-total : (i count size pmtu n : ℕ) → i < count → Sizes i count size pmtu n → i * pmtu + size ≤ n
-net-total i count size pmtu n h z = go (eqb (suc i) count) refl
+pub payload-total : (i count size pmtu n : ℕ) → i < count → Sizes i count size pmtu n → i * pmtu + size ≤ n
+payload-total i count size pmtu n h z = go (eqb (suc i) count) refl
   where
     go : (b : Bool) → eqb (suc i) count ≡ b → i * pmtu + size ≤ n
     go true e = omega (arith, z .last (eqb-true (suc i) count e) .2)
@@ -171,22 +171,22 @@ write-total place stored size n most len i pmtu count e l h z q = rw q (go (eqb 
     go true f = ap not (eq-eqb (stored + size) len (omega (arith, z .last (eqb-true (suc i) count f) .2)))
     go false f = let w = z .more (omega (arith, tests)) in ap not (lt-ltb (stored + size) len (omega (arith, w .0, w .1)))
 
-pub read-bare : (padded address : ℕ) → padded ≡ 0 → bareOff 12 padded address ≡ false
+pub read-bare : (body address : ℕ) → body ≡ 0 → bareOff 12 body address ≡ false
 unfolding bareOff
-read-bare padded address e = rw (eq-eqb padded 0 e)
+read-bare body address e = rw (eq-eqb body 0 e)
 
-pub swap-bare : (padded address : ℕ) → padded ≡ 0 → address % 8 ≡ 0 → bareOff 19 padded address ≡ false
+pub swap-bare : (body address : ℕ) → body ≡ 0 → address % 8 ≡ 0 → bareOff 19 body address ≡ false
 unfolding bareOff
-swap-bare padded address e a = rw (eq-eqb padded 0 e, eq-eqb (address % 8) 0 a)
+swap-bare body address e a = rw (eq-eqb body 0 e, eq-eqb (address % 8) 0 a)
 
-pub add-bare : (padded address : ℕ) → padded ≡ 0 → address % 8 ≡ 0 → bareOff 20 padded address ≡ false
+pub add-bare : (body address : ℕ) → body ≡ 0 → address % 8 ≡ 0 → bareOff 20 body address ≡ false
 unfolding bareOff
-add-bare padded address e a = rw (eq-eqb padded 0 e, eq-eqb (address % 8) 0 a)
+add-bare body address e a = rw (eq-eqb body 0 e, eq-eqb (address % 8) 0 a)
 
 -- by the kind: a packet p of index i of count, which carries size bytes
 pub lengths-good : (r : Request) (s : Setup) (regions : List (List ℕ)) (p : Packet) (m : OpenMessage) (i count size n most : ℕ)
     → p .kind ≡ kindNumber r
-    → p .padded ≡ size + p .pad
+    → p .body ≡ size + p .pad
     → ends (p .place) ≡ eqb (suc i) count
     → i < count
     → Allowed s regions r n
@@ -198,10 +198,10 @@ pub lengths-good : (r : Request) (s : Setup) (regions : List (List ℕ)) (p : Pa
 unfolding carrying
 lengths-good Send s regions p m i count size n most k e q h a c z x l =
     lengths-carry p (s .pmtu) m most size e (rw k) (z tt .1)
-    (rw k (send-total (p .place) (m .stored) size n most (m .length) i (s .pmtu) (c .stored) (net-total i count size (s .pmtu) n h (z tt .0)) l))
+    (rw k (send-total (p .place) (m .stored) size n most (m .length) i (s .pmtu) (c .stored) (payload-total i count size (s .pmtu) n h (z tt .0)) l))
 lengths-good (SendImmediate v) s regions p m i count size n most k e q h a c z x l =
     lengths-carry p (s .pmtu) m most size e (rw k) (z tt .1)
-    (rw k (send-total (p .place) (m .stored) size n most (m .length) i (s .pmtu) (c .stored) (net-total i count size (s .pmtu) n h (z tt .0)) l))
+    (rw k (send-total (p .place) (m .stored) size n most (m .length) i (s .pmtu) (c .stored) (payload-total i count size (s .pmtu) n h (z tt .0)) l))
 lengths-good (Write t) s regions p m i count size n most k e q h a c z x l =
     lengths-carry p (s .pmtu) m most size e (rw k) (z tt .1)
     (rw k (write-total (p .place) (m .stored) size n most (m .length) i (s .pmtu) count (c .stored) (c .length) h (z tt .0) q))
@@ -210,13 +210,13 @@ lengths-good (WriteImmediate t v) s regions p m i count size n most k e q h a c 
     (rw k (write-total (p .place) (m .stored) size n most (m .length) i (s .pmtu) count (c .stored) (c .length) h (z tt .0) q))
 lengths-good (Read b) s regions p m i count size n most k e q h a c z x l =
     let y = x (λ w. w) in
-    let w : p .padded ≡ 0 = omega (arith, y .0, y .1) in
-    lengths-bare p (s .pmtu) m most w (y .1) (rw k) (rw k (read-bare (p .padded) (m .address) w))
+    let w : p .body ≡ 0 = omega (arith, y .0, y .1) in
+    lengths-bare p (s .pmtu) m most w (y .1) (rw k) (rw k (read-bare (p .body) (m .address) w))
 lengths-good (CmpSwap b) s regions p m i count size n most k e q h a c z x l =
     let y = x (λ w. w) in
-    let w : p .padded ≡ 0 = omega (arith, y .0, y .1) in
-    lengths-bare p (s .pmtu) m most w (y .1) (rw k) (rw k (swap-bare (p .padded) (m .address) w (ap (λ j. j % 8) (c .address) ∙ a .2)))
+    let w : p .body ≡ 0 = omega (arith, y .0, y .1) in
+    lengths-bare p (s .pmtu) m most w (y .1) (rw k) (rw k (swap-bare (p .body) (m .address) w (ap (λ j. j % 8) (c .address) ∙ a .2)))
 lengths-good (FetchAdd t v) s regions p m i count size n most k e q h a c z x l =
     let y = x (λ w. w) in
-    let w : p .padded ≡ 0 = omega (arith, y .0, y .1) in
-    lengths-bare p (s .pmtu) m most w (y .1) (rw k) (rw k (add-bare (p .padded) (m .address) w (ap (λ j. j % 8) (c .address) ∙ a .2)))
+    let w : p .body ≡ 0 = omega (arith, y .0, y .1) in
+    lengths-bare p (s .pmtu) m most w (y .1) (rw k) (rw k (add-bare (p .body) (m .address) w (ap (λ j. j % 8) (c .address) ∙ a .2)))

@@ -9,8 +9,8 @@ pub mod Checks
 pub mod Entries
 pub mod Effects
 pub mod Requests
-pub mod Placing
-pub mod Landing
+pub mod Storing
+pub mod InMemory
 pub mod Sending
 pub mod Writing
 pub mod Singles

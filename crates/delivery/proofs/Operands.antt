@@ -3,7 +3,8 @@ use Prim.Native.Nat.{ℕ, _≤_}
 use mathlib.Core.Path.{_≡_, refl, sym}
 use mathlib.Core.Bool.{Bool, true, false, _&&_, true≢false}
 use borrow.Author.Tests.{le-ltb}
-use Rattle.pmtu.specs.Pieces.{placeAt, starts, ends}
+use Rattle.opcode.specs.Place.{starts, ends}
+use Rattle.pmtu.specs.Pieces.{placeAt}
 use Rattle.pair.specs.Sound.{memoryLimit}
 use Rattle.cut_spec.specs.Cut.{sendExtension, rethFor, writeExtension, writeEnd, writeImmediateExtension, fetchAddEth, extensionFor}
 use Rattle.cut_spec.specs.declared.Request.{Request}

@@ -6,7 +6,8 @@ use native.Mathlib.Omega.{arith}
 use lib.Dec.{eqb, leb, ltb}
 use borrow.Author.Tests.{eq-eqb, ne-eqb, le-ltb}
 use Rattle.lemmas.proofs.Auto.{tests}
-use Rattle.pmtu.specs.Pieces.{placeAt, starts, ends}
+use Rattle.opcode.specs.Place.{starts, ends}
+use Rattle.pmtu.specs.Pieces.{placeAt}
 use Rattle.packet.specs.Packet.{padOf}
 use Rattle.request_spec.specs.Verdict.{sizeOff, padEarly}
 

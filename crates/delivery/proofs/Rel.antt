@@ -47,9 +47,9 @@ Holding (CmpSwap a) n held = held ≡ []
 Holding (FetchAdd t v) n held = held ≡ []
 
 -- before the first packet of a message none is open, before all others it is the open one
-abbrev pub Under : Bool → Slot → OpenMessage → List Entry → Type 0
-Under true t u held = (u .kind ≡ 255) × (held ≡ [])
-Under false t u held = IsOf t u × Holding (t .message .request) (length (t .message .bytes)) held
+abbrev pub OpenedFor : Bool → Slot → OpenMessage → List Entry → Type 0
+OpenedFor true t u held = (u .kind ≡ 255) × (held ≡ [])
+OpenedFor false t u held = IsOf t u × Holding (t .message .request) (length (t .message .bytes)) held
 
 pub record Link (ms : List Message) (S : List Slot) (p : Plain) (x : Run) : Type 0 where
   pub ready : x .whole .pair .state ≡ 1
@@ -62,7 +62,7 @@ pub record Link (ms : List Message) (S : List Slot) (p : Plain) (x : Run) : Type
   pub within : p .k ≤ length S
   pub number : p .expected .0 ≡ after (x .whole .pair .setup .start .0) (numberAlong S (p .k))
   pub long : AllLongEnough ms (p .waiting)
-  pub opened : Under (eqb (slot S (p .k) .index) 0) (slot S (p .k)) (x .whole .pair .message) (p .held)
+  pub opened : OpenedFor (eqb (slot S (p .k) .index) 0) (slot S (p .k)) (x .whole .pair .message) (p .held)
 
 -- what a decision d about the packet b leads to
 abbrev pub stepBy : Run → Decision → List ℕ → Run

@@ -44,7 +44,7 @@ pub record Sends (r : Request) : Type 0 where
   pub kind : kindNumber r ≡ 0
   pub takesEntry : takesEntry r ≡ true
   pub needsEntryAt : (i n : ℕ) → needsEntryAt r i n ≡ eqb i 0
-  pub lands :
+  pub memory-is :
       (regions : List (List ℕ)) (pmtu : ℕ) (d : List ℕ) (i : ℕ) (e : Entry) (m : List ℕ)
       → memoryAfter r regions pmtu d i e m ≡ overwrite m (e .offset + i * pmtu) (pieceAt d pmtu i)
   pub holding : (n : ℕ) (held : List Entry) (e : Entry) → held ≡ e ∷ [] → n ≤ e .length → Holding r n held
@@ -56,7 +56,7 @@ pub record Writes (r : Request) : Type 0 where
   pub kind : kindNumber r ≡ 6
   pub takesEntry : takesEntry r ≡ immediateOf r
   pub needsEntryAt : (i n : ℕ) → needsEntryAt r i n ≡ (eqb (suc i) n && immediateOf r)
-  pub lands :
+  pub memory-is :
       (regions : List (List ℕ)) (pmtu : ℕ) (d : List ℕ) (i : ℕ) (e : Entry) (m : List ℕ)
       → memoryAfter r regions pmtu d i e m ≡ overwrite m (regionOffset regions (keyOf r) (addressOf r) + i * pmtu) (pieceAt d pmtu i)
   pub holding : (n : ℕ) (held : List Entry) → held ≡ [] → Holding r n held
@@ -95,7 +95,7 @@ send-sends =
       kind = refl;
       takesEntry = refl;
       needsEntryAt = λ i n. refl;
-      lands = λ g p d i e m. refl;
+      memory-is = λ g p d i e m. refl;
       holding = λ n h e q l. (e, q, l);
       held = λ n h w. w;
       suits = λ n most l. l;
@@ -108,7 +108,7 @@ send-imm-sends v =
       kind = refl;
       takesEntry = refl;
       needsEntryAt = λ i n. refl;
-      lands = λ g p d i e m. refl;
+      memory-is = λ g p d i e m. refl;
       holding = λ n h e q l. (e, q, l);
       held = λ n h w. w;
       suits = λ n most l. l;
@@ -129,7 +129,7 @@ write-writes t =
       kind = refl;
       takesEntry = refl;
       needsEntryAt = λ i n. and-false (eqb (suc i) n);
-      lands = λ g p d i e m. refl;
+      memory-is = λ g p d i e m. refl;
       holding = λ n h q. q;
       held = λ n h w. w;
       suits = λ n most. tt;
@@ -143,7 +143,7 @@ write-imm-writes t v =
       kind = refl;
       takesEntry = refl;
       needsEntryAt = λ i n. true-and (eqb (suc i) n);
-      lands = λ g p d i e m. refl;
+      memory-is = λ g p d i e m. refl;
       holding = λ n h q. q;
       held = λ n h w. w;
       suits = λ n most. tt;
@@ -164,10 +164,10 @@ pub record Reads (r : Request) : Type 0 where
   pub kind : kindNumber r ≡ 12
   pub read : isRead r ≡ true
   pub psnCount : (n pmtu : ℕ) → psnCountOf r pmtu ≡ pieces (namedOf r n) pmtu
-  pub lands : (regions : List (List ℕ)) (pmtu : ℕ) (d : List ℕ) (i : ℕ) (e : Entry) (m : List ℕ) → memoryAfter r regions pmtu d i e m ≡ m
+  pub memory-is : (regions : List (List ℕ)) (pmtu : ℕ) (d : List ℕ) (i : ℕ) (e : Entry) (m : List ℕ) → memoryAfter r regions pmtu d i e m ≡ m
 
 pub reads-reads : (a : Reth) → Reads (Read a)
-reads-reads a = record { kind = refl; read = refl; psnCount = λ n pmtu. refl; lands = λ g p d i e m. refl }
+reads-reads a = record { kind = refl; read = refl; psnCount = λ n pmtu. refl; memory-is = λ g p d i e m. refl }
 
 -- FetchAdd and CmpSwap: what either does to memory, by the act of its decision
 pub record Swaps (r : Request) (k act : ℕ) (does : List ℕ → ℕ → ℕ → ℕ → List ℕ) : Type 0 where
@@ -180,7 +180,7 @@ pub record Swaps (r : Request) (k act : ℕ) (does : List ℕ → ℕ → ℕ �
   pub named : (n : ℕ) → namedOf r n ≡ 8
   pub right : (s : Setup) (regions : List (List ℕ)) (n : ℕ) → Allowed s regions r n → LiesInRegion regions (λ x. x .atomic) (keyOf r) (addressOf r) 8
   pub rights : (x : Region) → rightOf k (regionRow x) ≡ cond (x .atomic) 1 0
-  pub lands :
+  pub memory-is :
       (n place : ℕ) (regions : List (List ℕ)) (pmtu : ℕ) (d : List ℕ) (i : ℕ) (e : Entry) (m : List ℕ)
       → memoryAfter r regions pmtu d i e m
       ≡ does m (regionOffset regions (keyOf r) (addressOf r)) (operandsOf (extensionFor r n place) .compare) (operandsOf (extensionFor r n place) .swap)
@@ -198,7 +198,7 @@ adds-swaps t v =
       named = λ n. refl;
       right = λ s g n a. a .1;
       rights = add-right;
-      lands = λ n place g p d i e m. refl;
+      memory-is = λ n place g p d i e m. refl;
     }
 
 pub swaps-swaps : (a : AtomicEth) → Swaps (CmpSwap a) 19 3 (λ m at c w. swapped m at c w)
@@ -214,5 +214,5 @@ swaps-swaps a =
       named = λ n. refl;
       right = λ s g n b. b .1;
       rights = swap-right;
-      lands = λ n place g p d i e m. refl;
+      memory-is = λ n place g p d i e m. refl;
     }

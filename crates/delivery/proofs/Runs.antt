@@ -26,7 +26,7 @@ use Rattle.delivery.specs.Plain.Call.{Hand, Next, Post}
 use Rattle.delivery.specs.Demand.{Run, step, run, Fresh, AllLongEnough, CallPermitted, AllCallsPermitted, waitingAt, Agree, Delivery}
 use Rattle.delivery.proofs.Chain.{Good, good, along-zero, reliable-serves}
 use Rattle.delivery.proofs.Cutting.{psn-small}
-use Rattle.delivery.proofs.Rel.{Link, Under}
+use Rattle.delivery.proofs.Rel.{Link, OpenedFor}
 use Rattle.delivery.proofs.Calls.{hand, next, post}
 
 -- no call moves the set-up
@@ -110,7 +110,7 @@ fresh-link w ms m F l G =
       within = omega arith;
       number = omega (arith, along-zero S, F .sound .pair .setup .0 .start);
       long = l;
-      opened = subst (λ b. Under b (slot S 0) (w .pair .message) []) (sym (eq-eqb (slot S 0 .index) 0 (G .opening))) (F .message, refl);
+      opened = subst (λ b. OpenedFor b (slot S 0) (w .pair .message) []) (sym (eq-eqb (slot S 0 .index) 0 (G .opening))) (F .message, refl);
     }
 
 -- a pair that calls made is sound but for what is saved

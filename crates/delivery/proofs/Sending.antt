@@ -9,7 +9,8 @@ use lib.ListN.{length, getD, take, drop, take-append-drop}
 use borrow.Author.Tests.{ltb-false}
 use Rattle.lemmas.proofs.Tests.{and-true}
 use Rattle.memory.specs.Memory.{overwrite}
-use Rattle.pmtu.specs.Pieces.{ends, pieceAt}
+use Rattle.opcode.specs.Place.{ends}
+use Rattle.pmtu.specs.Pieces.{pieceAt}
 use Rattle.table.specs.Table.{outside}
 use Rattle.table.specs.View.{inRing}
 use Rattle.table.specs.declared.Entry.{Entry}
@@ -26,13 +27,13 @@ use Rattle.delivery.specs.Plain.{Plain, takesEntry, completionFor, none,
 use Rattle.delivery.specs.Demand.{Run, AllLongEnough, LongEnough, entryOf}
 use Rattle.delivery.proofs.Chain.{Stands, Good}
 use Rattle.delivery.proofs.Cutting.{placeFor, cutPacket}
-use Rattle.delivery.proofs.Rel.{Under, Link}
+use Rattle.delivery.proofs.Rel.{OpenedFor, Link}
 use Rattle.delivery.proofs.Checks.{ends-is, now}
 use Rattle.delivery.proofs.Entries.{entries-by, count-is, head-is, entry-fits}
-use Rattle.delivery.proofs.Effects.{Does, under-next}
+use Rattle.delivery.proofs.Effects.{Does, opened-next}
 use Rattle.delivery.proofs.Requests.{Carries, Sends}
-use Rattle.delivery.proofs.Landing.{send-lands, send-completes, send-long}
-use Rattle.delivery.proofs.Placing.{placing-told, placing-answers, placing-reads, grown-last, grown-more}
+use Rattle.delivery.proofs.InMemory.{send-memory-is, send-completes, send-long}
+use Rattle.delivery.proofs.Storing.{storing-completes, storing-answers, storing-reads, grown-last, grown-more}
 
 -- the first of the entries that wait, where some do
 first-waiting : (ms : List Message) (es : List Entry) → none es ≡ false → AllLongEnough ms es
@@ -72,8 +73,8 @@ module _ (ms : List Message) (S : List Slot) (p : Plain) (x : Run) (L : Link ms 
   pub entered : Entered
   entered = go (eqb (t .index) 0) refl (L .opened)
     where
-      needing-is : slotNeedsEntry t ≡ eqb (t .index) 0
-      needing-is = Z .needsEntryAt (t .index) (packetCount (t .message))
+      needs-entry-is : slotNeedsEntry t ≡ eqb (t .index) 0
+      needs-entry-is = Z .needsEntryAt (t .index) (packetCount (t .message))
 
       count : x .whole .pair .entries .count ≡ length (p .held ++ p .waiting)
       count = count-is (x .whole .entries) (x .whole .pair .entries) (p .held ++ p .waiting) (L .entries)
@@ -81,14 +82,14 @@ module _ (ms : List Message) (S : List Slot) (p : Plain) (x : Run) (L : Link ms 
       head : 1 ≤ x .whole .pair .entries .count → entryOf entry ≡ firstOf (p .held ++ p .waiting)
       head h = head-is (x .whole .entries) (x .whole .pair .entries) (p .held ++ p .waiting) (L .entries) h
 
-      go : (b : Bool) → eqb (t .index) 0 ≡ b → Under b t (x .whole .pair .message) (p .held) → Entered
+      go : (b : Bool) → eqb (t .index) 0 ≡ b → OpenedFor b t (x .whole .pair .message) (p .held) → Entered
       go true e u =
-          let w = first-waiting ms (p .waiting) (subst (λ b. (b && none (p .waiting)) ≡ false) (needing-is ∙ e) free) (L .long) in
+          let w = first-waiting ms (p .waiting) (subst (λ b. (b && none (p .waiting)) ≡ false) (needs-entry-is ∙ e) free) (L .long) in
           let c : 1 ≤ x .whole .pair .entries .count = omega (arith, count ∙ ap (λ h. length (h ++ p .waiting)) (u .1), w .2) in
           let i : entryOf entry ≡ firstOf (p .waiting) = head c ∙ ap (λ h. firstOf (h ++ p .waiting)) (u .1) in
           record {
             some = c;
-            is = ap (λ b. cond b (take 1 (p .waiting)) (p .held)) (needing-is ∙ e) ∙ (w .0 ∙ ap (λ y. y ∷ []) (sym i));
+            is = ap (λ b. cond b (take 1 (p .waiting)) (p .held)) (needs-entry-is ∙ e) ∙ (w .0 ∙ ap (λ y. y ∷ []) (sym i));
             large =
                 subst (λ y. length (t .message .bytes) ≤ y .length) (sym i)
                 (Z .least (length (t .message .bytes)) (firstOf (p .waiting) .length) (G .large (firstOf (p .waiting)) (w .1) (p .k) lt));
@@ -99,7 +100,7 @@ module _ (ms : List Message) (S : List Slot) (p : Plain) (x : Run) (L : Link ms 
           let i : entryOf entry ≡ w .0 = head c ∙ ap (λ h. firstOf (h ++ p .waiting)) (w .1) in
           record {
             some = c;
-            is = ap (λ b. cond b (take 1 (p .waiting)) (p .held)) (needing-is ∙ e) ∙ (w .1 ∙ ap (λ y. y ∷ []) (sym i));
+            is = ap (λ b. cond b (take 1 (p .waiting)) (p .held)) (needs-entry-is ∙ e) ∙ (w .1 ∙ ap (λ y. y ∷ []) (sym i));
             large = subst (λ y. length (t .message .bytes) ≤ y .length) (sym i) (w .2);
           }
 
@@ -115,16 +116,16 @@ module _ (ms : List Message) (S : List Slot) (p : Plain) (x : Run) (L : Link ms 
   first-is : firstOf (heldNow p t) ≡ entryOf entry
   first-is = ap firstOf (entered .is)
 
-  lands : memoryBy (storePayload (cutPacket t) M entry region) (x .memory) (packetAt t)
+  memory-is : memoryBy (storePayload (cutPacket t) M entry region) (x .memory) (packetAt t)
       ≡ overwrite (p .memory) (firstOf (heldNow p t) .offset + t .index * t .message .connection .pmtu) (pieceAt (t .message .bytes) (t .message .connection .pmtu) (t .index))
   unfolding outside
-  lands =
+  memory-is =
       let d = pieceAt (t .message .bytes) (t .message .connection .pmtu) (t .index) in
       let o : getD entry 1 0 + getD entry 2 0 ≤ x .whole .pair .setup .memory =
       ltb-false (x .whole .pair .setup .memory) (getD entry 1 0 + getD entry 2 0)
       (entry-fits (x .whole .pair .setup .memory) (x .whole .entries) (x .whole .pair .entries) (Y .entries) (entered .some)) in
       ap (λ m. memoryBy (storePayload (cutPacket t) M entry region) m (packetAt t)) (L .memory)
-      ∙ (send-lands (x .whole .pair .setup) (x .whole .regions) fits t H (x .whole .pair .message) (p .held) (L .opened) C entry Z (p .memory) (omega (arith, o, ml)) (entered .large)
+      ∙ (send-memory-is (x .whole .pair .setup) (x .whole .regions) fits t H (x .whole .pair .message) (p .held) (L .opened) C entry Z (p .memory) (omega (arith, o, ml)) (entered .large)
       ∙ ap (λ e. overwrite (p .memory) (e .offset + t .index * t .message .connection .pmtu) d) (sym first-is))
 
   last-is : ends (placeFor t) ≡ isLast t
@@ -139,11 +140,11 @@ module _ (ms : List Message) (S : List Slot) (p : Plain) (x : Run) (L : Link ms 
       ∙ λ i. cond (sym g i) [] (cond (sym e i) (take 1 (p .waiting)) (p .held)) ++ cond (sym e i) (drop 1 (p .waiting)) (p .waiting))
     where
       started : a ≡ true → p .held ≡ []
-      started z = subst (λ y. Under y t (x .whole .pair .message) (p .held)) (sym (Z .needsEntryAt (t .index) (packetCount (t .message))) ∙ (e ∙ z)) (L .opened) .1
+      started z = subst (λ y. OpenedFor y t (x .whole .pair .message) (p .held)) (sym (Z .needsEntryAt (t .index) (packetCount (t .message))) ∙ (e ∙ z)) (L .opened) .1
 
       going : a ≡ false → (y : Entry) × (p .held ≡ y ∷ [])
       going z =
-          let u = subst (λ y. Under y t (x .whole .pair .message) (p .held)) (sym (Z .needsEntryAt (t .index) (packetCount (t .message))) ∙ (e ∙ z)) (L .opened) in
+          let u = subst (λ y. OpenedFor y t (x .whole .pair .message) (p .held)) (sym (Z .needsEntryAt (t .index) (packetCount (t .message))) ∙ (e ∙ z)) (L .opened) in
           let w = Z .held (length (t .message .bytes)) (p .held) (u .1) in
           (w .0, w .1)
 
@@ -151,17 +152,17 @@ module _ (ms : List Message) (S : List Slot) (p : Plain) (x : Run) (L : Link ms 
   unfolding storePayload
   sends =
       record {
-        status = placing-answers (x .whole .pair .setup) (x .whole .regions) fits t H (x .whole .pair .message) (p .held) (L .opened) C entry region;
+        status = storing-answers (x .whole .pair .setup) (x .whole .regions) fits t H (x .whole .pair .message) (p .held) (L .opened) C entry region;
         psns = sym (C .psnCount (t .message .connection .pmtu));
         ends = last-is;
-        reads = placing-reads (x .whole .pair .setup) (x .whole .regions) fits t H (x .whole .pair .message) (p .held) (L .opened) C entry region (x .whole .pair .read) _ (p .r) (L .reads);
-        memory = lands ∙ sym (Z .lands (x .whole .regions) (t .message .connection .pmtu) (t .message .bytes) (t .index) (firstOf (heldNow p t)) (p .memory));
+        reads = storing-reads (x .whole .pair .setup) (x .whole .regions) fits t H (x .whole .pair .message) (p .held) (L .opened) C entry region (x .whole .pair .read) _ (p .r) (L .reads);
+        memory = memory-is ∙ sym (Z .memory-is (x .whole .regions) (t .message .connection .pmtu) (t .message .bytes) (t .index) (firstOf (heldNow p t)) (p .memory));
         completion = completionWith .0;
         entries =
             ap (λ b. map entryOf (inRing (x .whole .entries) (entriesBy b (x .whole .pair .entries)))) (completionWith .1)
             ∙ ring-is (slotNeedsEntry t) (isLast t && takesEntry (t .message .request)) refl refl (sym (and-true (isLast t)) ∙ ap (λ b. isLast t && b) (sym (Z .takesEntry)));
         opened =
-            under-next S (p .k) (messageAfter (placeFor t) M (payloadSize (cutPacket t))) (cond (isLast t) [] (heldNow p t)) (G .turn (p .k) lt) (H .outgoing .inside)
+            opened-next S (p .k) (messageAfter (placeFor t) M (payloadSize (cutPacket t))) (cond (isLast t) [] (heldNow p t)) (G .turn (p .k) lt) (H .outgoing .inside)
             (λ e. (grown-last (x .whole .pair .setup) (x .whole .regions) fits t H (x .whole .pair .message) (p .held) (L .opened) C entry region e, ap (λ b. cond b [] (heldNow p t)) e))
             (λ e. (
               grown-more (x .whole .pair .setup) (x .whole .regions) fits t H (x .whole .pair .message) (p .held) (L .opened) C entry region e,
@@ -174,7 +175,7 @@ module _ (ms : List Message) (S : List Slot) (p : Plain) (x : Run) (L : Link ms 
           ≡ cond (isLast t && takesEntry (t .message .request)) (completionFor (t .message .request) (firstOf (heldNow p t)) (length (t .message .bytes)) ∷ []) [])
           × (completionOf (cutPacket t) M (getD entry 0 0) .some ≡ (isLast t && takesEntry (t .message .request)))
       completionWith =
-          placing-told (x .whole .pair .setup) (x .whole .regions) fits t H (x .whole .pair .message) (p .held) (L .opened) C entry region
+          storing-completes (x .whole .pair .setup) (x .whole .regions) fits t H (x .whole .pair .message) (p .held) (L .opened) C entry region
           (firstOf (heldNow p t)) (send-completes (x .whole .pair .setup) (x .whole .regions) fits t H (x .whole .pair .message) (p .held) (L .opened) C entry Z)
           (λ e. ap (λ y. y .number) (sym first-is))
           (send-long (x .whole .pair .setup) (x .whole .regions) fits t H (x .whole .pair .message) (p .held) (L .opened) C entry Z)

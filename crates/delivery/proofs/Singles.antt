@@ -27,11 +27,11 @@ use Rattle.delivery.specs.Demand.{Run, entryOf}
 use Rattle.delivery.proofs.Chain.{Stands, Good}
 use Rattle.delivery.proofs.Cutting.{placeFor, cutPacket}
 use Rattle.delivery.proofs.Operands.{addressOf, keyOf}
-use Rattle.delivery.proofs.Rel.{IsOf, Under, Link}
-use Rattle.delivery.proofs.Verdicts.{spot-is}
+use Rattle.delivery.proofs.Rel.{IsOf, OpenedFor, Link}
+use Rattle.delivery.proofs.Verdicts.{offset-is}
 use Rattle.delivery.proofs.Checks.{now}
 use Rattle.delivery.proofs.Entries.{entries-by}
-use Rattle.delivery.proofs.Effects.{Does, under-next}
+use Rattle.delivery.proofs.Effects.{Does, opened-next}
 use Rattle.delivery.proofs.Requests.{Single, Reads, Swaps}
 
 module _ (ms : List Message) (S : List Slot) (p : Plain) (x : Run) (L : Link ms S p x) (Y : Steady (x .whole))
@@ -62,34 +62,34 @@ module _ (ms : List Message) (S : List Slot) (p : Plain) (x : Run) (L : Link ms 
   last-is = eq-eqb (suc (t .index)) (packetCount (t .message)) (omega (arith, zeroth, one-packet))
 
   idle : (x .whole .pair .message .kind ≡ 255) × (p .held ≡ [])
-  idle = subst (λ b. Under b t (x .whole .pair .message) (p .held)) (eq-eqb (t .index) 0 zeroth) (L .opened)
+  idle = subst (λ b. OpenedFor b t (x .whole .pair .message) (p .held)) (eq-eqb (t .index) 0 zeroth) (L .opened)
 
-  placed-none : M .stored ≡ 0
-  placed-none = N .stored ∙ omega (arith, ap (λ i. i * t .message .connection .pmtu) zeroth)
+  stored-none : M .stored ≡ 0
+  stored-none = N .stored ∙ omega (arith, ap (λ i. i * t .message .connection .pmtu) zeroth)
 
-  needing-is : slotNeedsEntry t ≡ false
-  needing-is = O .needsEntryAt (t .index) (packetCount (t .message))
+  needs-entry-is : slotNeedsEntry t ≡ false
+  needs-entry-is = O .needsEntryAt (t .index) (packetCount (t .message))
 
   ring-is : map entryOf (inRing (x .whole .entries) (entriesBy false (x .whole .pair .entries))) ≡ cond (isLast t) [] (heldNow p t) ++ waitingNow p t
   ring-is =
       entries-by (x .whole .entries) (x .whole .pair .entries) (p .held ++ p .waiting) (L .entries) false (λ z. absurd (true≢false (sym z)))
-      ∙ (ap (λ h. h ++ p .waiting) (idle .1) ∙ λ i. cond (sym last-is i) [] (heldNow p t) ++ cond (sym needing-is i) (drop 1 (p .waiting)) (p .waiting))
+      ∙ (ap (λ h. h ++ p .waiting) (idle .1) ∙ λ i. cond (sym last-is i) [] (heldNow p t) ++ cond (sym needs-entry-is i) (drop 1 (p .waiting)) (p .waiting))
 
-  under-is : Under (eqb (slot S (suc (p .k)) .index) 0) (slot S (suc (p .k))) (x .whole .pair .message) (cond (isLast t) [] (heldNow p t))
-  under-is =
-      under-next S (p .k) (x .whole .pair .message) (cond (isLast t) [] (heldNow p t)) (G .turn (p .k) lt) (H .outgoing .inside)
+  opened-is : OpenedFor (eqb (slot S (suc (p .k)) .index) 0) (slot S (suc (p .k))) (x .whole .pair .message) (cond (isLast t) [] (heldNow p t))
+  opened-is =
+      opened-next S (p .k) (x .whole .pair .message) (cond (isLast t) [] (heldNow p t)) (G .turn (p .k) lt) (H .outgoing .inside)
       (λ e. (idle .0, ap (λ b. cond b [] (heldNow p t)) e))
       (λ e. absurd (true≢false (sym last-is ∙ e)))
 
-  nothing-told : (b : Bool) → takesEntry (t .message .request) ≡ false → (b && takesEntry (t .message .request)) ≡ false
-  nothing-told true e = e
-  nothing-told false e = refl
+  nothing-completed : (b : Bool) → takesEntry (t .message .request) ≡ false → (b && takesEntry (t .message .request)) ≡ false
+  nothing-completed true e = e
+  nothing-completed false e = refl
 
   unreported : reports noCompletion
       ≡ cond (isLast t && takesEntry (t .message .request)) (completionFor (t .message .request) (firstOf (heldNow p t)) (length (t .message .bytes)) ∷ []) []
   unreported =
       ap (λ b. cond b (completionFor (t .message .request) (firstOf (heldNow p t)) (length (t .message .bytes)) ∷ []) [])
-      (sym (nothing-told (isLast t) (O .takesEntry)))
+      (sym (nothing-completed (isLast t) (O .takesEntry)))
 
   pub reads : Reads (t .message .request)
       → Does ms S p x (acceptRead (cutPacket t) M (x .whole .pair .message) region (x .whole .pair .setup .pmtu)) (packetAt t) (firstOf (heldNow p t))
@@ -104,10 +104,10 @@ module _ (ms : List Message) (S : List Slot) (p : Plain) (x : Run) (L : Link ms 
         psns = n;
         ends = sym last-is;
         reads = rw (ne-eqb (pieces (M .length) (x .whole .pair .setup .pmtu)) 0 (λ z. absurd (omega arith)), R .read) n;
-        memory = L .memory ∙ sym (R .lands (x .whole .regions) (t .message .connection .pmtu) (t .message .bytes) (t .index) (firstOf (heldNow p t)) (p .memory));
+        memory = L .memory ∙ sym (R .memory-is (x .whole .regions) (t .message .connection .pmtu) (t .message .bytes) (t .index) (firstOf (heldNow p t)) (p .memory));
         completion = unreported;
         entries = ring-is;
-        opened = under-is;
+        opened = opened-is;
       }
 
   -- an atomic's word is where the address lies
@@ -120,11 +120,11 @@ module _ (ms : List Message) (S : List Slot) (p : Plain) (x : Run) (L : Link ms 
       ap (λ j. cond (eqb j 0) noRegion (regionOf (M .key) (x .whole .regions))) (W .kind)
       ∙ (ap (λ b. cond b noRegion (regionOf (M .key) (x .whole .regions))) z ∙ ap (λ j. regionOf j (x .whole .regions)) (N .key)) in
       let w =
-      spot-is (x .whole .pair .setup .memory) k (keyOf (t .message .request)) (addressOf (t .message .request)) 8 0
-      (x .whole .regions) (λ y. y .atomic) M (Y .regions) (W .rights) (N .address) placed-none eight (omega arith)
+      offset-is (x .whole .pair .setup .memory) k (keyOf (t .message .request)) (addressOf (t .message .request)) 8 0
+      (x .whole .regions) (λ y. y .atomic) M (Y .regions) (W .rights) (N .address) stored-none eight (omega arith)
       (W .right (x .whole .pair .setup) (x .whole .regions) (length (t .message .bytes)) (H .allowed)) (omega arith) in
-      let a : M .address ≡ M .address + M .stored = omega (arith, placed-none) in
-      let l : M .length ≡ M .length - M .stored = omega (arith, placed-none) in
+      let a : M .address ≡ M .address + M .stored = omega (arith, stored-none) in
+      let l : M .length ≡ M .length - M .stored = omega (arith, stored-none) in
       let none :
       regionOffset (x .whole .regions) (keyOf (t .message .request)) (addressOf (t .message .request)) + 0
       ≡ regionOffset (x .whole .regions) (keyOf (t .message .request)) (addressOf (t .message .request)) =
@@ -146,8 +146,8 @@ module _ (ms : List Message) (S : List Slot) (p : Plain) (x : Run) (L : Link ms 
         memory =
             W .acts D (x .memory) (packetAt t) a
             ∙ ((λ i. does (L .memory i) (at-is k act does W z i) (cutPacket t .operands .compare) (cutPacket t .operands .swap))
-            ∙ sym (W .lands n (placeFor t) (x .whole .regions) (t .message .connection .pmtu) (t .message .bytes) (t .index) (firstOf (heldNow p t)) (p .memory)));
+            ∙ sym (W .memory-is n (placeFor t) (x .whole .regions) (t .message .connection .pmtu) (t .message .bytes) (t .index) (firstOf (heldNow p t)) (p .memory)));
         completion = unreported;
         entries = ring-is;
-        opened = under-is;
+        opened = opened-is;
       }

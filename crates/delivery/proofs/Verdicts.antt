@@ -79,10 +79,10 @@ region-in memory key rows r sound e some = go (ltb (keyRow key rows) 16) refl e
 module _ (memory kind key address n off : ℕ) (rows : List (List ℕ)) (right : Region → Bool) (m : OpenMessage)
     (sound : RegionsSound memory rows) (is : (r : Region) → rightOf kind (regionRow r) ≡ cond (right r) 1 0)
     (at : m .address ≡ address) (stored : m .stored ≡ off) (long : m .length ≡ n) (l : off ≤ n) where
-  held-span : (r : Region) → regionOf key rows ≡ regionRow r → right r ≡ true → r .address ≤ address → address + n ≤ r .address + r .length
+  held-range : (r : Region) → regionOf key rows ≡ regionRow r → right r ≡ true → r .address ≤ address → address + n ≤ r .address + r .length
       → (off < n) → lacks (regionRow r) (rightOf kind (regionRow r)) memory (m .address + m .stored) (bytesToCome (m .length) (m .stored)) ≡ false
   unfolding lacks outside pastTop bytesToCome regionRow
-  held-span r e g low high o =
+  held-range r e g low high o =
       let inside = region-in memory key rows r sound e (omega arith) in
       rw (
         is r ∙ ap (λ b. cond b 1 0) g,
@@ -104,15 +104,15 @@ module _ (memory kind key address n off : ℕ) (rows : List (List ℕ)) (right :
       go false false e (inr g) =
           let o : off < n = omega (arith, eqb-false (m .length - m .stored) 0 e) in
           subst (λ row. lacks row (rightOf kind row) memory (m .address + m .stored) (m .length - m .stored) ≡ false) (sym (g .1))
-          (held-span (g .0) (g .1) (g .2) (g .3) (g .4) o)
+          (held-range (g .0) (g .1) (g .2) (g .3) (g .4) o)
 
   -- and says where they go
-  pub spot-is : LiesInRegion rows right key address n → off < n
+  pub offset-is : LiesInRegion rows right key address n → off < n
       → (memoryOffset (regionOf key rows) (m .address + m .stored) (bytesToCome (m .length) (m .stored)) ≡ regionOffset rows key address + off)
       × (regionOffset rows key address + n ≤ memory)
   unfolding memoryOffset bytesToCome regionOffset regionRow
-  spot-is (inl none) o = absurd (omega arith)
-  spot-is (inr g) o =
+  offset-is (inl none) o = absurd (omega arith)
+  offset-is (inr g) o =
       let inside : g .0 .offset + g .0 .length ≤ memory = region-in memory key rows (g .0) sound (g .1) (omega (arith, g .4, g .3)) .0 in
       let three : getD (regionOf key rows) 3 0 ≡ g .0 .offset = ap (λ row. getD row 3 0) (g .1) in
       let one : getD (regionOf key rows) 1 0 ≡ g .0 .address = ap (λ row. getD row 1 0) (g .1) in

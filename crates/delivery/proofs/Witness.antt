@@ -9,7 +9,7 @@ use lib.ListN.{length, take}
 use borrow.Author.Tests.{eq-eqb, le-ltb}
 use Rattle.lemmas.proofs.Auto.{tests}
 use Rattle.pmtu.proofs.Counting.{bounds}
-use Rattle.memory.proofs.Put.{length-placed}
+use Rattle.memory.proofs.Overwrite.{length-store}
 use Rattle.memory.proofs.Words.{fetch-within, swap-within}
 use Rattle.table.specs.declared.Entry.{Entry}
 use Rattle.pair.specs.Claims.{SetupFit}
@@ -37,7 +37,7 @@ long-either false x y n e f = f
 memory-long : (d : Decision) (m b : List ℕ) → length (memoryBy d m b) ≡ length m
 unfolding memoryBy
 memory-long d m b =
-    long-either (eqb (d .act) 1) _ _ (length m) (length-placed m (d .at) _)
+    long-either (eqb (d .act) 1) _ _ (length m) (length-store m (d .at) _)
     (long-either (eqb (d .act) 2) _ _ (length m) (fetch-within m (d .at) (d .swap) .kept)
     (long-either (eqb (d .act) 3) _ _ (length m) (swap-within m (d .at) (d .compare) (d .swap) .kept) refl))
 

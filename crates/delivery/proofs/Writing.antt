@@ -7,7 +7,8 @@ use native.Mathlib.Omega.{arith}
 use lib.Dec.{eqb}
 use lib.ListN.{length, getD, take, drop}
 use Rattle.memory.specs.Memory.{overwrite}
-use Rattle.pmtu.specs.Pieces.{ends, pieceAt}
+use Rattle.opcode.specs.Place.{ends}
+use Rattle.pmtu.specs.Pieces.{pieceAt}
 use Rattle.table.specs.View.{inRing}
 use Rattle.table.specs.declared.Entry.{Entry}
 use Rattle.pair.specs.Claims.{SetupFit}
@@ -24,13 +25,13 @@ use Rattle.delivery.specs.Demand.{Run, entryOf}
 use Rattle.delivery.proofs.Chain.{Stands, Good}
 use Rattle.delivery.proofs.Cutting.{placeFor, cutPacket}
 use Rattle.delivery.proofs.Operands.{addressOf, keyOf}
-use Rattle.delivery.proofs.Rel.{Under, Link}
+use Rattle.delivery.proofs.Rel.{OpenedFor, Link}
 use Rattle.delivery.proofs.Checks.{ends-is}
 use Rattle.delivery.proofs.Entries.{entries-by, count-is, head-is}
-use Rattle.delivery.proofs.Effects.{Does, under-next}
+use Rattle.delivery.proofs.Effects.{Does, opened-next}
 use Rattle.delivery.proofs.Requests.{Carries, Writes}
-use Rattle.delivery.proofs.Landing.{write-lands, write-completes, write-long}
-use Rattle.delivery.proofs.Placing.{placing-told, placing-answers, placing-reads, grown-last, grown-more}
+use Rattle.delivery.proofs.InMemory.{write-memory-is, write-completes, write-long}
+use Rattle.delivery.proofs.Storing.{storing-completes, storing-answers, storing-reads, grown-last, grown-more}
 
 -- a message that took the entry at the head
 head-taken : (es : List Entry) → none es ≡ false → (firstOf (take 1 es) ≡ firstOf es) × (1 ≤ length es)
@@ -70,15 +71,15 @@ module _ (ms : List Message) (S : List Slot) (p : Plain) (x : Run) (L : Link ms 
   none-held : p .held ≡ []
   none-held = go (eqb (t .index) 0) (L .opened)
     where
-      go : (b : Bool) → Under b t (x .whole .pair .message) (p .held) → p .held ≡ []
+      go : (b : Bool) → OpenedFor b t (x .whole .pair .message) (p .held) → p .held ≡ []
       go true u = u .1
       go false u = Z .held (length (t .message .bytes)) (p .held) (u .1)
 
   last-is : ends (placeFor t) ≡ isLast t
   last-is = ends-is (x .whole .pair .setup) (x .whole .regions) fits t H (x .whole .pair .message) (p .held) (L .opened)
 
-  needing-is : slotNeedsEntry t ≡ (isLast t && takesEntry (t .message .request))
-  needing-is = Z .needsEntryAt (t .index) (packetCount (t .message)) ∙ ap (λ b. isLast t && b) (sym (Z .takesEntry))
+  needs-entry-is : slotNeedsEntry t ≡ (isLast t && takesEntry (t .message .request))
+  needs-entry-is = Z .needsEntryAt (t .index) (packetCount (t .message)) ∙ ap (λ b. isLast t && b) (sym (Z .takesEntry))
 
   -- where an entry is taken, there is one
   pub taken : slotNeedsEntry t ≡ true → (1 ≤ x .whole .pair .entries .count) × (entryOf entry ≡ firstOf (heldNow p t))
@@ -97,37 +98,37 @@ module _ (ms : List Message) (S : List Slot) (p : Plain) (x : Run) (L : Link ms 
   abbrev target : ℕ
   target = regionOffset (x .whole .regions) (keyOf (t .message .request)) (addressOf (t .message .request)) + t .index * t .message .connection .pmtu
 
-  lands : memoryBy (storePayload (cutPacket t) M entry region) (x .memory) (packetAt t) ≡ overwrite (p .memory) target piece
-  lands =
+  memory-is : memoryBy (storePayload (cutPacket t) M entry region) (x .memory) (packetAt t) ≡ overwrite (p .memory) target piece
+  memory-is =
       ap (λ m. memoryBy (storePayload (cutPacket t) M entry region) m (packetAt t)) (L .memory)
-      ∙ write-lands (x .whole .pair .setup) (x .whole .regions) fits t H (x .whole .pair .message) (p .held) (L .opened) C entry Z (Y .regions) (p .memory) ml
+      ∙ write-memory-is (x .whole .pair .setup) (x .whole .regions) fits t H (x .whole .pair .message) (p .held) (L .opened) C entry Z (Y .regions) (p .memory) ml
 
   ring-is : map entryOf (inRing (x .whole .entries) (entriesBy (isLast t && takesEntry (t .message .request)) (x .whole .pair .entries)))
       ≡ cond (isLast t) [] (heldNow p t) ++ waitingNow p t
   ring-is =
-      entries-by (x .whole .entries) (x .whole .pair .entries) (p .held ++ p .waiting) (L .entries) (isLast t && takesEntry (t .message .request)) (λ z. taken (needing-is ∙ z) .0)
+      entries-by (x .whole .entries) (x .whole .pair .entries) (p .held ++ p .waiting) (L .entries) (isLast t && takesEntry (t .message .request)) (λ z. taken (needs-entry-is ∙ z) .0)
       ∙ (ap (λ h. cond (isLast t && takesEntry (t .message .request)) (drop 1 (h ++ p .waiting)) (h ++ p .waiting)) none-held
       ∙ (giving (isLast t) (takesEntry (t .message .request)) (p .waiting)
-      ∙ λ i. cond (isLast t) [] (cond (sym needing-is i) (take 1 (p .waiting)) (sym none-held i)) ++ cond (sym needing-is i) (drop 1 (p .waiting)) (p .waiting)))
+      ∙ λ i. cond (isLast t) [] (cond (sym needs-entry-is i) (take 1 (p .waiting)) (sym none-held i)) ++ cond (sym needs-entry-is i) (drop 1 (p .waiting)) (p .waiting)))
 
   more-held : isLast t ≡ false → cond (isLast t) [] (heldNow p t) ≡ []
   more-held e =
       ap (λ b. cond b [] (heldNow p t)) e
-      ∙ (ap (λ b. cond b (take 1 (p .waiting)) (p .held)) (needing-is ∙ ap (λ b. b && takesEntry (t .message .request)) e) ∙ none-held)
+      ∙ (ap (λ b. cond b (take 1 (p .waiting)) (p .held)) (needs-entry-is ∙ ap (λ b. b && takesEntry (t .message .request)) e) ∙ none-held)
 
   pub writes : Does ms S p x (storePayload (cutPacket t) M entry region) (packetAt t) (firstOf (heldNow p t))
   unfolding storePayload
   writes =
       record {
-        status = placing-answers (x .whole .pair .setup) (x .whole .regions) fits t H (x .whole .pair .message) (p .held) (L .opened) C entry region;
+        status = storing-answers (x .whole .pair .setup) (x .whole .regions) fits t H (x .whole .pair .message) (p .held) (L .opened) C entry region;
         psns = sym (C .psnCount (t .message .connection .pmtu));
         ends = last-is;
-        reads = placing-reads (x .whole .pair .setup) (x .whole .regions) fits t H (x .whole .pair .message) (p .held) (L .opened) C entry region (x .whole .pair .read) _ (p .r) (L .reads);
-        memory = lands ∙ sym (Z .lands (x .whole .regions) (t .message .connection .pmtu) (t .message .bytes) (t .index) (firstOf (heldNow p t)) (p .memory));
+        reads = storing-reads (x .whole .pair .setup) (x .whole .regions) fits t H (x .whole .pair .message) (p .held) (L .opened) C entry region (x .whole .pair .read) _ (p .r) (L .reads);
+        memory = memory-is ∙ sym (Z .memory-is (x .whole .regions) (t .message .connection .pmtu) (t .message .bytes) (t .index) (firstOf (heldNow p t)) (p .memory));
         completion = completionWith .0;
         entries = ap (λ b. map entryOf (inRing (x .whole .entries) (entriesBy b (x .whole .pair .entries)))) (completionWith .1) ∙ ring-is;
         opened =
-            under-next S (p .k) (messageAfter (placeFor t) M (payloadSize (cutPacket t))) (cond (isLast t) [] (heldNow p t)) (G .turn (p .k) lt) (H .outgoing .inside)
+            opened-next S (p .k) (messageAfter (placeFor t) M (payloadSize (cutPacket t))) (cond (isLast t) [] (heldNow p t)) (G .turn (p .k) lt) (H .outgoing .inside)
             (λ e. (grown-last (x .whole .pair .setup) (x .whole .regions) fits t H (x .whole .pair .message) (p .held) (L .opened) C entry region e, ap (λ b. cond b [] (heldNow p t)) e))
             (λ e. (
               grown-more (x .whole .pair .setup) (x .whole .regions) fits t H (x .whole .pair .message) (p .held) (L .opened) C entry region e,
@@ -140,7 +141,7 @@ module _ (ms : List Message) (S : List Slot) (p : Plain) (x : Run) (L : Link ms 
           ≡ cond (isLast t && takesEntry (t .message .request)) (completionFor (t .message .request) (firstOf (heldNow p t)) (length (t .message .bytes)) ∷ []) [])
           × (completionOf (cutPacket t) M (getD entry 0 0) .some ≡ (isLast t && takesEntry (t .message .request)))
       completionWith =
-          placing-told (x .whole .pair .setup) (x .whole .regions) fits t H (x .whole .pair .message) (p .held) (L .opened) C entry region
+          storing-completes (x .whole .pair .setup) (x .whole .regions) fits t H (x .whole .pair .message) (p .held) (L .opened) C entry region
           (firstOf (heldNow p t)) (write-completes (x .whole .pair .setup) (x .whole .regions) fits t H (x .whole .pair .message) (p .held) (L .opened) C entry Z)
-          (λ e. ap (λ y. y .number) (taken (needing-is ∙ e) .1))
+          (λ e. ap (λ y. y .number) (taken (needs-entry-is ∙ e) .1))
           (λ e. write-long (x .whole .pair .setup) (x .whole .regions) fits t H (x .whole .pair .message) (p .held) (L .opened) C entry Z)

@@ -7,7 +7,7 @@ use native.Mathlib.Omega.{arith}
 use lib.Dec.{eqb}
 use Rattle.lemmas.proofs.Tests.{or-left, or-right}
 use Rattle.sequence.specs.declared.Psn.{Psn}
-use Rattle.pmtu.specs.Pieces.{starts}
+use Rattle.opcode.specs.Place.{starts}
 use Rattle.table.specs.Table.{memoryOffset}
 use Rattle.pair.specs.declared.OpenMessage.{OpenMessage}
 use Rattle.pair.specs.declared.Setup.{Setup}
@@ -22,7 +22,7 @@ unfolding duplicateReadFails
 answered-key p s m expected region t e f =
     let a = or-right (notEnabled s 12) _ (sym e ∙ f) in
     let b = or-right (overLimit (m .length)) _ a in
-    let c = or-right (not (eqb (p .padded) 0)) _ b in
+    let c = or-right (not (eqb (p .body) 0)) _ b in
     let d = or-right (not (eqb (p .pad) 0)) _ c in
     or-left (keyFails (s .memory) 12 m region) _ d
 
@@ -34,13 +34,3 @@ pub answered-offset : (p : Packet) (s : Setup) (m : OpenMessage) (expected : Psn
     → memoryOffset region (m .address) (m .length) % 2 ^ 64 ≡ memoryOffset region (m .address) (m .length)
 answered-offset p s m expected region t e f memory z =
     omega (arith, own-inside 12 (s .memory) m region refl (answered-key p s m expected region t e f) z)
-
--- a READ that is no fragment begins its message
-pub begun : (opened : OpenMessage) (p : Packet) → fragment p ≡ false → p .kind ≡ 12 → current opened p .stored ≡ 0
-unfolding fragment single current
-begun opened p h k = go (starts (p .place)) (ap (λ x. (eqb x 12 || (eqb x 19 || eqb x 20)) && not (starts (p .place))) (sym k) ∙ h)
-  where
-    go : (b : Bool) → not b ≡ false
-        → cond b (record { kind = p .kind; stored = 0; address = p .operands .address; key = p .operands .key; length = p .operands .length }) opened .stored ≡ 0
-    go true x = refl
-    go false x = absurd (true≢false x)

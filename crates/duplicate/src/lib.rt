@@ -39,7 +39,7 @@ fn duplicate_read_fails(
     if long {
         return true;
     }
-    if p.padded != 0 {
+    if p.body != 0 {
         return true;
     }
     if p.pad != 0 {

@@ -9,7 +9,7 @@ use Rattle.lemmas.proofs.Tests.{not-true, not-false}
 use Rattle.opcode.specs.Opcode.{classOf}
 use Rattle.opcode.specs.declared.OpcodeClass.{OpcodeClass}
 use Rattle.memory.specs.Memory.{store}
-use Rattle.memory.proofs.Put.{length-placed, placed-placed}
+use Rattle.memory.proofs.Overwrite.{length-store, store-twice}
 use Rattle.header.specs.Write.{bthFits, extensionFits, headerFits, headerLength, bthBytes, extensionBytes, written, writtenOut}
 use Rattle.header.specs.declared.Header.{Header}
 use Rattle.header.specs.declared.Extension.{Extension}
@@ -54,7 +54,7 @@ module _ (h : Header) (out : List ℕ) (u : Bool) (e : u ≡ not (headerFits h))
   pub room : (b m : List ℕ) → k .length ≤ length out → m ≡ store out 0 b
       → 12 + length (extensionBytes (h .extension)) ≤ length m
   room b m l q =
-      let s : length m ≡ length out = ap length q ∙ length-placed out 0 b in
+      let s : length m ≡ length out = ap length q ∙ length-store out 0 b in
       let n : headerLength h ≤ length out = subst (λ z. z ≤ length out) size l in
       omega (arith, length-is h good)
 
@@ -75,5 +75,5 @@ pub in-two : (out b c m w : List ℕ) (e : Extension) (n : ℕ) → extensionByt
     → w ≡ store out 12 (extensionBytes e)
 in-two out b c m w e n x l r p q =
     let k : length (extensionBytes e) ≡ length b + length c = ap length x ∙ length-append b c in
-    let j : store (store out 12 b) (12 + length b) c ≡ store out 12 (b ++ c) = placed-placed out 12 b c (omega arith) in
+    let j : store (store out 12 b) (12 + length b) c ≡ store out 12 (b ++ c) = store-twice out 12 b c (omega arith) in
     q ∙ (ap (λ z. store z n c) p ∙ (subst (λ z. store (store out 12 b) z c ≡ store out 12 (b ++ c)) l j ∙ ap (store out 12) (sym x)))

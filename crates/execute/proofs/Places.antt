@@ -8,12 +8,13 @@ use lib.Dec.{eqb, ltb, leb}
 use lib.ListN.{getD}
 use borrow.Author.Tests.{eqb-false, eqb-true, eq-eqb, ne-eqb, ltb-false, leb-false}
 use Rattle.lemmas.proofs.Tests.{or-left, or-right}
-use Rattle.pmtu.specs.Pieces.{starts}
+use Rattle.opcode.specs.Place.{starts}
 use Rattle.table.specs.Table.{outside, pastTop, addresses, memoryOffset}
 use Rattle.pair.specs.declared.OpenMessage.{OpenMessage}
 use Rattle.pair.specs.declared.Setup.{Setup}
 use Rattle.request_spec.specs.Verdict.{carrying, single, fragment, notEnabled, bytesToCome, keyFails, keyLacking, lacks, payloadSize, current}
 use Rattle.request_spec.specs.declared.Packet.{Packet}
+use Rattle.request_checks.proofs.Keys.{begun}
 use Rattle.responder_spec.specs.Decide.{targetOffset}
 use Rattle.responder_spec.proofs.Codes.{Passed}
 use Rattle.responder_spec.proofs.Inside.{key-inside, own-inside, total, write-total, place-inside}
@@ -63,16 +64,6 @@ unfolding keyFails keyLacking
 key-below memory kind m region k some h =
     let z : eqb (bytesToCome (m .length) (m .stored)) 0 ≡ false = ne-eqb (bytesToCome (m .length) (m .stored)) 0 (λ x. omega arith) in
     omega (arith, held-below region _ memory (m .address + m .stored) (bytesToCome (m .length) (m .stored)) (rw (ne-eqb kind 0 k, z) at h))
-
--- what is no fragment of a single packet's message begins it
-begun : (opened : OpenMessage) (p : Packet) → fragment p ≡ false → single (p .kind) ≡ true → current opened p .stored ≡ 0
-unfolding fragment current
-begun opened p h c = go (starts (p .place)) (rw c at h)
-  where
-    go : (b : Bool) → not b ≡ false
-        → cond b (record { kind = p .kind; stored = 0; address = p .operands .address; key = p .operands .key; length = p .operands .length }) opened .stored ≡ 0
-    go true x = refl
-    go false x = absurd (true≢false x)
 
 -- of the kinds that carry no bytes the single ones are enabled
 served : (s : Setup) (kind : ℕ) → notEnabled s kind ≡ false → carrying kind ≡ false → single kind ≡ true

@@ -7,6 +7,7 @@ use lib.Dec.{ltb}
 use Rattle.opcode.specs.Kind as Kind
 use Rattle.table.specs.Table.{memoryOffset}
 use Rattle.table.specs.EntryRow as EntryRow
+use Rattle.pair.specs.Sound.{timerLimit}
 use Rattle.pair.specs.declared.OpenMessage.{OpenMessage}
 use Rattle.request_spec.specs.Verdict.{carrying, fragment, bytesToCome, payloadSize}
 use Rattle.request_spec.specs.declared.Packet.{Packet}
@@ -31,6 +32,6 @@ pub record Executable (p : Packet) (m : OpenMessage) (entry region : List ℕ) :
   pub stores : Storable p m entry region
   pub own : carrying (p .kind) ≡ false → OffsetFits region (m .address) (m .length)
 
--- a fragment, or a timer code over 31
+-- a fragment, or a timer code over the greatest
 unfoldable pub unformed : Packet → ℕ → Bool
-unformed p timer = fragment p || ltb 31 timer
+unformed p timer = fragment p || ltb timerLimit timer

@@ -15,6 +15,7 @@ ghost use mathlib.Core.Bool.{false, cond};
 ghost use Prim.Native.Nat.{_+_, _≤_};
 ghost use Rattle.sequence.specs.Sequence.{distance};
 ghost use Rattle.pair.specs.Answer.{statusNumber};
+ghost use Rattle.pair.specs.Sound.{timerLimit};
 ghost use Rattle.request_spec.specs.Verdict.{current};
 ghost use Rattle.responder_spec.specs.Decide.{noReply, failed, execute, orphaned, strays, closedBy, abandoning, ucExecute, regionFor, headEntry};
 ghost use Rattle.execute.specs.Fits.{Executable, unformed};
@@ -22,7 +23,7 @@ ghost use Rattle.execute.specs.Either.{either};
 
 // Refused by a check: a NAK, or the caller's mistake.
 fn failed(status: Status, psn: Psn, timer: u8) -> Decision
-    requires { ⌜ timer ≤ 31 ⌝ }
+    requires { ⌜ timer ≤ timerLimit ⌝ }
     ensures { λ r. ⌜ r ≡ failed (statusNumber status) psn timer ⌝ }
 {
     let invalid = status.is(Status::InvalidRequestNak);
@@ -42,7 +43,7 @@ fn failed(status: Status, psn: Psn, timer: u8) -> Decision
 
 // Refused by a check: a NAK on RC, the message abandoned on UC.
 fn refused(uc: bool, status: Status, opened: u8, psn: Psn, timer: u8) -> Decision
-    requires { ⌜ timer ≤ 31 ⌝ }
+    requires { ⌜ timer ≤ timerLimit ⌝ }
     ensures { λ r. ⌜ r ≡ cond uc (abandoning (statusNumber status) opened) (failed (statusNumber status) psn timer) ⌝ }
 {
     if uc {
@@ -119,7 +120,7 @@ pub fn unformed(p: Packet, timer: u8) -> bool
     if part {
         return true;
     }
-    31 < timer
+    pair::TIMER_LIMIT < timer
 }
 
 // What a Middle or Last of UC is answered that has lost its message; Executed for every other packet.

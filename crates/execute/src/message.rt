@@ -16,7 +16,7 @@ ghost use Rattle.execute.specs.Fits.{TargetFits};
 fn completes(kind: u8, place: u8, immediate: bool) -> bool
     ensures { λ r. ⌜ r ≡ completes kind place immediate ⌝ }
 {
-    let last = pmtu::ends(place);
+    let last = opcode::ends(place);
     if last {
         return request_checks::uses_entry(kind, immediate);
     }
@@ -40,7 +40,7 @@ fn completion_of(p: Packet, m: OpenMessage, number: u64) -> Completion
 {
     let done = completes(p.kind, p.place, p.operands.immediate);
     if done {
-        let size = number::saturating_sub(p.padded, p.pad);
+        let size = number::saturating_sub(p.body, p.pad);
         let length = counted(p.kind, m.stored, size, m.length);
         return Completion {
             some: true,
@@ -58,7 +58,7 @@ fn message_after(place: u8, m: OpenMessage, size: usize) -> OpenMessage
     requires { ⌜ m .stored + size < 2 ^ 64 ⌝ }
     ensures { λ r. ⌜ r ≡ messageAfter place m size ⌝ }
 {
-    let last = pmtu::ends(place);
+    let last = opcode::ends(place);
     if last {
         return pair::no_message();
     }
@@ -114,11 +114,11 @@ pub(crate) fn store_payload(
     requires { ⌜ TargetFits (p .kind) m entry region ⌝ }
     ensures { λ r. ⌜ r ≡ answered asked psns (storePayload p m entry region) ⌝ }
 {
-    let size = number::saturating_sub(p.padded, p.pad);
+    let size = number::saturating_sub(p.body, p.pad);
     let at = target_offset(p.kind, m, entry, region);
     let message = message_after(p.place, m, size);
     let completion = completion_of(p, m, entry[table::ENTRY_NUMBER]);
-    let ends = pmtu::ends(p.place);
+    let ends = opcode::ends(p.place);
     let status = status_of(asked);
     let outgoing = ack_length(asked);
     let psn = p.psn;

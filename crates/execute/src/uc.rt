@@ -13,7 +13,7 @@ ghost use Rattle.responder_spec.specs.Decide.{orphaned, strays, closedBy, aband
 fn orphaned(place: u8, opened: u8) -> bool
     ensures { λ r. ⌜ r ≡ orphaned place opened ⌝ }
 {
-    let begins = pmtu::starts(place);
+    let begins = opcode::starts(place);
     if begins {
         return false;
     }
@@ -24,7 +24,7 @@ fn orphaned(place: u8, opened: u8) -> bool
 fn strays(p: Packet, expected: Psn, opened: u8) -> bool
     ensures { λ r. ⌜ r ≡ strays p expected opened ⌝ }
 {
-    let begins = pmtu::starts(p.place);
+    let begins = opcode::starts(p.place);
     if begins {
         return false;
     }
@@ -55,7 +55,7 @@ pub(crate) fn lost(p: Packet, expected: Psn, opened: u8) -> Status
 pub(crate) fn closed_by(place: u8, opened: OpenMessage) -> OpenMessage
     ensures { λ r. ⌜ r ≡ closedBy place opened ⌝ }
 {
-    let begins = pmtu::starts(place);
+    let begins = opcode::starts(place);
     if begins {
         return pair::no_message();
     }

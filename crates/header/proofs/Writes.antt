@@ -9,7 +9,7 @@ use lib.ListN.{length, drop}
 use borrow.Author.Tests.{lt-ltb, le-ltb, ltb-true, ltb-false, ne-eqb, eqb-true}
 use Rattle.opcode.specs.Opcode.{classOf}
 use Rattle.memory.specs.Memory.{store}
-use Rattle.memory.proofs.Put.{placed-put, placed-placed, put-start}
+use Rattle.memory.proofs.Overwrite.{store-overwrite, store-twice, overwrite-start}
 use Rattle.header.specs.Write.{bthBytes, extensionBytes, headerBytes, bthFits, extensionFits, headerFits, headerLength, writeAnswer, answerBy, written, answerNumber, writtenOut}
 use Rattle.header.specs.Claims.{WriteNumbers}
 use Rattle.header.proofs.Lengths.{length-bth, length-is, length-header}
@@ -78,10 +78,10 @@ two-parts h out e l =
     let lx : headerLength h ≡ 12 + length x = length-is h e in
     let both : 0 + length b + length x ≤ length out = omega arith in
     let joined : store (store out 0 b) 12 x ≡ store out 0 (b ++ x) =
-    subst (λ n. store (store out 0 b) n x ≡ store out 0 (b ++ x)) lb (placed-placed out 0 b x both) in
+    subst (λ n. store (store out 0 b) n x ≡ store out 0 (b ++ x)) lb (store-twice out 0 b x both) in
     let size : length (b ++ x) ≡ headerLength h = length-header h e in
     let room : 0 + length (b ++ x) ≤ length out = omega arith in
-    joined ∙ (placed-put out 0 (b ++ x) room ∙ (put-start out (b ++ x) ∙ ap (λ n. (b ++ x) ++ drop n out) size))
+    joined ∙ (store-overwrite out 0 (b ++ x) room ∙ (overwrite-start out (b ++ x) ∙ ap (λ n. (b ++ x) ++ drop n out) size))
 
 -- what an answer of bytes written tells
 pub record Written (h : Header) (out : List ℕ) (n : ℕ) : Type 0 where

@@ -41,7 +41,7 @@ pub fn setup_unfit(setup: Setup) -> bool
     if setup.pkey % header::PKEY_TOP == 0 {
         return true;
     }
-    31 < setup.timer
+    pair::TIMER_LIMIT < setup.timer
 }
 
 // Whether no set-up accepts these numbers.

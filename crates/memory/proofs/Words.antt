@@ -10,11 +10,11 @@ use lib.ListN.{length, take, drop, getD, length-take, length-drop, take-append-d
 use lib.Seq.{drop-drop, take-add, getD-drop, getD-take}
 use borrow.Author.Tests.{le-leb, lt-leb, leb-true, leb-false, eq-eqb, ne-eqb}
 use Rattle.memory.specs.Memory.{overwrite, store}
-use Rattle.memory.specs.Word.{lowBytes, lowNumber, wordAt, wordPut, fetchAdded, swapped}
+use Rattle.memory.specs.Word.{lowBytes, lowNumber, wordAt, overwriteWord, fetchAdded, swapped}
 use Rattle.memory.specs.Claims.{Bytes, LowLength, BytesNumber, NumberBytes, WordBelow, LowFirst, WordBack}
-use Rattle.memory.specs.Claims.{WordKept, WordOver, OnlyWord, PutWithin, FetchWithin, SwapWithin, Fetched}
+use Rattle.memory.specs.Claims.{WordKept, WordOver, OnlyWord, WordWithin, FetchWithin, SwapWithin, Fetched}
 use Rattle.memory.specs.Claims.{FetchWraps, SwapEqual, SwapUnequal}
-use Rattle.memory.proofs.Put.{placed-put, placed-over, length-placed, placed-found, placed-before, placed-after}
+use Rattle.memory.proofs.Overwrite.{store-overwrite, store-past, length-store, store-found, store-before, store-after}
 
 -- a part that lies in memory has its whole length
 part-length : (m : List ℕ) (at n : ℕ) → at + n ≤ length m → length (take n (drop at m)) ≡ n
@@ -85,31 +85,31 @@ unfolding wordAt
 word-out m at h = rw (lt-leb (at + 8) (length m) h)
 
 -- where they do not, nothing is stored
-pub put-over : (m : List ℕ) (at x : ℕ) → length m < at + 8 → wordPut m at x ≡ m
-unfolding wordPut lowBytes
-put-over m at x h = placed-over m at (lowBytes 8 x) h
+pub word-past : (m : List ℕ) (at x : ℕ) → length m < at + 8 → overwriteWord m at x ≡ m
+unfolding overwriteWord lowBytes
+word-past m at x h = store-past m at (lowBytes 8 x) h
 
-pub length-word : (m : List ℕ) (at x : ℕ) → length (wordPut m at x) ≡ length m
-unfolding wordPut
-length-word m at x = length-placed m at (lowBytes 8 x)
+pub length-word : (m : List ℕ) (at x : ℕ) → length (overwriteWord m at x) ≡ length m
+unfolding overwriteWord
+length-word m at x = length-store m at (lowBytes 8 x)
 
 -- what was stored is read
-word-stored : (m : List ℕ) (at x : ℕ) → at + 8 ≤ length m → wordAt (wordPut m at x) at ≡ x % 2 ^ 64
-unfolding wordPut lowBytes
+word-stored : (m : List ℕ) (at x : ℕ) → at + 8 ≤ length m → wordAt (overwriteWord m at x) at ≡ x % 2 ^ 64
+unfolding overwriteWord lowBytes
 word-stored m at x h =
-    let l : at + 8 ≤ length (wordPut m at x) = omega (arith, length-word m at x) in
-    word-in (wordPut m at x) at l ∙ (ap lowNumber (placed-found m at (lowBytes 8 x) h) ∙ bytes-number 8 x)
+    let l : at + 8 ≤ length (overwriteWord m at x) = omega (arith, length-word m at x) in
+    word-in (overwriteWord m at x) at l ∙ (ap lowNumber (store-found m at (lowBytes 8 x) h) ∙ bytes-number 8 x)
 
 pub word-back : WordBack
 word-back m at x h small = word-stored m at x h ∙ mod-eq-of-lt small
 
 -- byte by byte
 pub low-first : LowFirst
-unfolding wordPut lowBytes
+unfolding overwriteWord lowBytes
 low-first m at x i h below =
-    sym (getD-drop at (wordPut m at x) i 0)
-    ∙ (sym (getD-take 8 (drop at (wordPut m at x)) i 0 below)
-    ∙ (ap (λ l. getD l i 0) (placed-found m at (lowBytes 8 x) h) ∙ low-at 8 x i below))
+    sym (getD-drop at (overwriteWord m at x) i 0)
+    ∙ (sym (getD-take 8 (drop at (overwriteWord m at x)) i 0 below)
+    ∙ (ap (λ l. getD l i 0) (store-found m at (lowBytes 8 x) h) ∙ low-at 8 x i below))
 
 -- bytes of memory are bytes
 bytes-take : (n : ℕ) (l : List ℕ) → Bytes l → Bytes (take n l)
@@ -129,7 +129,7 @@ bytes-back m at b h =
     (number-bytes (take 8 (drop at m)) (word-bytes m at b)))
 
 pub word-kept : WordKept
-unfolding wordPut overwrite
+unfolding overwriteWord overwrite
 word-kept m at b h =
     let d = take 8 (drop at m) in
     let l : length d ≡ 8 = part-length m at 8 h in
@@ -137,7 +137,7 @@ word-kept m at b h =
     let rest : d ++ drop (at + length d) m ≡ drop at m =
     ap (λ n. d ++ drop (at + n) m) l ∙ (ap (λ z. d ++ z) (sym (drop-drop 8 at m)) ∙ take-append-drop 8 (drop at m)) in
     ap (store m at) (bytes-back m at b h)
-    ∙ (placed-put m at d fits ∙ (ap (λ z. take at m ++ z) rest ∙ take-append-drop at m))
+    ∙ (store-overwrite m at d fits ∙ (ap (λ z. take at m ++ z) rest ∙ take-append-drop at m))
 
 -- FetchAdd
 pub fetched : Fetched
@@ -168,32 +168,32 @@ swap-unequal m at compare swap e = passed (wordAt m at) _ _ m (λ same. e (omega
 unchanged : (m : List ℕ) (at : ℕ) → OnlyWord m m at
 unchanged m at = record { kept = refl; before = refl; after = refl }
 
-pub put-within : PutWithin
-unfolding wordPut lowBytes
-put-within m at x = go (leb (at + 8) (length m)) refl
+pub word-within : WordWithin
+unfolding overwriteWord lowBytes
+word-within m at x = go (leb (at + 8) (length m)) refl
   where
-    go : (b : Bool) → leb (at + 8) (length m) ≡ b → OnlyWord m (wordPut m at x) at
+    go : (b : Bool) → leb (at + 8) (length m) ≡ b → OnlyWord m (overwriteWord m at x) at
     go true e =
         let h : at + 8 ≤ length m = leb-true (at + 8) (length m) e in
         record {
           kept = length-word m at x;
-          before = placed-before m at (lowBytes 8 x) h;
-          after = placed-after m at (lowBytes 8 x) h;
+          before = store-before m at (lowBytes 8 x) h;
+          after = store-after m at (lowBytes 8 x) h;
         }
-    go false e = subst (λ n. OnlyWord m n at) (sym (put-over m at x (leb-false (at + 8) (length m) e))) (unchanged m at)
+    go false e = subst (λ n. OnlyWord m n at) (sym (word-past m at x (leb-false (at + 8) (length m) e))) (unchanged m at)
 
 pub fetch-within : FetchWithin
 unfolding fetchAdded
-fetch-within m at x = put-within m at _
+fetch-within m at x = word-within m at _
 
 -- nor does a store that a test may leave out
-put-or-not : (b : Bool) (m : List ℕ) (at x : ℕ) → OnlyWord m (cond b (wordPut m at x) m) at
-put-or-not true m at x = put-within m at x
-put-or-not false m at x = unchanged m at
+word-or-not : (b : Bool) (m : List ℕ) (at x : ℕ) → OnlyWord m (cond b (overwriteWord m at x) m) at
+word-or-not true m at x = word-within m at x
+word-or-not false m at x = unchanged m at
 
 pub swap-within : SwapWithin
 unfolding swapped
-swap-within m at compare swap = put-or-not (eqb (wordAt m at) _) m at _
+swap-within m at compare swap = word-or-not (eqb (wordAt m at) _) m at _
 
 -- a choice of two that are equal
 either : (b : Bool) {l m : List ℕ} → l ≡ m → cond b l m ≡ m
@@ -203,7 +203,7 @@ either false e = refl
 -- and past the end nothing at all
 pub word-over : WordOver
 unfolding fetchAdded swapped
-word-over m at x y h = (word-out m at h, put-over m at x h, put-over m at _ h, either (eqb (wordAt m at) _) (put-over m at _ h))
+word-over m at x y h = (word-out m at h, word-past m at x h, word-past m at _ h, either (eqb (wordAt m at) _) (word-past m at _ h))
 
 -- a word of bytes fits 64 bits
 pub word-below : WordBelow

@@ -1,6 +1,7 @@
 // What an opcode says of its packet: kind of request or response, place in the message, the headers
 // after the BTH, and the length of all headers.
 ghost use mathlib.Core.Path.{_≡_};
+ghost use Rattle.opcode.specs.Place.{starts, ends};
 ghost use Rattle.opcode.specs.Opcode.{kindOf, placeIn, placeOf, sendWriteFollows, followsOf, lengthOf, lowClass, reservedClass, ucHas, classOf};
 
 // How many opcodes a service has: those of the low five bits.
@@ -173,6 +174,23 @@ fn place_of(low: u8) -> u8
         return LAST;
     }
     ONLY
+}
+
+// Whether a packet at this place begins its message.
+pub fn starts(place: u8) -> bool
+    ensures { λ r. ⌜ r ≡ starts place ⌝ }
+{
+    if place == FIRST {
+        return true;
+    }
+    place == ONLY
+}
+
+// Whether it ends it.
+pub fn ends(place: u8) -> bool
+    ensures { λ r. ⌜ r ≡ ends place ⌝ }
+{
+    LAST <= place
 }
 
 fn send_write_follows(low: u8) -> u8

@@ -8,7 +8,7 @@ use lib.ListN.{length, drop, replicate, length-append, length-replicate}
 use borrow.Author.Tests.{ne-eqb}
 use Rattle.lemmas.proofs.Tests.{not-false}
 use Rattle.memory.specs.Memory.{store}
-use Rattle.memory.proofs.Put.{placed-put, placed-placed, put-start}
+use Rattle.memory.proofs.Overwrite.{store-overwrite, store-twice, overwrite-start}
 use Rattle.opcode.specs.Opcode.{classOf}
 use Rattle.opcode.specs.declared.OpcodeClass.{OpcodeClass}
 use Rattle.header.specs.Write.{headerBytes, headerFits, headerLength, answerBy, writtenOut}
@@ -39,20 +39,20 @@ three-parts h d out good room =
     let lb : length b ≡ headerLength h = length-header h good in
     let lz : length z ≡ padOf (length d) = length-replicate (padOf (length d)) 0 in
     let first : store out 0 b ≡ writtenOut h out =
-    placed-put out 0 b (omega arith) ∙ (put-start out b ∙ (ap (λ n. b ++ drop n out) lb ∙ sym (done h out good (omega arith) .1))) in
+    store-overwrite out 0 b (omega arith) ∙ (overwrite-start out b ∙ (ap (λ n. b ++ drop n out) lb ∙ sym (done h out good (omega arith) .1))) in
     let n1 : 0 + length b ≡ headerLength h = omega arith in
     let second : store (writtenOut h out) (headerLength h) d ≡ store out 0 (b ++ d) =
     subst (λ w. store w (headerLength h) d ≡ store out 0 (b ++ d)) first
-    (subst (λ n. store (store out 0 b) n d ≡ store out 0 (b ++ d)) n1 (placed-placed out 0 b d (omega arith))) in
+    (subst (λ n. store (store out 0 b) n d ≡ store out 0 (b ++ d)) n1 (store-twice out 0 b d (omega arith))) in
     let lbd : length (b ++ d) ≡ headerLength h + length d = length-append b d ∙ ap (λ n. n + length d) lb in
     let n2 : 0 + length (b ++ d) ≡ headerLength h + length d = omega arith in
     let third : store (store out 0 (b ++ d)) (headerLength h + length d) z ≡ store out 0 ((b ++ d) ++ z) =
-    subst (λ n. store (store out 0 (b ++ d)) n z ≡ store out 0 ((b ++ d) ++ z)) n2 (placed-placed out 0 (b ++ d) z (omega arith)) in
+    subst (λ n. store (store out 0 (b ++ d)) n z ≡ store out 0 ((b ++ d) ++ z)) n2 (store-twice out 0 (b ++ d) z (omega arith)) in
     let l : length ((b ++ d) ++ z) ≡ headerLength h + (length d + padOf (length d)) = omega (arith, length-append (b ++ d) z) in
     ap (λ w. store w (headerLength h + length d) z) second
     ∙ (third
-    ∙ (placed-put out 0 ((b ++ d) ++ z) (omega arith)
-    ∙ (put-start out ((b ++ d) ++ z)
+    ∙ (store-overwrite out 0 ((b ++ d) ++ z) (omega arith)
+    ∙ (overwrite-start out ((b ++ d) ++ z)
     ∙ (ap (λ n. ((b ++ d) ++ z) ++ drop n out) l
     ∙ ap (λ w. w ++ drop (headerLength h + (length d + padOf (length d))) out) (append-assoc b d z)))))
 

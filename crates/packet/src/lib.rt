@@ -42,7 +42,7 @@ fn refusal(unfit: bool, padcnt: u8, headers: usize, n: usize, room: usize) -> u8
 }
 
 // Zero bytes behind the payload.
-fn place_pad(out: &mut [u8], at: usize, padcnt: u8)
+fn write_pad(out: &mut [u8], at: usize, padcnt: u8)
     requires { ⌜ padcnt ≤ 3 ⌝ }
     ensures { λ _. ⌜ now (out .exit) ≡ store (now (out .entry)) at (replicate padcnt 0) ⌝ }
 {
@@ -66,6 +66,6 @@ pub fn write(h: Header, payload: &[u8], out: &mut [u8]) -> Answer
     encode::write(h, out);
     memory::store(out, class.length, payload);
     let at = class.length + payload.len();
-    place_pad(out, at, bth.pad);
+    write_pad(out, at, bth.pad);
     Answer::Done(at + bth.pad as usize)
 }

@@ -1,5 +1,6 @@
 -- The numbers that the rules give to the answers.
 use Prim.Native.Nat.{ℕ}
+use Rattle.header.specs.Refusal as Refusal
 
 abbrev pub executed : ℕ
 executed = 0
@@ -41,10 +42,10 @@ abbrev pub tableFull : ℕ
 tableFull = 33
 
 abbrev pub outOfRange : ℕ
-outOfRange = 34
+outOfRange = Refusal.outOfRange
 
 abbrev pub outputShort : ℕ
-outputShort = 35
+outputShort = Refusal.outputShort
 
 abbrev pub wrongState : ℕ
 wrongState = 36
@@ -56,4 +57,4 @@ abbrev pub keyInUse : ℕ
 keyInUse = 38
 
 abbrev pub badNumber : ℕ
-badNumber = 39
+badNumber = Refusal.badNumber

@@ -18,13 +18,17 @@ use Rattle.pair.specs.Pair.{closed}
 abbrev pub memoryLimit : ℕ
 memoryLimit = 1048576
 
+-- the greatest timer code
+abbrev pub timerLimit : ℕ
+timerLimit = 31
+
 -- a bad number: no such PMTU or service, a number over 24 bits, a P_Key whose low 15 bits are zero, a timer code over
--- 31
+-- the greatest
 unfoldable pub setupUnfit : Setup → Bool
 setupUnfit s =
     not (pmtuFits (s .pmtu))
     || (otherService (s .service)
-    || (leb qpnSpace (s .ours) || (leb qpnSpace (s .theirs) || (leb space (s .start .0) || (eqb (s .pkey % pkeyTop) 0 || ltb 31 (s .timer))))))
+    || (leb qpnSpace (s .ours) || (leb qpnSpace (s .theirs) || (leb space (s .start .0) || (eqb (s .pkey % pkeyTop) 0 || ltb timerLimit (s .timer))))))
 
 -- numbers that no set-up accepts
 unfoldable pub setupUnsound : Setup → Bool

@@ -23,12 +23,12 @@ impl Status {
             Status::NotReadyNak => 19,
             Status::ReadUnfinished => 32,
             Status::TableFull => 33,
-            Status::OutOfRange => 34,
-            Status::OutputShort => 35,
+            Status::OutOfRange => header::OUT_OF_RANGE,
+            Status::OutputShort => header::OUTPUT_SHORT,
             Status::WrongState => 36,
             Status::NoSuchKey => 37,
             Status::KeyInUse => 38,
-            Status::BadNumber => 39,
+            Status::BadNumber => header::BAD_NUMBER,
         }
     }
 

@@ -21,6 +21,9 @@ pub const CLOSED: u8 = 255;
 // Bytes of lent memory, and of a DMA length, at most.
 pub const LIMIT: usize = 1048576;
 
+// The greatest timer code.
+pub const TIMER_LIMIT: u8 = 31;
+
 // What set-up is given, and reset brings back: numbers of the connection, the functions that are enabled, and the
 // length of the memory that will be lent. The timer code goes into not-ready NAKs. Here and in the pair large fields
 // stand before small ones: gaps between fields would be copied with them.

@@ -2,7 +2,7 @@
 use Prim.Native.Nat.{ℕ, zero, suc, _+_, _*_, _/_, _%_, min}
 use mathlib.Core.Bool.{Bool, cond, _||_}
 use mathlib.Core.List.{List, [], _++_}
-use lib.Dec.{leb, eqb}
+use lib.Dec.{eqb}
 use lib.ListN.{take, drop}
 use Rattle.opcode.specs.Place as Place
 use Rattle.pmtu.specs.declared.Range.{Range}
@@ -19,14 +19,6 @@ pieces n pmtu = cond (eqb n 0) 1 (n / pmtu + cond (eqb (n % pmtu) 0) 0 1)
 unfoldable pub placeAt : ℕ → ℕ → ℕ
 placeAt count i =
     cond (eqb count 1) Place.only (cond (eqb i 0) Place.first (cond (eqb (i + 1) count) Place.last Place.middle))
-
--- First and Middle are followed by more; Last and Only, whose numbers are the higher ones, end the message
-unfoldable pub ends : ℕ → Bool
-ends place = leb Place.last place
-
--- First and Only begin it
-unfoldable pub starts : ℕ → Bool
-starts place = eqb place Place.first || eqb place Place.only
 
 -- piece i of the bytes d: PMTU bytes, or as many as there are, from i x PMTU on
 unfoldable pub pieceAt : List ℕ → ℕ → ℕ → List ℕ

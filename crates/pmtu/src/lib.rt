@@ -2,7 +2,7 @@
 // are cut alike, so this is about numbers alone.
 ghost use mathlib.Core.Path.{_≡_};
 ghost use mathlib.Core.Bool.{not};
-ghost use Rattle.pmtu.specs.Pieces.{pmtuFits, pieces, placeAt, partAt, starts, ends};
+ghost use Rattle.pmtu.specs.Pieces.{pmtuFits, pieces, placeAt, partAt};
 
 // A part of the bytes, from start up to, and without, end.
 pub struct Range {
@@ -81,21 +81,4 @@ pub fn part(n: usize, pmtu: usize, i: usize) -> Range
     }
     let end = start + pmtu;
     Range { start, end }
-}
-
-// Whether a packet at this place begins its message.
-pub fn starts(place: u8) -> bool
-    ensures { λ r. ⌜ r ≡ starts place ⌝ }
-{
-    if place == opcode::FIRST {
-        return true;
-    }
-    place == opcode::ONLY
-}
-
-// Whether it ends it.
-pub fn ends(place: u8) -> bool
-    ensures { λ r. ⌜ r ≡ ends place ⌝ }
-{
-    opcode::LAST <= place
 }

@@ -1,13 +1,15 @@
--- The key check step by step: from what each leaf answered to what the definition says.
+-- The key check step by step: from what each leaf answered to what the definition says; and which message a packet is of.
 use Prim.Native.Nat.{ℕ, _+_, _-_, _<_, _≤_}
 use mathlib.Core.Path.{_≡_, refl, sym, ap, _∙_}
-use mathlib.Core.Bool.{Bool, true, false, cond}
+use mathlib.Core.Bool.{Bool, true, false, cond, not, true≢false}
 use mathlib.Core.List.{List}
 use lib.Dec.{eqb}
 use borrow.Author.Tests.{ne-eqb, leb-true, leb-false}
+use Rattle.opcode.specs.Place.{starts}
 use Rattle.table.specs.Table.{addresses, pastTop}
 use Rattle.pair.specs.declared.OpenMessage.{OpenMessage}
-use Rattle.request_spec.specs.Verdict.{rightOf, lacks, bytesToCome, keyLacking, keyFails}
+use Rattle.request_spec.specs.Verdict.{single, fragment, rightOf, lacks, bytesToCome, keyLacking, keyFails, current}
+use Rattle.request_spec.specs.declared.Packet.{Packet}
 use Rattle.request_checks.proofs.Sums.{lacks-past}
 
 -- the next address, where it is not past the top
@@ -36,3 +38,13 @@ module _ (memory kind : ℕ) (m : OpenMessage) (region : List ℕ) (k : kind ≡
   pub judged : (stored : ℕ) → stored ≡ m .stored → (right : ℕ) → right ≡ rightOf kind region → (n : ℕ) → n ≡ needed → (r : Bool)
       → r ≡ lacks region right memory (m .address + stored) n → r ≡ keyFails memory kind m region
   judged stored p right q n e r l = l ∙ ((λ i. lacks region (q i) memory (m .address + p i) (e i)) ∙ sym keyed)
+
+-- what is no fragment of a single packet's message begins it
+pub begun : (opened : OpenMessage) (p : Packet) → fragment p ≡ false → single (p .kind) ≡ true → current opened p .stored ≡ 0
+unfolding fragment current
+begun opened p h c = go (starts (p .place)) (rw c at h)
+  where
+    go : (b : Bool) → not b ≡ false
+        → cond b (record { kind = p .kind; stored = 0; address = p .operands .address; key = p .operands .key; length = p .operands .length }) opened .stored ≡ 0
+    go true x = refl
+    go false x = absurd (true≢false x)

@@ -22,7 +22,7 @@ fn empty_last(place: u8, size: usize) -> bool
 fn size_off(place: u8, pmtu: usize, size: usize) -> bool
     ensures { λ r. ⌜ r ≡ sizeOff place pmtu size ⌝ }
 {
-    let last = pmtu::ends(place);
+    let last = opcode::ends(place);
     if last {
         let empty = empty_last(place, size);
         if empty {
@@ -73,17 +73,17 @@ fn total_off(kind: u8, place: u8, stored: usize, size: usize, length: usize, mos
             most,
         );
     }
-    let last = pmtu::ends(place);
+    let last = opcode::ends(place);
     if last {
         return unequal(stored, size, length);
     }
     no_more(stored, size, length)
 }
 
-fn bare_off(kind: u8, padded: usize, address: u64) -> bool
-    ensures { λ r. ⌜ r ≡ bareOff kind padded address ⌝ }
+fn bare_off(kind: u8, body: usize, address: u64) -> bool
+    ensures { λ r. ⌜ r ≡ bareOff kind body address ⌝ }
 {
-    if padded != 0 {
+    if body != 0 {
         return true;
     }
     if kind == opcode::READ {
@@ -95,17 +95,17 @@ fn bare_off(kind: u8, padded: usize, address: u64) -> bool
 pub(crate) fn lengths_off(p: Packet, pmtu: usize, m: OpenMessage, most: u64) -> bool
     ensures { λ r. ⌜ r ≡ lengthsOff p pmtu m most ⌝ }
 {
-    if p.padded < p.pad {
+    if p.body < p.pad {
         return true;
     }
     let carries = carrying(p.kind);
     if carries {
-        let size = p.padded - p.pad;
+        let size = p.body - p.pad;
         let off = size_off(p.place, pmtu, size);
         if off {
             return true;
         }
         return total_off(p.kind, p.place, m.stored, size, m.length, most);
     }
-    bare_off(p.kind, p.padded, m.address)
+    bare_off(p.kind, p.body, m.address)
 }

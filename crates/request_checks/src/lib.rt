@@ -55,7 +55,7 @@ pub fn over_limit(length: usize) -> bool
 pub fn current(opened: OpenMessage, p: Packet) -> OpenMessage
     ensures { λ r. ⌜ r ≡ current opened p ⌝ }
 {
-    let begins = pmtu::starts(p.place);
+    let begins = opcode::starts(p.place);
     if begins {
         return OpenMessage {
             kind: p.kind,
@@ -87,7 +87,7 @@ pub fn fragment(p: Packet) -> bool
 {
     let one = single(p.kind);
     if one {
-        let begins = pmtu::starts(p.place);
+        let begins = opcode::starts(p.place);
         return !begins;
     }
     false

@@ -74,7 +74,7 @@ pub fn packet_of(h: Header, class: OpcodeClass, n: usize) -> Packet
     let extension = h.extension;
     let operands = operands_of(extension);
     let psn = bth.psn;
-    let padded = number::saturating_sub(n, class.length);
+    let body = number::saturating_sub(n, class.length);
     Packet {
         kind: class.kind,
         place: class.place,
@@ -82,7 +82,7 @@ pub fn packet_of(h: Header, class: OpcodeClass, n: usize) -> Packet
         pad: bth.pad as usize,
         psn,
         start: class.length,
-        padded,
+        body,
         operands,
     }
 }

@@ -5,7 +5,7 @@ ghost use Rattle.request_spec.specs.Verdict.{outOfSequence, padEarly, needsEntr
 pub(crate) fn out_of_sequence(opened: u8, kind: u8, place: u8) -> bool
     ensures { λ r. ⌜ r ≡ outOfSequence opened kind place ⌝ }
 {
-    let begins = pmtu::starts(place);
+    let begins = opcode::starts(place);
     if begins {
         return opened != pair::CLOSED;
     }
@@ -15,7 +15,7 @@ pub(crate) fn out_of_sequence(opened: u8, kind: u8, place: u8) -> bool
 pub(crate) fn pad_early(place: u8, pad: usize) -> bool
     ensures { λ r. ⌜ r ≡ padEarly place pad ⌝ }
 {
-    let last = pmtu::ends(place);
+    let last = opcode::ends(place);
     if last {
         return false;
     }
@@ -26,7 +26,7 @@ fn needs_entry(kind: u8, place: u8, immediate: bool) -> bool
     ensures { λ r. ⌜ r ≡ needsEntry kind place immediate ⌝ }
 {
     if kind == opcode::SEND {
-        return pmtu::starts(place);
+        return opcode::starts(place);
     }
     immediate
 }

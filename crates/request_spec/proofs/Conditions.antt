@@ -10,7 +10,7 @@ use lib.ListN.{getD}
 use borrow.Author.Tests.{leb-false, lt-leb, eqb-true, eqb-false, ltb-true, ltb-false, eq-eqb, ne-eqb, lt-ltb, le-ltb}
 use Rattle.lemmas.proofs.Tests.{or-left, or-right, neither}
 use Rattle.header.proofs.Reasons.{of-not}
-use Rattle.pmtu.specs.Pieces.{starts, ends}
+use Rattle.opcode.specs.Place.{starts, ends}
 use Rattle.table.specs.Table.{outside, addresses, pastTop}
 use Rattle.pair.specs.Sound.{memoryLimit}
 use Rattle.request_spec.specs.declared.Packet.{Packet}
@@ -74,7 +74,7 @@ formed p k x =
       pad = p .pad;
       psn = p .psn;
       start = p .start;
-      padded = p .padded;
+      body = p .body;
       operands = p .operands;
     }
 
@@ -307,21 +307,21 @@ pub lengths-tested : LengthsTested
 unfolding lengthsOff carrying totalOff bareOff payloadSize
 lengths-tested p pmtu m most P = go
   where
-    Z : Tells (sizeOff (p .place) pmtu (p .padded - p .pad)) (Sized (p .place) pmtu (p .padded - p .pad))
-    Z = size-tested pmtu (p .padded - p .pad) (p .place) P
+    Z : Tells (sizeOff (p .place) pmtu (p .body - p .pad)) (Sized (p .place) pmtu (p .body - p .pad))
+    Z = size-tested pmtu (p .body - p .pad) (p .place) P
 
-    W : Tells (totalOff 6 (p .place) (m .stored) (p .padded - p .pad) (m .length) most) (Summed (p .place) (m .stored + (p .padded - p .pad)) (m .length))
-    W = total-tested (m .stored) (p .padded - p .pad) (m .length) most (p .place) P
+    W : Tells (totalOff 6 (p .place) (m .stored) (p .body - p .pad) (m .length) most) (Summed (p .place) (m .stored + (p .body - p .pad)) (m .length))
+    W = total-tested (m .stored) (p .body - p .pad) (m .length) most (p .place) P
 
-    pads : (b : Bool) → (ltb (p .padded) (p .pad) || b) ≡ false → p .pad ≤ p .padded
-    pads b h = ltb-false (p .padded) (p .pad) (or-left (ltb (p .padded) (p .pad)) b h)
+    pads : (b : Bool) → (ltb (p .body) (p .pad) || b) ≡ false → p .pad ≤ p .body
+    pads b h = ltb-false (p .body) (p .pad) (or-left (ltb (p .body) (p .pad)) b h)
 
     atomic : (k : ℕ) → ltb k 12 ≡ false → eqb k 12 ≡ false → IsAtomic k
         → Tells (lengthsOff (formed p k (p .place)) pmtu m most) (LengthsGood (formed p k (p .place)) pmtu m most)
     atomic k c d s =
         rw (c, d) (
           λ h.
-              let a = or-right (ltb (p .padded) (p .pad)) _ h in
+              let a = or-right (ltb (p .body) (p .pad)) _ h in
               record {
                 pad = pads _ h;
                 full = λ x. absurd (carries-not k c x);
@@ -330,40 +330,40 @@ lengths-tested p pmtu m most P = go
                 fits = λ x. absurd (carries-not k c (inl x));
                 more = λ x. absurd (carries-not k c (inr x));
                 whole = λ x. absurd (carries-not k c (inr x));
-                bare = λ x. of-not (p .padded) 0 (or-left (not (eqb (p .padded) 0)) _ a);
-                aligned = λ x. of-not (m .address % 8) 0 (or-right (not (eqb (p .padded) 0)) _ a);
+                bare = λ x. of-not (p .body) 0 (or-left (not (eqb (p .body) 0)) _ a);
+                aligned = λ x. of-not (m .address % 8) 0 (or-right (not (eqb (p .body) 0)) _ a);
               },
-          λ L. neither (le-ltb (p .padded) (p .pad) (L .pad))
-              (neither (not-of (p .padded) 0 (L .bare (inr s))) (not-of (m .address % 8) 0 (L .aligned s))),
+          λ L. neither (le-ltb (p .body) (p .pad) (L .pad))
+              (neither (not-of (p .body) 0 (L .bare (inr s))) (not-of (m .address % 8) 0 (L .aligned s))),
         )
 
     go : Served (p .kind) → Tells (lengthsOff p pmtu m most) (LengthsGood p pmtu m most)
     go (inl (inl e)) =
         subst (λ k. Tells (lengthsOff (formed p k (p .place)) pmtu m most) (LengthsGood (formed p k (p .place)) pmtu m most)) (sym e) (
           λ h.
-              let a = or-right (ltb (p .padded) (p .pad)) _ h in
-              let z = Z .0 (or-left (sizeOff (p .place) pmtu (p .padded - p .pad)) _ a) in
+              let a = or-right (ltb (p .body) (p .pad)) _ h in
+              let z = Z .0 (or-left (sizeOff (p .place) pmtu (p .body - p .pad)) _ a) in
               record {
                 pad = pads _ h;
                 full = λ c x. z .full x;
                 last = λ c x. z .last x;
                 only = λ c x. z .only x;
-                fits = λ k. ltb-false most (m .stored + (p .padded - p .pad)) (or-right (sizeOff (p .place) pmtu (p .padded - p .pad)) _ a);
+                fits = λ k. ltb-false most (m .stored + (p .body - p .pad)) (or-right (sizeOff (p .place) pmtu (p .body - p .pad)) _ a);
                 more = λ k. absurd (omega arith);
                 whole = λ k. absurd (omega arith);
                 bare = λ k. absurd (not-bare 0 refl refl refl k);
                 aligned = λ k. absurd (apart 0 19 20 refl refl k);
               },
-          λ L. neither (le-ltb (p .padded) (p .pad) (L .pad))
+          λ L. neither (le-ltb (p .body) (p .pad) (L .pad))
               (neither (Z .1 (record { full = L .full (inl refl); last = L .last (inl refl); only = L .only (inl refl) }))
-              (le-ltb most (m .stored + (p .padded - p .pad)) (L .fits refl))),
+              (le-ltb most (m .stored + (p .body - p .pad)) (L .fits refl))),
         )
     go (inl (inr e)) =
         subst (λ k. Tells (lengthsOff (formed p k (p .place)) pmtu m most) (LengthsGood (formed p k (p .place)) pmtu m most)) (sym e) (
           λ h.
-              let a = or-right (ltb (p .padded) (p .pad)) _ h in
-              let z = Z .0 (or-left (sizeOff (p .place) pmtu (p .padded - p .pad)) _ a) in
-              let w = W .0 (or-right (sizeOff (p .place) pmtu (p .padded - p .pad)) _ a) in
+              let a = or-right (ltb (p .body) (p .pad)) _ h in
+              let z = Z .0 (or-left (sizeOff (p .place) pmtu (p .body - p .pad)) _ a) in
+              let w = W .0 (or-right (sizeOff (p .place) pmtu (p .body - p .pad)) _ a) in
               record {
                 pad = pads _ h;
                 full = λ c x. z .full x;
@@ -375,14 +375,14 @@ lengths-tested p pmtu m most P = go
                 bare = λ k. absurd (not-bare 6 refl refl refl k);
                 aligned = λ k. absurd (apart 6 19 20 refl refl k);
               },
-          λ L. neither (le-ltb (p .padded) (p .pad) (L .pad))
+          λ L. neither (le-ltb (p .body) (p .pad) (L .pad))
               (neither (Z .1 (record { full = L .full (inr refl); last = L .last (inr refl); only = L .only (inr refl) }))
               (W .1 (record { more = L .more refl; whole = L .whole refl }))),
         )
     go (inr (inl e)) =
         subst (λ k. Tells (lengthsOff (formed p k (p .place)) pmtu m most) (LengthsGood (formed p k (p .place)) pmtu m most)) (sym e) (
           λ h.
-              let a = or-right (ltb (p .padded) (p .pad)) _ h in
+              let a = or-right (ltb (p .body) (p .pad)) _ h in
               record {
                 pad = pads _ h;
                 full = λ c. absurd (apart 12 0 6 refl refl c);
@@ -391,10 +391,10 @@ lengths-tested p pmtu m most P = go
                 fits = λ k. absurd (omega arith);
                 more = λ k. absurd (omega arith);
                 whole = λ k. absurd (omega arith);
-                bare = λ k. of-not (p .padded) 0 (or-left (not (eqb (p .padded) 0)) _ a);
+                bare = λ k. of-not (p .body) 0 (or-left (not (eqb (p .body) 0)) _ a);
                 aligned = λ k. absurd (apart 12 19 20 refl refl k);
               },
-          λ L. neither (le-ltb (p .padded) (p .pad) (L .pad)) (neither (not-of (p .padded) 0 (L .bare (inl refl))) refl),
+          λ L. neither (le-ltb (p .body) (p .pad) (L .pad)) (neither (not-of (p .body) 0 (L .bare (inl refl))) refl),
         )
     go (inr (inr (inl e))) = atomic (p .kind) (ap (λ k. ltb k 12) e) (ap (λ k. eqb k 12) e) (inl e)
     go (inr (inr (inr e))) = atomic (p .kind) (ap (λ k. ltb k 12) e) (ap (λ k. eqb k 12) e) (inr e)

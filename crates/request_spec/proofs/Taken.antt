@@ -26,7 +26,7 @@ numbers c bytes n =
       pad = bthOf bytes .pad;
       psn = bthOf bytes .psn;
       start = c .length;
-      padded = n - c .length;
+      body = n - c .length;
       operands = operandsOf (extensionOf (c .follows) bytes);
     }
 
@@ -70,7 +70,7 @@ any-place opcode = go (eqb (serviceOf opcode) 0) (eqb (serviceOf opcode) 1) (ucH
 pub bth-taken : BthTaken
 unfolding packetOf headerOf headerLength
 bth-taken bytes n =
-    record { ackreq = refl; pad = refl; psn = refl; padded = refl; place = any-place (bthOf bytes .opcode) }
+    record { ackreq = refl; pad = refl; psn = refl; body = refl; place = any-place (bthOf bytes .opcode) }
 
 -- the class of each opcode
 abbrev class : ℕ → ℕ → ℕ → ℕ → OpcodeClass

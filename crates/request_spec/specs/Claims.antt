@@ -105,14 +105,14 @@ pub record KeyGood (kind memory : ℕ) (m : OpenMessage) (region : List ℕ) : T
 
 -- The lengths are good. The bytes carried are those there are but the pad; a SEND's entry has room for most.
 pub record LengthsGood (p : Packet) (pmtu : ℕ) (m : OpenMessage) (most : ℕ) : Type 0 where
-  pub pad : p .pad ≤ p .padded
-  pub full : Carries (p .kind) → HasMore (p .place) → p .padded - p .pad ≡ pmtu
-  pub last : Carries (p .kind) → p .place ≡ 2 → (1 ≤ p .padded - p .pad) × (p .padded - p .pad ≤ pmtu)
-  pub only : Carries (p .kind) → p .place ≡ 4 → p .padded - p .pad ≤ pmtu
-  pub fits : p .kind ≡ 0 → m .stored + (p .padded - p .pad) ≤ most
-  pub more : p .kind ≡ 6 → HasMore (p .place) → m .stored + (p .padded - p .pad) < m .length
-  pub whole : p .kind ≡ 6 → Ends (p .place) → m .stored + (p .padded - p .pad) ≡ m .length
-  pub bare : (p .kind ≡ 12) ⊎ IsAtomic (p .kind) → p .padded ≡ 0
+  pub pad : p .pad ≤ p .body
+  pub full : Carries (p .kind) → HasMore (p .place) → p .body - p .pad ≡ pmtu
+  pub last : Carries (p .kind) → p .place ≡ 2 → (1 ≤ p .body - p .pad) × (p .body - p .pad ≤ pmtu)
+  pub only : Carries (p .kind) → p .place ≡ 4 → p .body - p .pad ≤ pmtu
+  pub fits : p .kind ≡ 0 → m .stored + (p .body - p .pad) ≤ most
+  pub more : p .kind ≡ 6 → HasMore (p .place) → m .stored + (p .body - p .pad) < m .length
+  pub whole : p .kind ≡ 6 → Ends (p .place) → m .stored + (p .body - p .pad) ≡ m .length
+  pub bare : (p .kind ≡ 12) ⊎ IsAtomic (p .kind) → p .body ≡ 0
   pub aligned : IsAtomic (p .kind) → m .address % 8 ≡ 0
 
 -- The message that a packet is of, before the packet: its own operands with nothing stored, or the open one.
@@ -201,7 +201,7 @@ pub record FromBth (bytes : List ℕ) (n : ℕ) (p : Packet) : Type 0 where
   pub ackreq : p .ackreq ≡ bthOf bytes .ackreq
   pub pad : p .pad ≡ bthOf bytes .pad
   pub psn : p .psn ≡ bthOf bytes .psn
-  pub padded : p .padded ≡ n - p .start
+  pub body : p .body ≡ n - p .start
   pub place : Place (p .place)
 
 abbrev pub BthTaken : Type 0

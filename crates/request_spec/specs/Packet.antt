@@ -45,7 +45,7 @@ packetBy c h n =
       pad = h .bth .pad;
       psn = h .bth .psn;
       start = c .length;
-      padded = n - c .length;
+      body = n - c .length;
       operands = operandsOf (h .extension);
     }
 

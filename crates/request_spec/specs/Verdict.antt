@@ -5,7 +5,7 @@ use mathlib.Core.List.{List}
 use lib.Dec.{eqb, ltb}
 use Rattle.opcode.specs.Kind as Kind
 use Rattle.opcode.specs.Place as Place
-use Rattle.pmtu.specs.Pieces.{starts, ends}
+use Rattle.opcode.specs.Place.{starts, ends}
 use Rattle.table.specs.Table.{outside, pastTop}
 use Rattle.table.specs.RegionRow as RegionRow
 use Rattle.table.specs.EntryRow as EntryRow
@@ -109,18 +109,18 @@ totalOff kind place stored size length most =
 
 -- all other kinds are bare, and atomics aligned to 8 bytes
 unfoldable pub bareOff : ℕ → ℕ → ℕ → Bool
-bareOff kind padded address = not (eqb padded 0) || (not (eqb kind Kind.read) && not (eqb (address % 8) 0))
+bareOff kind body address = not (eqb body 0) || (not (eqb kind Kind.read) && not (eqb (address % 8) 0))
 
 -- the bytes carried: those there are but the pad
 unfoldable pub payloadSize : Packet → ℕ
-payloadSize p = p .padded - p .pad
+payloadSize p = p .body - p .pad
 
 unfoldable pub lengthsOff : Packet → ℕ → OpenMessage → ℕ → Bool
 lengthsOff p pmtu m most =
-    ltb (p .padded) (p .pad)
+    ltb (p .body) (p .pad)
     || cond (carrying (p .kind))
     (sizeOff (p .place) pmtu (payloadSize p) || totalOff (p .kind) (p .place) (m .stored) (payloadSize p) (m .length) most)
-    (bareOff (p .kind) (p .padded) (m .address))
+    (bareOff (p .kind) (p .body) (m .address))
 
 -- The message that a packet is of, as it is before the packet: it begins it, or it is the open one
 unfoldable pub current : OpenMessage → Packet → OpenMessage

@@ -22,6 +22,6 @@ pub struct Packet {
     pub pad: usize,
     pub psn: Psn,
     pub start: usize,
-    pub padded: usize,
+    pub body: usize,
     pub operands: Operands,
 }

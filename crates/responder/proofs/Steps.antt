@@ -23,7 +23,7 @@ use Rattle.pair.specs.Answer.{statusNumber, executed}
 use Rattle.pair.specs.declared.Pair.{Pair}
 use Rattle.pair.specs.declared.Status.{Status}
 use Rattle.pair.specs.declared.Status.the-variants as status
-use Rattle.pmtu.specs.Pieces.{starts}
+use Rattle.opcode.specs.Place.{starts}
 use Rattle.request_spec.specs.Packet.{packetBy, packetOf}
 use Rattle.request_spec.specs.Verdict.{single, fragment}
 use Rattle.request_spec.specs.declared.Packet.{Packet}

@@ -77,6 +77,6 @@ pub fn inbound(
     let value = apply::change(mem, packet, d);
     apply::keep(saved, pair.saved, d.act, d.psn, value);
     let next = apply::pair_after(pair, d);
-    apply::reply(out, pair.setup, d, next.msn, value);
+    acknowledge::write(out, pair.setup, d, next.msn, value);
     outcome_with(next, d)
 }

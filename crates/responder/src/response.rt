@@ -90,7 +90,7 @@ fn response_header(s: Setup, a: ReadAnswer, i: usize, n: usize) -> Header
     let place = pmtu::place(count, i);
     let low = response_opcode(place);
     let psn = apply::psn_after(a.psn, i);
-    let bth = apply::reply_bth(s, low, packet::pad(n), psn);
+    let bth = acknowledge::reply_bth(s, low, packet::pad(n), psn);
     let extension = response_extension(place, a);
     Header { bth, extension }
 }

@@ -209,13 +209,13 @@ duplicate-tested q regions k t = (forth, back)
     forth h =
         let a = or-right (not (q .setup .read)) _ h in
         let b = or-right (overLimit (t .length)) _ a in
-        let c = or-right (not (eqb (k .padded) 0)) _ b in
+        let c = or-right (not (eqb (k .body) 0)) _ b in
         let d = or-right (not (eqb (k .pad) 0)) _ c in
         let e = or-right (keyFails (q .setup .memory) 12 t region) _ d in
         record {
           on = is-on (q .setup .read) (or-left (not (q .setup .read)) _ h);
           limit = limit-tested (t .length) .0 (or-left (overLimit (t .length)) _ a);
-          padded = of-not (k .padded) 0 (or-left (not (eqb (k .padded) 0)) _ b);
+          body = of-not (k .body) 0 (or-left (not (eqb (k .body) 0)) _ b);
           pad = of-not (k .pad) 0 (or-left (not (eqb (k .pad) 0)) _ c);
           key = K .0 (or-left (keyFails (q .setup .memory) 12 t region) _ d) .reads refl;
           before = ltb-false (distance (q .expected .0) (k .psn .0)) (pieces (t .length) (q .setup .pmtu)) e;
@@ -225,7 +225,7 @@ duplicate-tested q regions k t = (forth, back)
     back A =
         neither (ap not (A .on))
         (neither (limit-tested (t .length) .1 (A .limit))
-        (neither (ap not (eq-eqb (k .padded) 0 (A .padded)))
+        (neither (ap not (eq-eqb (k .body) 0 (A .body)))
         (neither (ap not (eq-eqb (k .pad) 0 (A .pad)))
         (neither (K .1 (record { writes = λ e. absurd (omega arith); reads = λ e. A .key; atomics = λ e. absurd (none e) }))
         (le-ltb (distance (q .expected .0) (k .psn .0)) (pieces (t .length) (q .setup .pmtu)) (A .before))))))

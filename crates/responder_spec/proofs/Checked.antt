@@ -9,7 +9,7 @@ use lib.Dec.{leb, eqb, ltb}
 use lib.ListN.{getD}
 use borrow.Author.Tests.{leb-false, eqb-true, eqb-false, ltb-true, ltb-false}
 use Rattle.lemmas.proofs.Tests.{or-left, or-right}
-use Rattle.pmtu.specs.Pieces.{starts}
+use Rattle.opcode.specs.Place.{starts}
 use Rattle.table.specs.Table.{addresses, pastTop, outside, memoryOffset}
 use Rattle.pair.specs.declared.Setup.{Setup}
 use Rattle.pair.specs.declared.OpenMessage.{OpenMessage}
@@ -115,10 +115,10 @@ holds kind region memory address n k z h = go (eqb kind 0) refl (eqb n 0) refl h
         }
 
 -- so the bytes lie in memory, and no bytes do anyway
-pub spot-in : (kind : ℕ) (region : List ℕ) (memory address n : ℕ) → (kind ≡ 0 → ⊥) → keyLacking kind region memory address n ≡ false
+pub offset-in : (kind : ℕ) (region : List ℕ) (memory address n : ℕ) → (kind ≡ 0 → ⊥) → keyLacking kind region memory address n ≡ false
     → memoryOffset region address n + n ≤ memory
 unfolding memoryOffset
-spot-in kind region memory address n k h = go (eqb n 0) refl
+offset-in kind region memory address n k h = go (eqb n 0) refl
   where
     go : (b : Bool) → eqb n 0 ≡ b → cond b 0 (getD region 3 0 + (address - getD region 1 0)) + n ≤ memory
     go true e = omega (arith, eqb-true n 0 e)

@@ -11,7 +11,7 @@ use lib.ListN.{getD}
 use borrow.Author.Tests.{eqb-true, eqb-false, ltb-true}
 use Rattle.lemmas.proofs.Tests.{and-left, and-right}
 use Rattle.opcode.specs.Opcode.{serviceOf, lowOf, kindOf, lowClass, reservedClass, ucHas, classOf}
-use Rattle.pmtu.specs.Pieces.{starts}
+use Rattle.opcode.specs.Place.{starts}
 use Rattle.table.specs.Table.{outside, entryRow}
 use Rattle.table.specs.Claims.{EntrySound, EntriesSound}
 use Rattle.pair.specs.Claims.{Sound, MessageSound}

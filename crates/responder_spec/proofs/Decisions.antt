@@ -16,7 +16,8 @@ use Rattle.opcode.specs.Opcode.{serviceOf, lowOf, kindOf, placeOf, lowClass, re
 use Rattle.header.specs.Read.{bthOf, headerOf, readBy}
 use Rattle.header.specs.Check.{headerReason, admitted}
 use Rattle.header.specs.declared.HeaderRead.the-variants as read
-use Rattle.pmtu.specs.Pieces.{pieces, starts}
+use Rattle.opcode.specs.Place.{starts}
+use Rattle.pmtu.specs.Pieces.{pieces}
 use Rattle.table.specs.View.{newestSaved}
 use Rattle.table.specs.declared.Saved.{Saved}
 use Rattle.table.specs.declared.Saved.the-variants.{Value, Nothing}
@@ -38,8 +39,8 @@ use Rattle.responder_spec.specs.Decide.{ucExecute, ucCheckedDecision, uc
 use Rattle.responder_spec.specs.Decide.{readsFull, inboundRefusal, decided}
 use Rattle.responder_spec.specs.Kept.{Steady}
 use Rattle.responder_spec.proofs.Checked.{Checked, checked, begins}
-use Rattle.responder_spec.proofs.Leads.{beside, Leads, branch, Does, does-leads, still-leads, quiet-leads, ack-leads, again-leads}
-use Rattle.responder_spec.proofs.Executes.{whole-in, placing-does, executing-leads}
+use Rattle.responder_spec.proofs.Leads.{beside, Leads, branch, Does, does-leads, reply-only-leads, quiet-leads, ack-leads, duplicate-read-leads}
+use Rattle.responder_spec.proofs.Executes.{whole-in, storing-does, executing-leads}
 use Rattle.responder_spec.proofs.Views.{viewed, viewed-sound, current-closed, same-code}
 
 -- a READ begins a message
@@ -103,7 +104,7 @@ module _ (w : Whole) (W : Steady w) (p : Packet) where
   unfolding statusNumber
   took-closed C c =
       let D =
-      placing-does (beside w (viewed (p .place) (w .pair))) (viewed-steady w W (p .place)) p
+      storing-does (beside w (viewed (p .place) (w .pair))) (viewed-steady w W (p .place)) p
       C c in
       record { number = refl; entry = D .entry; message = D .message; read = D .read; psn = D .psn }
 
@@ -125,7 +126,7 @@ module _ (w : Whole) (W : Steady w) where
 
   atomic-leads : (s : Saved) (psn : Psn) → Leads w (duplicateAtomic s psn)
   unfolding statusNumber
-  atomic-leads (Value v) psn = still-leads w W status.DuplicateAnswered 24 psn Syndrome.ack v refl
+  atomic-leads (Value v) psn = reply-only-leads w W status.DuplicateAnswered 24 psn Syndrome.ack v refl
   atomic-leads Nothing psn = quiet-leads w W status.Dropped refl
 
   module _ (p : Packet) (n : p .psn .0 < 2 ^ 24) (s : p .kind ≡ 12 → starts (p .place) ≡ true) where
@@ -150,11 +151,11 @@ module _ (w : Whole) (W : Steady w) where
         (λ e.
         let a = or-right (notEnabled (w .pair .setup) 12) _ e in
         let b = or-right (overLimit (message .length)) _ a in
-        let c = or-right (not (eqb (p .padded) 0)) _ b in
+        let c = or-right (not (eqb (p .body) 0)) _ b in
         let d = or-right (not (eqb (p .pad) 0)) _ c in
         let f = or-left (keyFails (w .pair .setup .memory) 12 message region) _ d in
         let z : message .stored ≡ 0 = ap (λ t. cond t (begins p) (w .pair .message) .stored) (s k) in
-        again-leads w W _ (message .length) (pieces (message .length) (w .pair .setup .pmtu)) (p .psn) (omega arith)
+        duplicate-read-leads w W _ (message .length) (pieces (message .length) (w .pair .setup .pmtu)) (p .psn) (omega arith)
         (whole-in (w .pair .setup .memory) 12 message region (λ o. omega arith) z f) n)
 
     duplicate-leads : (v : Saved) → Leads w (duplicateDecision p (w .pair .setup) (w .pair .expected) message region v)

@@ -41,8 +41,8 @@ pair-of q m out D =
     }
 
 -- it is sound too
-still-sound : (q : Pair) → Sound q → Sound (stepped q)
-still-sound q S = sound-with q (stepped q) S refl refl refl refl refl refl (S .message) (go (S .read))
+stays-sound : (q : Pair) → Sound q → Sound (stepped q)
+stays-sound q S = sound-with q (stepped q) S refl refl refl refl refl refl (S .message) (go (S .read))
   where
     go : ReadSound q → ReadSound (stepped q)
     go (inl z) = inl (omega arith)
@@ -122,7 +122,7 @@ from [] q m i S e r c R =
     }
 from (out ∷ outs) q m i S e r c R =
     let D = next-answers q m out (λ z. omega arith) (R 0 (omega arith)) e S in
-    let I = from outs (stepped q) m (suc i) (still-sound q S) e (omega arith) (omega arith) (λ k h. R (suc k) (omega arith)) in
+    let I = from outs (stepped q) m (suc i) (stays-sound q S) e (omega arith) (omega arith) (λ k h. R (suc k) (omega arith)) in
     more q m (drain (nextResponse q m out .pair) m outs) (length outs) i (statusNumber (nextResponse q m out .status))
     (take (nextResponse q m out .outgoing) (nextOut q m out)) (D .number) (packet-of q m out i D (omega arith))
     (subst (λ x. From (stepped q) m (drain x m outs) (length outs) (suc i)) (sym (pair-of q m out D)) I)

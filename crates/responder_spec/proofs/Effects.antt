@@ -18,7 +18,8 @@ use Rattle.memory.specs.Word.{wordAt, fetchAdded, swapped}
 use Rattle.memory.specs.Claims.{OnlyWord}
 use Rattle.memory.proofs.Words.{fetch-within, swap-within}
 use Rattle.packet.specs.Packet.{payloadOf}
-use Rattle.pmtu.specs.Pieces.{pieces, ends}
+use Rattle.opcode.specs.Place.{ends}
+use Rattle.pmtu.specs.Pieces.{pieces}
 use Rattle.table.specs.Table.{slotAt, memoryOffset}
 use Rattle.table.specs.View.{regionOf, savedRing, savedRows}
 use Rattle.pair.specs.Answer.{statusNumber, executed}
@@ -123,13 +124,13 @@ module _ (q : Pair) (regions saved : List (List ℕ)) (m p out : List ℕ) where
   unfolding packetOf headerOf extensionOf operandsOf lowClass followsOf
   operands-by e = ap (λ c. operandsOf (extensionOf (c .follows) p)) (class-is (bthOf p .opcode) 12 reads e)
 
-  spot-some : (region : List ℕ) (address n : ℕ) → 0 < n → memoryOffset region address n ≡ getD region 3 0 + (address - getD region 1 0)
+  offset-some : (region : List ℕ) (address n : ℕ) → 0 < n → memoryOffset region address n ≡ getD region 3 0 + (address - getD region 1 0)
   unfolding memoryOffset
-  spot-some region address n h = rw (ne-eqb n 0 (λ z. omega arith))
+  offset-some region address n h = rw (ne-eqb n 0 (λ z. omega arith))
 
-  spot-none : (region : List ℕ) (address n : ℕ) → n ≡ 0 → memoryOffset region address n ≡ 0
+  offset-none : (region : List ℕ) (address n : ℕ) → n ≡ 0 → memoryOffset region address n ≡ 0
   unfolding memoryOffset
-  spot-none region address n h = rw (eq-eqb n 0 h)
+  offset-none region address n h = rw (eq-eqb n 0 h)
 
   begun-by : (d : Decision) (old : ReadAnswer) (msn : Msn) → 0 < d .responses → d .responses ≡ pieces (d .length) (q .setup .pmtu)
       → d .psn ≡ bthOf p .psn → Asks (q .setup .memory) regions (numbersOf p) (d .at) (d .length)
@@ -147,8 +148,8 @@ module _ (q : Pair) (regions saved : List (List ℕ)) (m p out : List ℕ) where
         psn = n;
         msn = refl;
         length = l;
-        offset = λ z. t ∙ spot-some (regionOf (rethOf p .key) regions) (rethOf p .address) (rethOf p .length) (omega arith);
-        empty = λ z. t ∙ spot-none (regionOf (rethOf p .key) regions) (rethOf p .address) (rethOf p .length) (omega arith);
+        offset = λ z. t ∙ offset-some (regionOf (rethOf p .key) regions) (rethOf p .address) (rethOf p .length) (omega arith);
+        empty = λ z. t ∙ offset-none (regionOf (rethOf p .key) regions) (rethOf p .address) (rethOf p .length) (omega arith);
         within = A .within;
       })
 

@@ -23,13 +23,13 @@ use Rattle.request_spec.specs.Packet.{packetOf}
 use Rattle.request_spec.specs.Claims.{Begins, GoesOn}
 use Rattle.responder_spec.specs.Inbound.{inbound}
 use Rattle.responder_spec.specs.Effects.{Left, inboundLeft, Unchanged, Abandons, Places, Table, OneOf}
-use Rattle.responder_spec.specs.Answers.{entryAtHead, packetIn, Completes, Puts}
-use Rattle.responder_spec.specs.Unreliable.{UcKeeps, UcLeaves, EntryBack, TakenAgain}
+use Rattle.responder_spec.specs.Answers.{entryAtHead, packetIn, Completes, StoresPayload}
+use Rattle.responder_spec.specs.Unreliable.{UcKeeps, UcLeaves, EntryBack, HeldEntryTaken}
 use Rattle.responder_spec.proofs.Effects.{inbound-table}
 use Rattle.responder_spec.proofs.Numbers.{uc-answers}
 use Rattle.responder_spec.proofs.Refusals.{inbound-meant}
 use Rattle.responder_spec.proofs.Answers.{head-first}
-use Rattle.responder_spec.proofs.Spans.{inbound-puts}
+use Rattle.responder_spec.proofs.Storing.{inbound-stores}
 
 -- by the row of each answer
 module _ (q : Pair) (rows : List (List ℕ)) (bytes p output : List ℕ) (l : Left) where
@@ -141,9 +141,9 @@ module _ (q : Pair) (regions entries saved : List (List ℕ)) (m p out : List �
         length = packetIn p .operands .length;
       }
 
-  puts : Puts q regions entries m p (packetIn p) own l
+  puts : StoresPayload q regions entries m p (packetIn p) own l
   puts =
-      inbound-puts q regions entries saved m p out own
+      inbound-stores q regions entries saved m p out own
       (record { own = λ g. refl; old = λ g. absurd (apart (packetIn p .place) b g) }) (inl e)
 
   storePayload : Places q saved m p l
@@ -161,8 +161,8 @@ module _ (q : Pair) (regions entries saved : List (List ℕ)) (m p out : List �
       (H .0 ∙ (ap (take 1) s ∙ sym (G .0)), H .1 ∙ (ap (drop 1) s ∙ sym (G .1)))
 
   -- an Only: the first of the ring is done with, and no message open
-  told : packetIn p .place ≡ 4 → Completes (packetIn p) (getD (entryAtHead q entries) 0 0) (length (payloadOf p)) (l .completion)
-  told z =
+  completed : packetIn p .place ≡ 4 → Completes (packetIn p) (getD (entryAtHead q entries) 0 0) (length (payloadOf p)) (l .completion)
+  completed z =
       let n : 0 + length (payloadOf p) ≡ length (payloadOf p) = omega arith in
       subst (λ x. Completes (packetIn p) (getD (entryAtHead q entries) 0 0) x (l .completion)) n (puts .sent-whole send (inr z))
 
@@ -170,18 +170,18 @@ module _ (q : Pair) (regions entries saved : List (List ℕ)) (m p out : List �
   unfolding packetOf headerOf
   only-taken z =
       let N = none-held (l .pair) entries (storePayload .ends (omega (arith, z)) .1) in
-      let s = ap (inRing entries) (storePayload .completes (told z .some)) in
+      let s = ap (inRing entries) (storePayload .completes (completed z .some)) in
       (N .0, N .1 ∙ (s ∙ (rest-ring entries (q .entries) (held-some q sound open-send) ∙ sym (one-held q entries open-send .1))))
 
-pub taken-again : TakenAgain
-taken-again q regions entries saved m p out o k b e =
+pub held-entry-taken : HeldEntryTaken
+held-entry-taken q regions entries saved m p out o k b e =
     let S = sound q regions entries saved m p out o k b e in
     record {
       held = held-first q entries S o ∙ ap (λ x. x ∷ []) (head-first q entries S);
       stands = puts q regions entries saved m p out o k b e .sends k;
       waiting = go b;
       first = λ z. first-kept q regions entries saved m p out o k b e z .0;
-      only = λ z. (only-taken q regions entries saved m p out o k b e z .0, told q regions entries saved m p out o k b e z);
+      only = λ z. (only-taken q regions entries saved m p out o k b e z .0, completed q regions entries saved m p out o k b e z);
     }
   where
     go : Begins (packetIn p .place) → waitingOf (inbound q regions entries saved m p out .pair) entries ≡ waitingOf q entries

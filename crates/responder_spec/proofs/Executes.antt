@@ -9,7 +9,7 @@ use lib.Dec.{eqb, leb, ltb}
 use lib.ListN.{getD}
 use borrow.Author.Tests.{eq-eqb, eqb-true, eqb-false, ltb-true, ltb-false}
 use Rattle.lemmas.proofs.Tests.{or-right}
-use Rattle.pmtu.specs.Pieces.{starts, ends}
+use Rattle.opcode.specs.Place.{starts, ends}
 use Rattle.table.specs.Table.{outside, memoryOffset}
 use Rattle.pair.specs.Answer.{statusNumber}
 use Rattle.pair.specs.Calls.{Whole}
@@ -26,7 +26,7 @@ use Rattle.request_spec.specs.Verdict.{lengthsOff, current}
 use Rattle.responder_spec.specs.Decide.{noCompletion, completes, completionOf, messageAfter, storePayload, runAtomic, acceptRead, execute, regionFor, headEntry}
 use Rattle.responder_spec.specs.Apply.{actsAtomic}
 use Rattle.responder_spec.specs.Kept.{Steady}
-use Rattle.responder_spec.proofs.Checked.{Checked, Follows, follows, send-or-write, holds, spot-in}
+use Rattle.responder_spec.proofs.Checked.{Checked, Follows, follows, send-or-write, holds, offset-in}
 use Rattle.responder_spec.proofs.Leads.{Leads, branch, Opens, Does, does-leads}
 
 -- a key that holds the whole of a message
@@ -38,7 +38,7 @@ whole-in memory kind m region k z h =
     let b : m .length - m .stored ≡ m .length = omega arith in
     subst (λ n. memoryOffset region (m .address) n + n ≤ memory) b
     (subst (λ x. memoryOffset region x (m .length - m .stored) + (m .length - m .stored) ≤ memory) a
-    (spot-in kind region memory (m .address + m .stored) (m .length - m .stored) k h))
+    (offset-in kind region memory (m .address + m .stored) (m .length - m .stored) k h))
 
 -- where an entry is needed and one waits, there is one
 waits : (kind place opened count : ℕ) (immediate : Bool) → needsEntry kind place immediate ≡ true
@@ -54,16 +54,16 @@ waits kind place opened count immediate h k = go (needsEntry kind place immediat
 
 module _ (w : Whole) (W : Steady w) where
   -- the open message, where nothing completes
-  under-opens : Opens w false (w .pair .message)
-  under-opens = go (W .pair .message)
+  opened-opens : Opens w false (w .pair .message)
+  opened-opens = go (W .pair .message)
     where
       go : MessageSound (w .pair) → Opens w false (w .pair .message)
       go (inl e) = inl e
       go (inr (inl (e, a, b))) = inr (inl (e, refl, a, b, W .held e))
       go (inr (inr x)) = inr (inr x)
 
-  under-limit : w .pair .message .kind ≡ 6 → w .pair .message .length ≤ 1048576
-  under-limit k = go (W .pair .message)
+  opened-limit : w .pair .message .kind ≡ 6 → w .pair .message .length ≤ 1048576
+  opened-limit k = go (W .pair .message)
     where
       go : MessageSound (w .pair) → w .pair .message .length ≤ 1048576
       go (inl e) = absurd (omega arith)
@@ -123,16 +123,16 @@ module _ (w : Whole) (W : Steady w) where
         where
           go : Follows (w .pair .message) p → current (w .pair .message) p .length ≤ 1048576
           go (inl (a, e, k)) = subst (λ x. x .length ≤ 1048576) (sym e) (ltb-false memoryLimit (p .operands .length) (C .limit))
-          go (inr (a, e, k)) = subst (λ x. x .length ≤ 1048576) (sym e) (under-limit (k ∙ z))
+          go (inr (a, e, k)) = subst (λ x. x .length ≤ 1048576) (sym e) (opened-limit (k ∙ z))
 
       total : carrying (p .kind) ≡ true → totalOff (p .kind) (p .place) (message .stored) (payloadSize p) (message .length) (getD entry 2 0) ≡ false
       unfolding lengthsOff
-      total c = go (carrying (p .kind)) c (or-right (ltb (p .padded) (p .pad)) _ (C .lengths))
+      total c = go (carrying (p .kind)) c (or-right (ltb (p .body) (p .pad)) _ (C .lengths))
         where
           go : (t : Bool) → t ≡ true
               → cond t
               (sizeOff (p .place) (w .pair .setup .pmtu) (payloadSize p) || totalOff (p .kind) (p .place) (message .stored) (payloadSize p) (message .length) (getD entry 2 0))
-              (bareOff (p .kind) (p .padded) (message .address))
+              (bareOff (p .kind) (p .body) (message .address))
               ≡ false
               → totalOff (p .kind) (p .place) (message .stored) (payloadSize p) (message .length) (getD entry 2 0) ≡ false
           go true e h = or-right (sizeOff (p .place) (w .pair .setup .pmtu) (payloadSize p)) _ h
@@ -200,9 +200,9 @@ module _ (w : Whole) (W : Steady w) where
               let a = write-fits k c e in
               inr (inr (same-kind ∙ k, a, write-limit k, write-top k a))
 
-      pub placing-does : carrying (p .kind) ≡ true → Does w (storePayload p message entry region)
+      pub storing-does : carrying (p .kind) ≡ true → Does w (storePayload p message entry region)
       unfolding storePayload completionOf actsAtomic statusNumber
-      placing-does c =
+      storing-does c =
           record {
             number = acks (p .ackreq);
             entry = λ e. done-entry (sym (same (completes (p .kind) (p .place) (p .operands .immediate)) _) ∙ e);
@@ -235,7 +235,7 @@ module _ (w : Whole) (W : Steady w) where
             record {
               number = refl;
               entry = λ e. absurd (true≢false (sym e));
-              message = under-opens;
+              message = opened-opens;
               read = inr (omega arith, whole-in (w .pair .setup .memory) (p .kind) message region (λ e. omega arith) (go (follows (w .pair .message) p (C .sequence))) (C .key), n);
               psn = λ e. absurd (true≢false (sym e));
             }
@@ -247,10 +247,10 @@ module _ (w : Whole) (W : Steady w) where
         swapping-does : Does w (runAtomic p message (w .pair .message) region)
         unfolding runAtomic statusNumber
         swapping-does =
-            record { number = refl; entry = λ e. absurd (true≢false (sym e)); message = under-opens; read = inl refl; psn = λ e. n }
+            record { number = refl; entry = λ e. absurd (true≢false (sym e)); message = opened-opens; read = inl refl; psn = λ e. n }
 
         pub executing-leads : Leads w (execute p message (w .pair .message) entry region (w .pair .setup .pmtu))
         unfolding execute
         executing-leads =
-            branch w (carrying (p .kind)) _ _ (λ c. does-leads w W _ (placing-does c))
+            branch w (carrying (p .kind)) _ _ (λ c. does-leads w W _ (storing-does c))
             (λ c. branch w (eqb (p .kind) 12) _ _ (λ e. does-leads w W _ (accepting-does (eqb-true (p .kind) 12 e))) (λ e. does-leads w W _ swapping-does))

@@ -8,7 +8,7 @@ use lib.Dec.{eqb, ltb}
 use lib.ListN.{getD}
 use borrow.Author.Tests.{eqb-false, eqb-true, ltb-true, ltb-false}
 use Rattle.lemmas.proofs.Tests.{or-right}
-use Rattle.pmtu.specs.Pieces.{ends}
+use Rattle.opcode.specs.Place.{ends}
 use Rattle.table.specs.Table.{outside, memoryOffset}
 use Rattle.pair.specs.declared.Setup.{Setup}
 use Rattle.pair.specs.declared.OpenMessage.{OpenMessage}
@@ -16,12 +16,12 @@ use Rattle.request_spec.specs.Verdict.{carrying, usesEntry, entryOutside, bytes
 use Rattle.request_spec.specs.declared.Packet.{Packet}
 use Rattle.responder_spec.specs.Decide.{targetOffset}
 use Rattle.responder_spec.proofs.Codes.{Passed}
-use Rattle.responder_spec.proofs.Checked.{spot-in}
+use Rattle.responder_spec.proofs.Checked.{offset-in}
 
 -- the bytes that a key holds
 key-holds : (kind memory : ℕ) (region : List ℕ) (address needed : ℕ) → eqb kind 0 ≡ false → keyLacking kind region memory address needed ≡ false
     → memoryOffset region address needed + needed ≤ memory
-key-holds kind memory region address needed k h = spot-in kind region memory address needed (eqb-false kind 0 k) h
+key-holds kind memory region address needed k h = offset-in kind region memory address needed (eqb-false kind 0 k) h
 
 -- a message's bytes still to come, where its key's region has them
 pub key-inside : (kind memory : ℕ) (m : OpenMessage) (region : List ℕ) → eqb kind 0 ≡ false → keyFails memory kind m region ≡ false
@@ -44,9 +44,9 @@ pub total : (p : Packet) (pmtu : ℕ) (m : OpenMessage) (most : ℕ) → carryin
     → totalOff (p .kind) (p .place) (m .stored) (payloadSize p) (m .length) most ≡ false
 unfolding lengthsOff
 total p pmtu m most c h =
-    let x = or-right (ltb (p .padded) (p .pad)) _ h in
+    let x = or-right (ltb (p .body) (p .pad)) _ h in
     or-right (sizeOff (p .place) pmtu (payloadSize p)) (totalOff (p .kind) (p .place) (m .stored) (payloadSize p) (m .length) most)
-    (subst (λ b. cond b (sizeOff (p .place) pmtu (payloadSize p) || totalOff (p .kind) (p .place) (m .stored) (payloadSize p) (m .length) most) (bareOff (p .kind) (p .padded) (m .address))
+    (subst (λ b. cond b (sizeOff (p .place) pmtu (payloadSize p) || totalOff (p .kind) (p .place) (m .stored) (payloadSize p) (m .length) most) (bareOff (p .kind) (p .body) (m .address))
     ≡ false) c x)
 
 send-total : (kind place stored size length most : ℕ) → eqb kind 0 ≡ true → totalOff kind place stored size length most ≡ false → stored + size ≤ most

@@ -104,10 +104,10 @@ module _ (w : Whole) (W : Steady w) where
   lasts : (state : ℕ) (nakmark : Bool) → state ≤ 2 → Lasting w (with (w .pair) state nakmark (w .pair .read))
   lasts state nakmark h = record { steady = with-steady w state nakmark (w .pair .read) W h (W .pair .read); saved = refl }
 
-  pub still-leads : (s : Status) (outgoing : ℕ) (psn : Psn) (syndrome value : ℕ) → leb (statusNumber s) 3 ≡ false
+  pub reply-only-leads : (s : Status) (outgoing : ℕ) (psn : Psn) (syndrome value : ℕ) → leb (statusNumber s) 3 ≡ false
       → Leads w (replyOnly s outgoing psn syndrome value)
   unfolding pairBy after readBy savedRingBy actsAtomic
-  still-leads s outgoing psn syndrome value h =
+  reply-only-leads s outgoing psn syndrome value h =
       record { steady = L .steady; entry = λ e. absurd (true≢false (sym e)); saved = L .saved; psn = λ e. absurd (true≢false (sym e)) }
     where
       L : Lasting w (pairBy (w .pair) (replyOnly s outgoing psn syndrome value))
@@ -120,18 +120,18 @@ module _ (w : Whole) (W : Steady w) where
 
   pub quiet-leads : (s : Status) → leb (statusNumber s) 3 ≡ false → Leads w (noReply s)
   unfolding noReply
-  quiet-leads s h = still-leads s 0 noPsn 0 0 h
+  quiet-leads s h = reply-only-leads s 0 noPsn 0 0 h
 
   pub ack-leads : (s : Status) (psn : Psn) (syndrome : ℕ) → leb (statusNumber s) 3 ≡ false → Leads w (acknowledging s psn syndrome)
   unfolding acknowledging
-  ack-leads s psn syndrome h = still-leads s 16 psn syndrome 0 h
+  ack-leads s psn syndrome h = reply-only-leads s 16 psn syndrome 0 h
 
   -- a duplicate READ answered
-  pub again-leads : (at length responses : ℕ) (psn : Psn)
+  pub duplicate-read-leads : (at length responses : ℕ) (psn : Psn)
       → responses ≤ pieces length (w .pair .setup .pmtu) → at + length ≤ w .pair .setup .memory → psn .0 < 2 ^ 24
       → Leads w (beginRead status.DuplicateAnswered noMessage at length 0 false responses psn)
   unfolding pairBy after readBy savedRingBy actsAtomic statusNumber
-  again-leads at length responses psn a b c =
+  duplicate-read-leads at length responses psn a b c =
       record {
         steady = with-steady w (w .pair .state) _ _ W (W .pair .state) (go (eqb responses 0));
         entry = λ e. absurd (true≢false (sym e));

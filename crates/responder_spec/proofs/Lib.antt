@@ -16,7 +16,7 @@ pub mod Replies
 pub mod Responses
 pub mod Draining
 pub mod Answers
-pub mod Spans
+pub mod Storing
 pub mod Reasons
 pub mod Uses
 pub mod Unreliable

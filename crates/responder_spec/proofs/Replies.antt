@@ -228,12 +228,12 @@ module _ (q : Pair) (saved : List (List ℕ)) (m p out : List ℕ) where
   Reply status.BadNumber l = Unit {0}
 
   module _ (S : Sound q) (P : q .setup .pkey < 2 ^ 16) (M : Bytes m) (B : Bytes p) (W : SavedSound saved (q .saved)) where
-    place-reply : (t : OpenMessage) (entry region : List ℕ) (b : Bool) → numbersOf p .ackreq ≡ b
+    store-reply : (t : OpenMessage) (entry region : List ℕ) (b : Bool) → numbersOf p .ackreq ≡ b
         → Reply (cond b status.Acknowledged status.Executed) (leftBy q saved m p out (storePayload (numbersOf p) t entry region))
     unfolding storePayload packetOf headerOf
-    place-reply t entry region true e =
+    store-reply t entry region true e =
         ack-sent q saved m p out S P (storePayload (numbersOf p) t entry region) (ap (λ b. cond b 16 0) e) (psn-small p B) (omega arith)
-    place-reply t entry region false e = tt
+    store-reply t entry region false e = tt
 
     swap-reply : (t : OpenMessage) (region : List ℕ) → Swapped (leftBy q saved m p out (runAtomic (numbersOf p) t (q .message) region))
     unfolding leftBy valueBy savedBy actsAtomic runAtomic packetOf headerOf
@@ -266,7 +266,7 @@ module _ (q : Pair) (saved : List (List ℕ)) (m p out : List ℕ) where
           value-sent q saved m p out S P (replyOnly status.DuplicateAnswered 24 (bthOf p .psn) 31 v) v refl (psn-small p B)
               refl refl (subst Small e (saved-small (bthOf p .psn .0) saved (q .saved) W)),
         ))
-    reply regions d (place t entry region w) = place-reply t entry region (numbersOf p .ackreq) refl
+    reply regions d (place t entry region w) = store-reply t entry region (numbersOf p .ackreq) refl
     reply regions d (begin at n a s) = tt
     reply regions d (swap t region w) = swap-reply t region
 

@@ -94,9 +94,9 @@ header-fits q m A i n =
     (extension-fits (classOf (h .bth .opcode) .follows) (h .extension) (H .follows) (H .widths (live q (A .sound) (A .some) .msn)))
 
 -- bytes up to a PMTU and their pad are no more than the PMTU, which is a multiple of 4
-padded : (n pmtu : ℕ) → n ≤ pmtu → pmtu % 4 ≡ 0 → n + padOf n ≤ pmtu
+body : (n pmtu : ℕ) → n ≤ pmtu → pmtu % 4 ≡ 0 → n + padOf n ≤ pmtu
 unfolding padOf
-padded n pmtu h e = omega arith
+body n pmtu h e = omega arith
 
 module _ (q : Pair) (m : List ℕ) (A : Answering q m) (i : ℕ) where
   payload : List ℕ
@@ -119,7 +119,7 @@ module _ (q : Pair) (m : List ℕ) (A : Answering q m) (i : ℕ) where
       let H = shape (q .read) (pieces (q .read .length) (q .setup .pmtu)) i in
       let B = bounds (q .setup .pmtu) (A .sound .setup .0 .pmtu) in
       let l : length payload ≤ q .setup .pmtu = at-most _ _ _ in
-      omega (arith, H .size, padded (length payload) (q .setup .pmtu) l (B .2))
+      omega (arith, H .size, body (length payload) (q .setup .pmtu) l (B .2))
 
   short : packetLength h (length payload) ≤ 4128
   short = omega (arith, size, bounds (q .setup .pmtu) (A .sound .setup .0 .pmtu) .1)

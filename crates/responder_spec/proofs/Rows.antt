@@ -19,7 +19,8 @@ use Rattle.header.specs.Check.{admitted, headerReason}
 use Rattle.header.specs.declared.HeaderRead.{HeaderRead}
 use Rattle.header.specs.declared.HeaderRead.the-variants as read
 use Rattle.header.proofs.Reasons.{accepted-by}
-use Rattle.pmtu.specs.Pieces.{pieces, starts}
+use Rattle.opcode.specs.Place.{starts}
+use Rattle.pmtu.specs.Pieces.{pieces}
 use Rattle.pmtu.proofs.Counting.{bounds, counts}
 use Rattle.table.specs.View.{regionOf, newestSaved}
 use Rattle.table.specs.declared.Saved.{Saved}
@@ -216,11 +217,11 @@ module _ (Q : Status → Type 0) (shut : Q status.Dropped) (q : Pair) (regions e
   atomic-row (Value v) e = reswap v e
   atomic-row Nothing e = quiet status.Dropped shut
 
-  again-key : duplicateReadFails p (q .setup) M (q .expected) (regionBy q regions p) ≡ false → keyFails (q .setup .memory) 12 M (regionBy q regions p) ≡ false
+  duplicate-key : duplicateReadFails p (q .setup) M (q .expected) (regionBy q regions p) ≡ false → keyFails (q .setup .memory) 12 M (regionBy q regions p) ≡ false
   unfolding duplicateReadFails
-  again-key h =
+  duplicate-key h =
       or-left (keyFails (q .setup .memory) 12 M (regionBy q regions p)) _
-      (or-right (not (eqb (p .pad) 0)) _ (or-right (not (eqb (p .padded) 0)) _ (or-right (overLimit (M .length)) _ (or-right (notEnabled (q .setup) 12) _ h))))
+      (or-right (not (eqb (p .pad) 0)) _ (or-right (not (eqb (p .body) 0)) _ (or-right (overLimit (M .length)) _ (or-right (notEnabled (q .setup) 12) _ h))))
 
   duplicate-row : R (duplicateDecision p (q .setup) (q .expected) M (regionBy q regions p) (newestSaved (p .psn .0) saved (q .saved)))
   unfolding duplicateDecision duplicateRead
@@ -228,7 +229,7 @@ module _ (Q : Status → Type 0) (shut : Q status.Dropped) (q : Pair) (regions e
       either R (carrying (p .kind)) again
       (branch R (eqb (p .kind) 12)
       (λ e. branch R (duplicateReadFails p (q .setup) M (q .expected) (regionBy q regions p)) (λ f. quiet status.Dropped shut)
-      (λ f. reread (memoryOffset (regionBy q regions p) (M .address) (M .length)) (M .length) (asks (eqb-true (p .kind) 12 e) 12 refl (again-key f)) (count-some q S (M .length))))
+      (λ f. reread (memoryOffset (regionBy q regions p) (M .address) (M .length)) (M .length) (asks (eqb-true (p .kind) 12 e) 12 refl (duplicate-key f)) (count-some q S (M .length))))
       (λ e. either R (isAtomic (p .kind)) (atomic-row (newestSaved (p .psn .0) saved (q .saved)) refl) (quiet status.Dropped shut)))
 
   classed-row : (c : Class) → R (decisionByClass c q p (headEntry q entries) (regionBy q regions p) (newestSaved (p .psn .0) saved (q .saved)))

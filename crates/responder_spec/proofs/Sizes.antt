@@ -10,7 +10,7 @@ use Rattle.sequence.specs.declared.Msn.{Msn}
 use Rattle.header.specs.Write.{bthBytes, aethBytes, extensionBytes, headerBytes}
 use Rattle.memory.specs.Memory.{store}
 use Rattle.memory.specs.Word.{fetchAdded, swapped}
-use Rattle.memory.proofs.Put.{length-placed}
+use Rattle.memory.proofs.Overwrite.{length-store}
 use Rattle.memory.proofs.Words.{fetch-within, swap-within}
 use Rattle.pair.specs.Answer.{executed}
 use Rattle.pair.specs.declared.Setup.{Setup}
@@ -29,7 +29,7 @@ memory-kept d m p = go (eqb (d .act) 1) (eqb (d .act) 2) (eqb (d .act) 3) (take 
   where
     go : (a b c : Bool) (x : List ℕ)
         → length (cond a (store m (d .at) x) (cond b (fetchAdded m (d .at) (d .swap)) (cond c (swapped m (d .at) (d .compare) (d .swap)) m))) ≡ length m
-    go true b c x = length-placed m (d .at) x
+    go true b c x = length-store m (d .at) x
     go false true c x = fetch-within m (d .at) (d .swap) .kept
     go false false true x = swap-within m (d .at) (d .compare) (d .swap) .kept
     go false false false x = refl

@@ -14,7 +14,7 @@ use Rattle.opcode.specs.Opcode.{serviceOf, lowOf, kindOf, lowClass, ucHas, clas
 use Rattle.header.specs.Read.{bthOf, headerOf, badLength, otherService}
 use Rattle.header.specs.Check.{pkeysMatch, wrongService, isResponse, beyondService, headerReason, admitted}
 use Rattle.header.proofs.Reasons.{accepted-by}
-use Rattle.pmtu.specs.Pieces.{starts}
+use Rattle.opcode.specs.Place.{starts}
 use Rattle.table.specs.View.{regionOf}
 use Rattle.pair.specs.Answer.{statusNumber}
 use Rattle.pair.specs.Claims.{Sound}

@@ -7,7 +7,7 @@ use mathlib.Core.Logic.{inl, inr}
 use native.Mathlib.Omega.{arith}
 use lib.Dec.{eqb, leb}
 use lib.ListN.{length, getD}
-use Rattle.pmtu.specs.Pieces.{ends}
+use Rattle.opcode.specs.Place.{ends}
 use Rattle.table.specs.Table.{slotAt}
 use Rattle.table.specs.declared.Ring.{Ring}
 use Rattle.pair.specs.Answer.{statusNumber, executed}
@@ -71,8 +71,8 @@ completed : (k : Packet) (m : OpenMessage) (number : ℕ) → completionOf k m n
 unfolding completionOf completes usesEntry
 completed k m number = go (ends (k .place)) (uses k)
   where
-    told : Completion
-    told =
+    report : Completion
+    report =
         record {
           some = true;
           number = number;
@@ -81,8 +81,8 @@ completed k m number = go (ends (k .place)) (uses k)
           value = k .operands .value;
         }
 
-    go : (a b : Bool) → cond (a && b) told noCompletion .some ≡ true
-        → (b ≡ true) × (cond (a && b) told noCompletion .number ≡ number)
+    go : (a b : Bool) → cond (a && b) report noCompletion .some ≡ true
+        → (b ≡ true) × (cond (a && b) report noCompletion .number ≡ number)
     go true true h = (refl, refl)
     go true false h = absurd (true≢false (sym h))
     go false b h = absurd (true≢false (sym h))
@@ -109,12 +109,12 @@ module _ (q : Pair) (regions entries : List (List ℕ)) (k : Packet) where
       some-entry v k S (C .sequence) (C .waiting) u
 
   -- a payload stored, whatever the answer and however many PSNs are taken
-  placed-uses : Sound q → (d : Decision) → leb (statusNumber (d .status)) 3 ≡ true
+  store-uses : Sound q → (d : Decision) → leb (statusNumber (d .status)) 3 ≡ true
       → d .completion ≡ completionOf k M (getD entry 0 0)
       → (uses k ≡ true → 1 ≤ q .entries .count)
       → Uses (q .entries) entries (d .completion) (pairBy q d .entries)
   unfolding ringTaken slotAt
-  placed-uses S d s c t =
+  store-uses S d s c t =
       let known : d .completion .some ≡ true → (uses k ≡ true) × (d .completion .number ≡ getD entry 0 0) =
       subst (λ x. x .some ≡ true → (uses k ≡ true) × (x .number ≡ getD entry 0 0)) (sym c) (completed k M (getD entry 0 0)) in
       record {
@@ -158,9 +158,9 @@ module _ (q : Pair) (regions entries : List (List ℕ)) (k : Packet) where
       → Uses (q .entries) entries (d .completion) (pairBy q d .entries)
   unfolding storePayload runAtomic statusNumber
   uses-by saved d (away x o) r = unused x (away-silent saved x r o)
-  uses-by saved d (places S z c) r = placed-uses S d (few (k .ackreq)) refl (some q S z)
+  uses-by saved d (places S z c) r = store-uses S d (few (k .ackreq)) refl (some q S z)
   uses-by saved d (exchanges S z c f) r = unused d refl
-  uses-by saved d (delivers S n z c) r = placed-uses S d refl refl (some (viewed (k .place) q) (viewed-sound (k .place) q S) z)
+  uses-by saved d (delivers S n z c) r = store-uses S d refl refl (some (viewed (k .place) q) (viewed-sound (k .place) q S) z)
 
 pub inbound-uses : InboundUses
 unfolding inbound decision outcomeBy

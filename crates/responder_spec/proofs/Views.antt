@@ -12,7 +12,7 @@ use Rattle.lemmas.proofs.Tests.{or-right}
 use Rattle.sequence.specs.Sequence.{distance, psnAfter}
 use Rattle.sequence.specs.declared.Psn.{Psn}
 use Rattle.sequence.proofs.Circle.{after-distance}
-use Rattle.pmtu.specs.Pieces.{starts}
+use Rattle.opcode.specs.Place.{starts}
 use Rattle.pair.specs.Pair.{noMessage}
 use Rattle.pair.specs.Claims.{Sound, SetupSound, MessageSound, ReadSound}
 use Rattle.pair.specs.declared.Setup.{Setup}

@@ -19,9 +19,9 @@ use Rattle.header.specs.declared.HeaderRead.{HeaderRead}
 use Rattle.header.specs.declared.HeaderRead.the-variants as read
 use Rattle.header.proofs.Reasons.{accepted-by}
 use Rattle.memory.specs.Memory.{store}
-use Rattle.memory.proofs.Put.{length-placed, placed-before, placed-after}
+use Rattle.memory.proofs.Overwrite.{length-store, store-before, store-after}
 use Rattle.packet.specs.Packet.{payloadOf}
-use Rattle.pmtu.specs.Pieces.{ends}
+use Rattle.opcode.specs.Place.{ends}
 use Rattle.table.specs.View.{regionOf, newestSaved}
 use Rattle.table.specs.declared.Saved.{Saved}
 use Rattle.table.specs.declared.Saved.the-variants.{Value, Nothing}
@@ -192,13 +192,13 @@ only-by old new at size offset n k b a lo hi =
           (sym (drop-drop r (at + size) new) ∙ (ap (drop r) a ∙ drop-drop r (at + size) old));
     }
 
-pub only-placed : (old d : List ℕ) (at offset n : ℕ) → offset ≤ at → at + length d ≤ offset + n → offset + n ≤ length old
+pub only-stored : (old d : List ℕ) (at offset n : ℕ) → offset ≤ at → at + length d ≤ offset + n → offset + n ≤ length old
     → OnlyBytes old (store old at d) offset n
-only-placed old d at offset n lo hi w =
-    only-by old (store old at d) at (length d) offset n (length-placed old at d) (placed-before old at d (omega arith)) (placed-after old at d (omega arith)) lo hi
+only-stored old d at offset n lo hi w =
+    only-by old (store old at d) at (length d) offset n (length-store old at d) (store-before old at d (omega arith)) (store-after old at d (omega arith)) lo hi
 
 -- the payload
-pub payload-size : (p : List ℕ) → length (payloadOf p) ≡ packetIn p .padded - packetIn p .pad
+pub payload-size : (p : List ℕ) → length (payloadOf p) ≡ packetIn p .body - packetIn p .pad
 unfolding payloadOf packetOf headerLength
 payload-size p =
     let s = headerLength (headerOf p) in

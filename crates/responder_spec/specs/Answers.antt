@@ -74,7 +74,7 @@ pub record Aheads (marked : Bool) (number : ℕ) : Type 0 where
 pub record ReadAnswerable (q : Pair) (regions : List (List ℕ)) (k : Packet) (t : OpenMessage) : Type 0 where
   pub on : q .setup .read ≡ true
   pub limit : t .length ≤ 1048576
-  pub padded : k .padded ≡ 0
+  pub body : k .body ≡ 0
   pub pad : k .pad ≡ 0
   pub key : GivesRest (regionOf (t .key) regions) 5 (q .setup .memory) t
   pub before : pieces (t .length) (q .setup .pmtu) ≤ distance (q .expected .0) (k .psn .0)
@@ -185,9 +185,9 @@ pub record Completes (k : Packet) (number n : ℕ) (c : Completion) : Type 0 whe
 
 -- Answers 0 and 1, on both services: where the payload went, what completes, and the message that is open behind First
 -- and Middle.
-pub record Puts (q : Pair) (regions entries : List (List ℕ)) (bytes p : List ℕ) (k : Packet) (t : OpenMessage) (l : Left) : Type 0 where
+pub record StoresPayload (q : Pair) (regions entries : List (List ℕ)) (bytes p : List ℕ) (k : Packet) (t : OpenMessage) (l : Left) : Type 0 where
   pub kind : Carries (k .kind)
-  pub carried : length (payloadOf p) ≡ k .padded - k .pad
+  pub carried : length (payloadOf p) ≡ k .body - k .pad
   pub sends : k .kind ≡ 0 → InEntry (entryAtHead q entries) (q .setup .memory) (t .stored) (payloadOf p) bytes (l .memory)
   pub writes : k .kind ≡ 6 → 0 < t .length - t .stored
       → InRegion (regionOf (t .key) regions) (q .setup .memory) (t .address + t .stored) (t .length - t .stored) (payloadOf p) bytes (l .memory)
@@ -202,11 +202,11 @@ pub record Puts (q : Pair) (regions entries : List (List ℕ)) (bytes p : List �
       → l .pair .message
       ≡ (record { kind = k .kind; stored = t .stored + length (payloadOf p); address = t .address; key = t .key; length = t .length })
 
-abbrev pub InboundPuts : Type 0
-InboundPuts =
+abbrev pub InboundStores : Type 0
+InboundStores =
     (q : Pair) (regions entries saved : List (List ℕ)) (m p out : List ℕ) (t : OpenMessage) → IsCurrent (q .message) (packetIn p) t
     → AnswersWith q regions entries saved m p out 0 ⊎ AnswersWith q regions entries saved m p out 1
-    → Puts q regions entries m p (packetIn p) t (inboundLeft q regions entries saved m p out)
+    → StoresPayload q regions entries m p (packetIn p) t (inboundLeft q regions entries saved m p out)
 
 -- Answer 3: the word lies in the region of the atomic's key, which has the right, at the atomic's address, a multiple
 -- of 8. What it was is saved with the PSN, so by InboundReplies it is also what was answered.

@@ -15,7 +15,8 @@ use Rattle.header.specs.Check.{admitted}
 use Rattle.header.specs.declared.Header.{Header}
 use Rattle.header.specs.declared.HeaderRead.{HeaderRead}
 use Rattle.header.specs.declared.HeaderRead.the-variants as read
-use Rattle.pmtu.specs.Pieces.{pieces, starts, ends}
+use Rattle.opcode.specs.Place.{starts, ends}
+use Rattle.pmtu.specs.Pieces.{pieces}
 use Rattle.table.specs.Table.{slotAt, noRegion, memoryOffset}
 use Rattle.table.specs.View.{regionOf, newestSaved}
 use Rattle.table.specs.EntryRow as EntryRow
@@ -223,7 +224,7 @@ unfoldable pub duplicateReadFails : Packet → Setup → OpenMessage → Psn →
 duplicateReadFails p s m expected region =
     notEnabled s Kind.read
     || (overLimit (m .length)
-    || (not (eqb (p .padded) 0)
+    || (not (eqb (p .body) 0)
     || (not (eqb (p .pad) 0)
     || (keyFails (s .memory) Kind.read m region
     || ltb (distance (expected .0) (p .psn .0)) (pieces (m .length) (s .pmtu))))))

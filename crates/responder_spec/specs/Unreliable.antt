@@ -119,7 +119,7 @@ EntryBack =
 
 -- A SEND that begins over an open one takes the entry that was held, from its first byte on: a First holds it again, an
 -- Only completes it. Those that wait stay. On RC no such SEND is executed.
-pub record TakesAgain (q : Pair) (entries : List (List ℕ)) (bytes p : List ℕ) (l : Left) : Type 0 where
+pub record TakesHeldEntry (q : Pair) (entries : List (List ℕ)) (bytes p : List ℕ) (l : Left) : Type 0 where
   pub held : heldOf q entries ≡ entryAtHead q entries ∷ []
   pub stands : InEntry (entryAtHead q entries) (q .setup .memory) 0 (payloadOf p) bytes (l .memory)
   pub waiting : waitingOf (l .pair) entries ≡ waitingOf q entries
@@ -127,9 +127,9 @@ pub record TakesAgain (q : Pair) (entries : List (List ℕ)) (bytes p : List ℕ
   pub only : packetIn p .place ≡ 4
       → (heldOf (l .pair) entries ≡ []) × Completes (packetIn p) (getD (entryAtHead q entries) 0 0) (length (payloadOf p)) (l .completion)
 
-abbrev pub TakenAgain : Type 0
-TakenAgain =
+abbrev pub HeldEntryTaken : Type 0
+HeldEntryTaken =
     (q : Pair) (regions entries saved : List (List ℕ)) (m p out : List ℕ) → q .message .kind ≡ 0 → packetIn p .kind ≡ 0
     → Begins (packetIn p .place)
     → AnswersWith q regions entries saved m p out 0
-    → TakesAgain q entries m p (inboundLeft q regions entries saved m p out)
+    → TakesHeldEntry q entries m p (inboundLeft q regions entries saved m p out)

@@ -41,16 +41,16 @@ use Rattle.delivery.specs.Demand.{Run, taken, Permitted, AtLeast}
 use Rattle.delivery.proofs.Chain.{Stands}
 use Rattle.delivery.proofs.Cutting.{placeFor, cutPacket, psn-small}
 use Rattle.delivery.proofs.Operands.{addressOf, keyOf, immediateOf}
-use Rattle.delivery.proofs.Rel.{IsOf, Holding, Under}
+use Rattle.delivery.proofs.Rel.{IsOf, Holding, OpenedFor}
 use Rattle.delivery.proofs.Verdicts.{passes}
 use Rattle.delivery.proofs.Fitting.{Suits, and-false}
 use Rattle.delivery.proofs.Checks.{ends-is, says, before, behind, waiting-is}
 use Rattle.delivery.proofs.Entries.{entry-fits}
 use Rattle.delivery.proofs.Requests.{Carries, Sends, Writes, send-carries, send-imm-carries, write-carries, write-imm-carries, send-sends, send-imm-sends, write-writes, write-imm-writes}
-use Rattle.delivery.proofs.Placing.{placing-told, grown-more}
-use Rattle.delivery.proofs.Landing.{in-place, send-lands, send-completes, send-long, write-lands, write-completes, write-long}
+use Rattle.delivery.proofs.Storing.{storing-completes, grown-more}
+use Rattle.delivery.proofs.InMemory.{in-place, send-memory-is, send-completes, send-long, write-memory-is, write-completes, write-long}
 use Rattle.uc_delivery.specs.Message.{firstWaiting, Supplied, target}
-use Rattle.uc_delivery.proofs.Steps.{decided-is, taken-is, at, placed-out, delivers}
+use Rattle.uc_delivery.proofs.Steps.{decided-is, taken-is, at, stored-out, delivers}
 
 -- a SEND or a WRITE
 pub kinds : (r : Request) → Carrier r → Carries r × (Sends r ⊎ Writes r)
@@ -186,7 +186,7 @@ module _ (w : Whole) (m : Message) (first : Psn) (P : Permitted (w .pair .setup)
   pub record Follows (i : ℕ) (E : Psn) (u : OpenMessage) : Type 0 where
     pub orphan : orphaned (placeFor (slot i)) (u .kind) ≡ false
     pub stray : strays (cutPacket (slot i)) E (u .kind) ≡ false
-    pub opened : Under (eqb i 0) (slot i) (closedBy (placeFor (slot i)) u) (held i)
+    pub opened : OpenedFor (eqb i 0) (slot i) (closedBy (placeFor (slot i)) u) (held i)
 
   pub stands : (i : ℕ) → i < packetCount m → Stands (w .pair .setup) (w .regions) (slot i)
   stands i h = record { allowed = P .allowed; outgoing = record { addressed = P .addressed; served = inr (uc, Cr); inside = h; first = small } }
@@ -275,25 +275,25 @@ module _ (w : Whole) (m : Message) (first : Psn) (P : Permitted (w .pair .setup)
     abbrev piece : List ℕ
     piece = pieceAt (m .bytes) (m .connection .pmtu) i
 
-    lands : Sends (m .request) ⊎ Writes (m .request) → memoryBy d mem (packetAt t) ≡ overwrite mem (target (m .request) (w .regions) (firstWaiting w) + i * m .connection .pmtu) piece
+    memory-is : Sends (m .request) ⊎ Writes (m .request) → memoryBy d mem (packetAt t) ≡ overwrite mem (target (m .request) (w .regions) (firstWaiting w) + i * m .connection .pmtu) piece
     unfolding outside
-    lands (inl Z) =
+    memory-is (inl Z) =
         let o : getD entry 1 0 + getD entry 2 0 ≤ w .pair .setup .memory =
         ltb-false (w .pair .setup .memory) (getD entry 1 0 + getD entry 2 0) (entry-fits (w .pair .setup .memory) (w .entries) (w .pair .entries) (Y .entries) (sup .some (Z .takesEntry))) in
-        send-lands (w .pair .setup) (w .regions) f t H v (held i) (F .opened) C entry Z mem (omega (arith, o, ml)) (Z .least (length (m .bytes)) (getD entry 2 0) (sup .long))
+        send-memory-is (w .pair .setup) (w .regions) f t H v (held i) (F .opened) C entry Z mem (omega (arith, o, ml)) (Z .least (length (m .bytes)) (getD entry 2 0) (sup .long))
         ∙ ap (λ k. overwrite mem (k + i * m .connection .pmtu) piece) (sym (target-send (m .request) Z (w .regions) (firstWaiting w)))
-    lands (inr Z) =
-        write-lands (w .pair .setup) (w .regions) f t H v (held i) (F .opened) C entry Z (Y .regions) mem ml
+    memory-is (inr Z) =
+        write-memory-is (w .pair .setup) (w .regions) f t H v (held i) (F .opened) C entry Z (Y .regions) mem ml
         ∙ ap (λ k. overwrite mem (k + i * m .connection .pmtu) piece) (sym (target-write (m .request) Z (w .regions) (firstWaiting w)))
 
     completionWith : Sends (m .request) ⊎ Writes (m .request)
         → (reports (completionOf (cutPacket t) M (getD entry 0 0)) ≡ cond (isLast t && takesEntry (m .request)) (completionFor (m .request) (firstWaiting w) (length (m .bytes)) ∷ []) [])
         × (completionOf (cutPacket t) M (getD entry 0 0) .some ≡ (isLast t && takesEntry (m .request)))
     completionWith (inl Z) =
-        placing-told (w .pair .setup) (w .regions) f t H v (held i) (F .opened) C entry region (firstWaiting w)
+        storing-completes (w .pair .setup) (w .regions) f t H v (held i) (F .opened) C entry region (firstWaiting w)
         (send-completes (w .pair .setup) (w .regions) f t H v (held i) (F .opened) C entry Z) (λ e. refl) (send-long (w .pair .setup) (w .regions) f t H v (held i) (F .opened) C entry Z)
     completionWith (inr Z) =
-        placing-told (w .pair .setup) (w .regions) f t H v (held i) (F .opened) C entry region (firstWaiting w)
+        storing-completes (w .pair .setup) (w .regions) f t H v (held i) (F .opened) C entry region (firstWaiting w)
         (write-completes (w .pair .setup) (w .regions) f t H v (held i) (F .opened) C entry Z) (λ e. refl) (λ e. write-long (w .pair .setup) (w .regions) f t H v (held i) (F .opened) C entry Z)
 
     -- the run after the packet
@@ -306,10 +306,10 @@ module _ (w : Whole) (m : Message) (first : Psn) (P : Permitted (w .pair .setup)
     steps out o =
         let k = kinds (m .request) Cr .1 in
         taken-is x (packetAt t) out (unanswered (1 + distance (cutPacket t .psn .0) (E .0)) d) (decides out o)
-        ∙ (placed-out w E n b u (w .pair .entries) mem cs (packetAt t) (cutPacket t) M entry region
+        ∙ (stored-out w E n b u (w .pair .entries) mem cs (packetAt t) (cutPacket t) M entry region
         ∙ λ j.
         at w (psnAfter (psnAfter first i) 1) (msnBy (ends-is (w .pair .setup) (w .regions) f t H v (held i) (F .opened) j) n) false (messageAfter (placeFor t) M (payloadSize (cutPacket t)))
-        (entriesBy (completionWith k .1 j) (w .pair .entries)) (lands k j) (cs ++ completionWith k .0 j))
+        (entriesBy (completionWith k .1 j) (w .pair .entries)) (memory-is k j) (cs ++ completionWith k .0 j))
 
     -- more packets to come: the next one's message is open
     pub more : isLast t ≡ false → IsOf (slot (suc i)) (messageAfter (placeFor t) M (payloadSize (cutPacket t)))

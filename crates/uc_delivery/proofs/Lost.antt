@@ -12,7 +12,7 @@ use Rattle.lemmas.proofs.Tests.{and-right}
 use Rattle.sequence.specs.Sequence.{distance, psnAfter}
 use Rattle.sequence.specs.declared.Psn.{Psn}
 use Rattle.sequence.proofs.Circle.{after-after, after-below}
-use Rattle.pmtu.specs.Pieces.{starts, ends}
+use Rattle.opcode.specs.Place.{starts, ends}
 use Rattle.pmtu.proofs.Counting.{bounds}
 use Rattle.pair.specs.Answer.{statusNumber}
 use Rattle.pair.specs.Claims.{SetupFit}

@@ -94,13 +94,13 @@ at w expected msn nakmark message entries memory completions =
     }
 
 -- a payload stored, and no answer sent
-pub placed-out : (w : Whole) (e : Psn) (n : Msn) (b : Bool) (u : OpenMessage) (r : Ring) (m : List ℕ) (cs : List Completion)
+pub stored-out : (w : Whole) (e : Psn) (n : Msn) (b : Bool) (u : OpenMessage) (r : Ring) (m : List ℕ) (cs : List Completion)
     (p : List ℕ) (k : Packet) (t : OpenMessage) (entry region : List ℕ)
     → let d = storePayload k t entry region in
     carriedOut (at w e n b u r m cs) (unanswered (1 + distance (k .psn .0) (e .0)) d) p
     ≡ at w (psnAfter (k .psn) 1) (msnBy (d .ends) n) false (d .message) (entriesBy (d .completion .some) r) (memoryBy d m p) (cs ++ reports (d .completion))
 unfolding pairBy after statusNumber executedPair storePayload readBy savedRingBy savedBy actsAtomic memoryBy
-placed-out w e n b u r m cs p k t entry region =
+stored-out w e n b u r m cs p k t entry region =
     ap (λ x. at w x (msnBy (storePayload k t entry region .ends) n) false (storePayload k t entry region .message) (entriesBy (storePayload k t entry region .completion .some) r) (memoryBy (storePayload k t entry region) m p) (cs ++ reports (storePayload k t entry region .completion)))
     (number-taken (k .psn) e)
 

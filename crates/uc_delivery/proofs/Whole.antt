@@ -14,8 +14,9 @@ use Rattle.sequence.specs.Sequence.{distance, psnAfter}
 use Rattle.sequence.specs.declared.Psn.{Psn}
 use Rattle.sequence.proofs.Circle.{after-after}
 use Rattle.memory.specs.Memory.{overwrite}
-use Rattle.memory.proofs.Put.{put-put, put-none}
-use Rattle.pmtu.specs.Pieces.{starts, pieceAt}
+use Rattle.memory.proofs.Overwrite.{overwrite-twice, overwrite-none}
+use Rattle.opcode.specs.Place.{starts}
+use Rattle.pmtu.specs.Pieces.{pieceAt}
 use Rattle.pmtu.specs.Claims.{Counted}
 use Rattle.pmtu.proofs.Counting.{counts, bounds}
 use Rattle.pair.specs.Calls.{Whole}
@@ -37,7 +38,7 @@ use Rattle.delivery.specs.Plain.{takesEntry, isLast, completionFor}
 use Rattle.delivery.specs.Demand.{Run, taken, Addressed, Permitted}
 use Rattle.delivery.proofs.Cutting.{placeFor, cutPacket}
 use Rattle.delivery.proofs.Places.{starts-at}
-use Rattle.delivery.proofs.Rel.{IsOf, Under}
+use Rattle.delivery.proofs.Rel.{IsOf, OpenedFor}
 use Rattle.uc_delivery.specs.Message.{Standing, Supplied, firstWaiting, target, handedAll, handed, HandedWhole}
 use Rattle.uc_delivery.proofs.Steps.{at}
 use Rattle.uc_delivery.proofs.Follow.{holding, holds, heldAt, Follows, steps, more, done, bounded, kept, steady}
@@ -50,13 +51,13 @@ grows m base d pmtu i (inl z) h =
     let a : length (take (i * pmtu) d) ≡ 0 = simp length-take (omega arith) in
     let b : length (take pmtu (drop (i * pmtu) d)) ≡ 0 = simp (length-take, length-drop) (omega arith) in
     let c : length (take (suc i * pmtu) d) ≡ 0 = simp length-take (omega arith) in
-    put-none (overwrite m base (take (i * pmtu) d)) (base + i * pmtu) (take pmtu (drop (i * pmtu) d)) b
-    ∙ (put-none m base (take (i * pmtu) d) a ∙ sym (put-none m base (take (suc i * pmtu) d) c))
+    overwrite-none (overwrite m base (take (i * pmtu) d)) (base + i * pmtu) (take pmtu (drop (i * pmtu) d)) b
+    ∙ (overwrite-none m base (take (i * pmtu) d) a ∙ sym (overwrite-none m base (take (suc i * pmtu) d) c))
 grows m base d pmtu i (inr g) h =
     let l : length (take (i * pmtu) d) ≡ i * pmtu = simp length-take (omega arith) in
     let k : i * pmtu + pmtu ≡ suc i * pmtu = omega arith in
     ap (λ n. overwrite (overwrite m base (take (i * pmtu) d)) (base + n) (take pmtu (drop (i * pmtu) d))) (sym l)
-    ∙ (put-put m base (take (i * pmtu) d) (take pmtu (drop (i * pmtu) d)) g
+    ∙ (overwrite-twice m base (take (i * pmtu) d) (take pmtu (drop (i * pmtu) d)) g
     ∙ ap (overwrite m base) (sym (take-add (i * pmtu) pmtu d) ∙ ap (λ n. take n d) k))
 
 -- the packets take all bytes, and fewer of them do not
@@ -109,8 +110,8 @@ module _ (w : Whole) (m : Message) (first : Psn) (P : Permitted (w .pair .setup)
         orphan = rw (s, k);
         stray = rw (s, e) (ap not (eq-eqb (u .kind) (kindNumber (m .request)) (I .kind)));
         opened =
-            subst (λ b. Under b (slot (suc i)) (closedBy (placeFor (slot (suc i))) u) (heldAt b (m .request) (firstWaiting w))) (sym (ne-eqb (suc i) 0 (λ z. absurd (omega arith))))
-            (subst (λ v. Under false (slot (suc i)) v (holding (m .request) (firstWaiting w))) (sym (stays i h u))
+            subst (λ b. OpenedFor b (slot (suc i)) (closedBy (placeFor (slot (suc i))) u) (heldAt b (m .request) (firstWaiting w))) (sym (ne-eqb (suc i) 0 (λ z. absurd (omega arith))))
+            (subst (λ v. OpenedFor false (slot (suc i)) v (holding (m .request) (firstWaiting w))) (sym (stays i h u))
             (I, holds (m .request) (firstWaiting w) (length (m .bytes)) (sup .long)));
       }
 
@@ -200,6 +201,6 @@ handed-whole outs m first x K allowed sup =
     let e : suc k ≡ packetCount m = omega arith in
     let b = bounded w m first P (K .carries) small (S .unreliable) (S .ready) (S .idle) sup 0 n (w .pair .expected) (w .pair .msn) (w .pair .nakmark) (w .pair .message) (x .memory) (x .completions) G (S .steady) (K .memory) in
     let none : x .memory ≡ overwrite (x .memory) (target (m .request) (w .regions) (firstWaiting w)) (take (0 * m .connection .pmtu) (m .bytes)) =
-    sym (put-none (x .memory) (target (m .request) (w .regions) (firstWaiting w)) (take (0 * m .connection .pmtu) (m .bytes)) (simp length-take (omega (arith, zero-mul (m .connection .pmtu))))) in
+    sym (overwrite-none (x .memory) (target (m .request) (w .regions) (firstWaiting w)) (take (0 * m .connection .pmtu) (m .bytes)) (simp length-take (omega (arith, zero-mul (m .connection .pmtu))))) in
     subst (λ j. handed outs m first x 0 (replicate j true) ≡ handedAll x m first) e
     (rest w m first P (K .carries) small S sup (x .memory) (x .completions) outs (K .outputs) b k 0 (omega arith) (w .pair .expected) (w .pair .nakmark) (w .pair .message) (x .memory) G none (S .steady) (K .memory))

@@ -23,8 +23,8 @@ use Rattle.responder_spec.proofs.Effects.{inbound-table}
 use Rattle.abi_spec.specs.Pair.{pairOf, pairWords, malformed}
 use Rattle.abi_spec.specs.Rows.{malformedFrom}
 use Rattle.abi_spec.specs.Claims.{PairFields}
-use Rattle.abi_spec.proofs.Laws.{let-in, pair-back, others-malformed}
-use Rattle.abi_spec.proofs.Regions.{regions-let-in, rows-tested}
+use Rattle.abi_spec.proofs.Laws.{words-accepted, pair-back, others-malformed}
+use Rattle.abi_spec.proofs.Regions.{regions-accepted, rows-tested}
 use Rattle.udalopek_spec.specs.Packets.{names, malformedFor, refused, inboundNumber, inboundWords, inboundRows}
 use Rattle.udalopek_spec.specs.Packets.{inboundBytes, inboundOutput, inboundReport, reportWords, nextNumber}
 use Rattle.udalopek_spec.specs.Packets.{nextWords, nextOutput, nextReport}
@@ -56,7 +56,7 @@ unfolding inboundNumber inboundWords inboundRows inboundBytes inboundOutput inbo
 inbound-keeps w regions entries saved m p out h =
     let b = refused w regions p in
     let t = inbound-table (pairOf w) regions entries saved m p out in (
-      behind b _ w _ (λ e g. ap pairWords (t .quiet g .pair) ∙ sym (let-in w (let-through w regions p e))) h,
+      behind b _ w _ (λ e g. ap pairWords (t .quiet g .pair) ∙ sym (words-accepted w (let-through w regions p e))) h,
       behind b _ saved _ (λ e g. t .quiet g .unexecuted .saved) h,
       behind b _ m _ (λ e g. t .quiet g .unexecuted .memory) h,
       behind b _ out _ (λ e g. t .quiet g .out) h,
@@ -69,7 +69,7 @@ inbound-keeps w regions entries saved m p out h =
 readable : (q : Pair) (regions : List (List ℕ)) (p : List ℕ) → Readable q regions p → malformedFor regions (q .setup .memory) p ≡ false
 unfolding malformedFor
 readable q regions p (inl e) = ap (λ b. cond b (malformedFrom regions (q .setup .memory) 0 16) false) e
-readable q regions p (inr (s, k)) = ap (λ b. cond (names p) b false) (regions-let-in (q .setup .memory) regions s k) ∙ both (names p)
+readable q regions p (inr (s, k)) = ap (λ b. cond (names p) b false) (regions-accepted (q .setup .memory) regions s k) ∙ both (names p)
   where
     both : (b : Bool) → cond b false false ≡ false
     both true = refl
@@ -152,7 +152,7 @@ reset-is q rows f s =
 -- its table has no row out of range
 even : (q : Pair) (rows : List (List ℕ)) → PairFields q → RegionsSound (q .setup .memory) rows → Keyed rows → malformedRegions (pairWords q) rows ≡ false
 unfolding malformedRegions
-even q rows f s k = ap (λ x. malformedFrom rows (x .setup .memory) 0 16) (pair-back q f .0) ∙ regions-let-in (q .setup .memory) rows s k
+even q rows f s k = ap (λ x. malformedFrom rows (x .setup .memory) 0 16) (pair-back q f .0) ∙ regions-accepted (q .setup .memory) rows s k
 
 pub add-is : AddIs
 unfolding addNumber addTable

@@ -14,7 +14,7 @@ use Rattle.pair.specs.Host.{readyStatus, addStatus, addRegions, removeStatus, r
 use Rattle.pair.specs.Host.{postEntries}
 use Rattle.responder_spec.specs.Response.{nextResponse, nextStatus, nextOut}
 use Rattle.abi_spec.specs.Pair.{pairOf, pairWords, malformed}
-use Rattle.abi_spec.proofs.Laws.{let-in, others-malformed}
+use Rattle.abi_spec.proofs.Laws.{words-accepted, others-malformed}
 use Rattle.udalopek_spec.specs.Packets.{nextNumber, nextWords, nextOutput, nextReport}
 use Rattle.udalopek_spec.specs.Host.{otherLength, unmade, malformedRegions, setUpNumber, setUpWords, setUpTable}
 use Rattle.udalopek_spec.specs.Host.{resetNumber, resetWords, resetTable, readyNumber, readyWords, addNumber}
@@ -38,7 +38,7 @@ kept s x y h = ap (λ b. cond b y x) (not-done s h)
 
 -- the words of the pair that words say, where it is as it was
 words-kept : (w : List ℕ) (s : Status) (q : Pair) → malformed w ≡ false → 32 ≤ statusNumber s → pairWords (cond (executed s) q (pairOf w)) ≡ w
-words-kept w s q e h = ap pairWords (kept s (pairOf w) q h) ∙ sym (let-in w e)
+words-kept w s q e h = ap pairWords (kept s (pairOf w) q h) ∙ sym (words-accepted w e)
 
 pub post-keeps : PostKeeps
 unfolding postNumber postWords postTable posted postEntries

@@ -8,7 +8,7 @@ use native.Mathlib.Omega.{arith}
 use Rattle.pair.specs.declared.Pair.{Pair}
 use Rattle.abi_spec.specs.Words.{eqWords, overwriteWords}
 use Rattle.abi_spec.specs.Pair.{pairOf, pairWords, malformed}
-use Rattle.abi_spec.proofs.Laws.{put-pair}
+use Rattle.abi_spec.proofs.Laws.{overwrite-pair}
 use Rattle.udalopek_spec.specs.Packets.{refused, malformedFor, names}
 
 -- a test that is false leads to the second, one that is true to the first
@@ -37,10 +37,10 @@ pub thirty-four : _≡_ {A = ℕ} 34 0 → ⊥
 thirty-four e = omega arith
 
 -- words read, written anew and compared with themselves: whether they are malformed
-pub strange-by : (w own : List ℕ) (q : Pair) (s : Bool) → q ≡ pairOf w → own ≡ pairWords q → s ≡ eqWords w own → malformed w ≡ not s
+pub malformed-by : (w own : List ℕ) (q : Pair) (s : Bool) → q ≡ pairOf w → own ≡ pairWords q → s ≡ eqWords w own → malformed w ≡ not s
 unfolding malformed
-strange-by w own q s a b c = ap not (ap (λ x. eqWords w (pairWords x)) (sym a) ∙ ap (eqWords w) (sym b) ∙ sym c)
+malformed-by w own q s a b c = ap not (ap (λ x. eqWords w (pairWords x)) (sym a) ∙ ap (eqWords w) (sym b) ∙ sym c)
 
 -- a pair written over words that were accepted
 pub left-words : (w own new : List ℕ) (q : Pair) → malformed w ≡ false → own ≡ pairWords q → new ≡ overwriteWords w own → new ≡ pairWords q
-left-words w own new q p b e = e ∙ ap (overwriteWords w) b ∙ put-pair w q p
+left-words w own new q p b e = e ∙ ap (overwriteWords w) b ∙ overwrite-pair w q p

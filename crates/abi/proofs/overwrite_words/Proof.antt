@@ -5,7 +5,7 @@ use mathlib.Core.List.{List, _++_}
 use lib.ListN.{length, take, drop, set, getD, length-set}
 use borrow.Author.Tests.{eq-eqb, ne-eqb}
 use Rattle.abi_spec.specs.Words.{overwriteWords}
-use Rattle.abi_spec.proofs.Lists.{put-one, put-all}
+use Rattle.abi_spec.proofs.Lists.{overwrite-one, overwrite-all}
 use borrow.Author.Needs.{needs}
 use native.Mathlib.Omega.{arith}
 use Rattle.abi.proofs.overwrite_words.Statement.{statement}
@@ -46,7 +46,7 @@ loop-again : tie.Need-loop-again Inv-loop μ-loop
 loop-again c =
     let C = c .before .before in
     let A = C .before .before .args in
-    (omega arith, (ap (λ (l : List ℕ). set l (C .loop .i) (getD (A .new .now) (C .loop .i) 0)) (C .loop .inv .1 .0) ∙ put-one (A .new .now) (A .words .now) (C .loop .i) (omega arith) (omega arith) ∙ ap (λ (n : ℕ). take n (A .new .now) ++ drop n (A .words .now)) (sym (add-one (C .loop .i))), length-set (C .loop .words) (C .loop .i) _ ∙ C .loop .inv .1 .1))
+    (omega arith, (ap (λ (l : List ℕ). set l (C .loop .i) (getD (A .new .now) (C .loop .i) 0)) (C .loop .inv .1 .0) ∙ overwrite-one (A .new .now) (A .words .now) (C .loop .i) (omega arith) (omega arith) ∙ ap (λ (n : ℕ). take n (A .new .now) ++ drop n (A .words .now)) (sym (add-one (C .loop .i))), length-set (C .loop .words) (C .loop .i) _ ∙ C .loop .inv .1 .1))
 
 same-length : tie.Need-same-length Inv-loop μ-loop
 same-length c = search needs
@@ -57,7 +57,7 @@ returns-2 c =
     let C = c .before in
     let A = C .before .before .args in
     let e : C .loop .i ≡ length (A .new .now) = omega arith in
-    rw (eq-eqb _ _ (C .before .if1 .left)) (C .loop .inv .1 .0 ∙ ap (λ (n : ℕ). take n (A .new .now) ++ drop n (A .words .now)) e ∙ put-all (A .new .now) (A .words .now) (omega arith))
+    rw (eq-eqb _ _ (C .before .if1 .left)) (C .loop .inv .1 .0 ∙ ap (λ (n : ℕ). take n (A .new .now) ++ drop n (A .words .now)) e ∙ overwrite-all (A .new .now) (A .words .now) (omega arith))
 
 pub overwrite-words-spec : {M : Type 1} → statement M
 overwrite-words-spec =

@@ -1,4 +1,4 @@
-use Rattle.cut_spec.proofs.Steps.{refused, span-inside, whole}
+use Rattle.cut_spec.proofs.Steps.{refused, range-inside, whole}
 use borrow.Author.Needs.{needs}
 use Rattle.cut.proofs.cut.Statement.{statement}
 use Rattle.cut.proofs.cut.Tie as tie
@@ -24,17 +24,17 @@ part-requires c κs = search needs
 sub-write : tie.Need-sub-write
 sub-write c =
     let c1 = c .before in let c7 = c1 .before .before .before .before .before .before in
-    span-inside (c7 .args .request) _ _ _ _ _ (c1 .carried-length .ensures) (c .part .ensures) .0
+    range-inside (c7 .args .request) _ _ _ _ _ (c1 .carried-length .ensures) (c .part .ensures) .0
 
 part-write-start : tie.Need-part-write-start
 part-write-start c =
     let c1 = c .before in let c7 = c1 .before .before .before .before .before .before in
-    span-inside (c7 .args .request) _ _ _ _ _ (c1 .carried-length .ensures) (c .part .ensures) .0
+    range-inside (c7 .args .request) _ _ _ _ _ (c1 .carried-length .ensures) (c .part .ensures) .0
 
 part-write-end : tie.Need-part-write-end
 part-write-end c =
     let c1 = c .before in let c7 = c1 .before .before .before .before .before .before in
-    span-inside (c7 .args .request) _ _ _ _ _ (c1 .carried-length .ensures) (c .part .ensures) .1
+    range-inside (c7 .args .request) _ _ _ _ _ (c1 .carried-length .ensures) (c .part .ensures) .1
 
 write-requires : tie.Need-write-requires
 write-requires c κs = search needs

@@ -1,6 +1,7 @@
 use mathlib.Core.Path.{_≡_, sym, ap, subst}
 use lib.Dec.{eqb}
-use Rattle.duplicate.proofs.Keys.{begun}
+use Rattle.request_checks.proofs.Keys.{begun}
+use Rattle.request_spec.specs.Verdict.{single}
 use Rattle.responder_spec.specs.Decide.{regionFor}
 use borrow.Author.Needs.{needs}
 use Rattle.duplicate.proofs.read.Statement.{statement}
@@ -16,9 +17,11 @@ region-of-requires : tie.Need-region-of-requires
 region-of-requires c κs = search needs
 
 duplicate-read-requires : tie.Need-duplicate-read-requires
+unfolding single
 duplicate-read-requires c κs =
     let S = c .before .before .before .before in
-    subst (λ x. x .stored ≡ 0) (sym (c .before .before .current .ensures)) (begun (S .args .pair .message) (S .args .p) (S .pre .0) (S .pre .1))
+    subst (λ x. x .stored ≡ 0) (sym (c .before .before .current .ensures))
+    (begun (S .args .pair .message) (S .args .p) (S .pre .0) (ap single (S .pre .1)))
 
 returns : tie.Need-returns
 unfolding regionFor

@@ -3,7 +3,7 @@ use mathlib.Core.Path.{refl, sym, ap, _∙_}
 use native.Mathlib.Omega.{arith}
 use lib.ListN.{length}
 use borrow.Rule.Slice.PartMut.{putMid}
-use Rattle.memory.proofs.Put.{placed-over, placed-put, copied}
+use Rattle.memory.proofs.Overwrite.{store-past, store-overwrite, copied}
 use borrow.Author.Needs.{needs}
 use Rattle.memory.proofs.store.Statement.{statement}
 use Rattle.memory.proofs.store.Tie as tie
@@ -11,7 +11,7 @@ use Rattle.memory.proofs.store.Tie as tie
 returns : tie.Need-returns
 returns c =
     let A = c .before .before .before .args in
-    sym (placed-over (A .mem .now) (A .at) (A .payload .now) (omega arith))
+    sym (store-past (A .mem .now) (A .at) (A .payload .now) (omega arith))
 
 sub-if2 : tie.Need-sub-if2
 sub-if2 c = search needs
@@ -19,7 +19,7 @@ sub-if2 c = search needs
 returns-2 : tie.Need-returns-2
 returns-2 c =
     let A = c .before .before .before .before .args in
-    sym (placed-over (A .mem .now) (A .at) (A .payload .now) (omega arith))
+    sym (store-past (A .mem .now) (A .at) (A .payload .now) (omega arith))
 
 add-end : tie.Need-add-end
 add-end c = search needs
@@ -45,7 +45,7 @@ returns-3 c =
     let h : A .at + length (A .payload .now) ≤ length (A .mem .now) = omega arith in
     ap (putMid (A .at) (A .at + length (A .payload .now) - A .at) (A .mem .now)) (c .before .before .copy .ensures .1)
     ∙ (copied (A .mem .now) (A .payload .now) (A .at) (A .at + length (A .payload .now)) refl
-    ∙ sym (placed-put (A .mem .now) (A .at) (A .payload .now) h))
+    ∙ sym (store-overwrite (A .mem .now) (A .at) (A .payload .now) h))
 
 pub store-spec : {M : Type 1} → statement M
 store-spec =

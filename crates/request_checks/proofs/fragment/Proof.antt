@@ -2,7 +2,7 @@ use Rattle.request_spec.specs.Verdict.{fragment}
 use borrow.Author.Needs.{needs}
 use Rattle.request_checks.proofs.fragment.Statement.{statement}
 use Rattle.request_checks.proofs.fragment.Tie as tie
-use Rattle.pmtu.proofs.starts.Reads as starts-reads
+use Rattle.opcode.proofs.starts.Reads as starts-reads
 use Rattle.request_checks.proofs.single.Reads as single-reads
 
 single-requires : tie.Need-single-requires

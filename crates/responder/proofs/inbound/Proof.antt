@@ -4,7 +4,7 @@ use Rattle.responder.proofs.inbound.Statement.{statement}
 use Rattle.responder.proofs.inbound.Tie as tie
 use Rattle.responder.proofs.inbound.Reads as reads
 use Rattle.responder.proofs.inbound.Lts as lts
-use Rattle.apply.proofs.reply.Reads as reply-reads
+use Rattle.acknowledge.proofs.write.Reads as write-reads
 use Rattle.apply.proofs.change.Reads as change-reads
 use Rattle.apply.proofs.keep.Reads as keep-reads
 use Rattle.apply.proofs.pair_after.Reads as pair-after-reads
@@ -65,8 +65,8 @@ keep-requires c κs = search needs
 pair-after-requires : tie.Need-pair-after-requires
 pair-after-requires c κs = search needs
 
-reply-requires : tie.Need-reply-requires
-reply-requires c κs = search needs
+write-requires : tie.Need-write-requires
+write-requires c κs = search needs
 
 outcome-with-requires : tie.Need-outcome-with-requires
 outcome-with-requires c κs = search needs
@@ -89,7 +89,7 @@ returns-3 c =
     (c18 .admit .result) (c18 .admit .ensures) _ _ (c16 .found .given .1)
     (c14 .packet-of .result) (c14 .packet-of .ensures) (c12 .decision .result) (c12 .decision .ensures)
     _ (c10 .change .ensures .1) (c10 .change .result) (c10 .change .ensures .0) _ (c6 .keep .ensures)
-    (c5 .pair-after .result) (c5 .pair-after .ensures) _ (c3 .reply .ensures) (c .outcome-with .result) (c .outcome-with .ensures)
+    (c5 .pair-after .result) (c5 .pair-after .ensures) _ (c3 .write .ensures) (c .outcome-with .result) (c .outcome-with .ensures)
 
 pub inbound-spec : {M : Type 1} → statement M
 inbound-spec =
@@ -109,7 +109,7 @@ inbound-spec =
     change-requires
     keep-requires
     pair-after-requires
-    reply-requires
+    write-requires
     outcome-with-requires
     same-length
     same-length-2

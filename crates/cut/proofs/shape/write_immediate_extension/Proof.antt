@@ -1,5 +1,5 @@
 use borrow.Author.Tests.{le-leb, le-ltb, lt-leb, lt-ltb}
-use Rattle.pmtu.specs.Pieces.{ends}
+use Rattle.opcode.specs.Place.{ends}
 use Rattle.cut_spec.specs.Cut.{writeImmediateExtension}
 use borrow.Author.Needs.{needs}
 use Rattle.cut.proofs.shape.write_immediate_extension.Statement.{statement}

@@ -4,7 +4,7 @@ use borrow.Author.Needs.{needs}
 use Rattle.execute.proofs.message.completes.Statement.{statement}
 use Rattle.execute.proofs.message.completes.Tie as tie
 use Rattle.request_checks.proofs.uses_entry.Reads as uses-entry-reads
-use Rattle.pmtu.proofs.ends.Reads as ends-reads
+use Rattle.opcode.proofs.ends.Reads as ends-reads
 
 ends-requires : tie.Need-ends-requires
 ends-requires c κs = search needs

@@ -3,7 +3,7 @@ use borrow.Author.Needs.{needs}
 use Rattle.execute.proofs.message.message_after.Statement.{statement}
 use Rattle.execute.proofs.message.message_after.Tie as tie
 use Rattle.pair.proofs.no_message.Reads as no-message-reads
-use Rattle.pmtu.proofs.ends.Reads as ends-reads
+use Rattle.opcode.proofs.ends.Reads as ends-reads
 
 ends-requires : tie.Need-ends-requires
 ends-requires c κs = search needs

@@ -9,7 +9,7 @@ use Rattle.execute.proofs.message.completion_of.Reads as completion-of-
 use Rattle.execute.proofs.message.message_after.Reads as message-after-reads
 use Rattle.execute.proofs.message.target_offset.Reads as target-offset-reads
 use Rattle.number.proofs.saturating_sub.Reads as saturating-sub-reads
-use Rattle.pmtu.proofs.ends.Reads as ends-reads
+use Rattle.opcode.proofs.ends.Reads as ends-reads
 
 saturating-sub-requires : tie.Need-saturating-sub-requires
 saturating-sub-requires c κs = search needs

@@ -5,7 +5,7 @@ use Rattle.execute.proofs.uc.closed_by.Tie as tie
 use Rattle.execute.proofs.uc.closed_by.Reads as reads
 use Rattle.execute.proofs.uc.closed_by.Lts as lts
 use Rattle.pair.proofs.no_message.Reads as no-message-reads
-use Rattle.pmtu.proofs.starts.Reads as starts-reads
+use Rattle.opcode.proofs.starts.Reads as starts-reads
 
 starts-requires : tie.Need-starts-requires
 starts-requires c κs = search needs

@@ -4,7 +4,7 @@ use Rattle.execute.proofs.uc.orphaned.Statement.{statement}
 use Rattle.execute.proofs.uc.orphaned.Tie as tie
 use Rattle.execute.proofs.uc.orphaned.Reads as reads
 use Rattle.execute.proofs.uc.orphaned.Lts as lts
-use Rattle.pmtu.proofs.starts.Reads as starts-reads
+use Rattle.opcode.proofs.starts.Reads as starts-reads
 
 starts-requires : tie.Need-starts-requires
 starts-requires c κs = search needs

@@ -5,7 +5,7 @@ use Rattle.execute.proofs.uc.strays.Statement.{statement}
 use Rattle.execute.proofs.uc.strays.Tie as tie
 use Rattle.execute.proofs.uc.strays.Reads as reads
 use Rattle.execute.proofs.uc.strays.Lts as lts
-use Rattle.pmtu.proofs.starts.Reads as starts-reads
+use Rattle.opcode.proofs.starts.Reads as starts-reads
 use Rattle.sequence.proofs.Psn.distance.Reads as distance-reads
 
 starts-requires : tie.Need-starts-requires

@@ -3,7 +3,7 @@ use borrow.Author.Needs.{needs}
 use Rattle.request_checks.proofs.lengths.size_off.Statement.{statement}
 use Rattle.request_checks.proofs.lengths.size_off.Tie as tie
 use Rattle.request_checks.proofs.lengths.empty_last.Reads as empty-last-reads
-use Rattle.pmtu.proofs.ends.Reads as ends-reads
+use Rattle.opcode.proofs.ends.Reads as ends-reads
 
 ends-requires : tie.Need-ends-requires
 ends-requires c κs = search needs

@@ -7,7 +7,7 @@ use Rattle.request_checks.proofs.lengths.no_more.Reads as no-more-reads
 use Rattle.request_checks.proofs.lengths.over.Reads as over-reads
 use Rattle.request_checks.proofs.lengths.unequal.Reads as unequal-reads
 use Rattle.number.proofs.usize_to_u64.Reads as usize-to-u64-reads
-use Rattle.pmtu.proofs.ends.Reads as ends-reads
+use Rattle.opcode.proofs.ends.Reads as ends-reads
 
 usize-to-u64-requires : tie.Need-usize-to-u64-requires
 usize-to-u64-requires c κs = search needs

@@ -2,7 +2,7 @@ use Rattle.request_spec.specs.Verdict.{outOfSequence}
 use borrow.Author.Needs.{needs}
 use Rattle.request_checks.proofs.place.out_of_sequence.Statement.{statement}
 use Rattle.request_checks.proofs.place.out_of_sequence.Tie as tie
-use Rattle.pmtu.proofs.starts.Reads as starts-reads
+use Rattle.opcode.proofs.starts.Reads as starts-reads
 
 starts-requires : tie.Need-starts-requires
 starts-requires c κs = search needs

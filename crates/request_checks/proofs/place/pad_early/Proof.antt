@@ -2,7 +2,7 @@ use Rattle.request_spec.specs.Verdict.{padEarly}
 use borrow.Author.Needs.{needs}
 use Rattle.request_checks.proofs.place.pad_early.Statement.{statement}
 use Rattle.request_checks.proofs.place.pad_early.Tie as tie
-use Rattle.pmtu.proofs.ends.Reads as ends-reads
+use Rattle.opcode.proofs.ends.Reads as ends-reads
 
 ends-requires : tie.Need-ends-requires
 ends-requires c κs = search needs

@@ -3,7 +3,7 @@ use mathlib.Core.Bool.{true, false}
 use Rattle.pair.specs.Answer.{statusNumber}
 use Rattle.abi_spec.specs.Pair.{malformed, pairWords}
 use Rattle.pair.specs.Host.{posted, postEntries}
-use Rattle.udalopek_spec.proofs.Steps.{second, first, strange-by, left-words}
+use Rattle.udalopek_spec.proofs.Steps.{second, first, malformed-by, left-words}
 use Rattle.udalopek_spec.specs.Host.{postNumber, postWords, postTable}
 use borrow.Author.Needs.{needs}
 use Rattle.udalopek.proofs.host.udalopek_post_entry.Statement.{statement}
@@ -30,7 +30,7 @@ returns c =
     let c1 = c .before in let c4 = c1 .before .before .before in let c5 = c4 .before in
     let A = c5 .before .before .before .args in
     let q = c5 .pair-of .ensures in
-    let p : malformed (A .pair .now) ≡ true = strange-by (A .pair .now) _ _ _ q (c4 .pair-words .ensures .0) (c1 .same .ensures) ∙ c .if1 .taken in
+    let p : malformed (A .pair .now) ≡ true = malformed-by (A .pair .now) _ _ _ q (c4 .pair-words .ensures .0) (c1 .same .ensures) ∙ c .if1 .taken in
     (first _ 34 _ p, (first _ _ _ p, (first _ _ _ p, refl)))
 
 post-entry-requires : tie.Need-post-entry-requires
@@ -59,7 +59,7 @@ returns-2 c =
     let c15 = c14 .before in
     let A = c15 .before .before .before .args in
     let q = c15 .pair-of .ensures in
-    let p : malformed (A .pair .now) ≡ false = strange-by (A .pair .now) _ _ _ q (c14 .pair-words .ensures .0) (c11 .same .ensures) ∙ c10 .if1 .left in
+    let p : malformed (A .pair .now) ≡ false = malformed-by (A .pair .now) _ _ _ q (c14 .pair-words .ensures .0) (c11 .same .ensures) ∙ c10 .if1 .left in
     let l = left-words (A .pair .now) _ _ _ p (c6 .pair-words2 .ensures .0) (c3 .overwrite-words .ensures) in
     let s = ap malformed l ∙ sym (ap malformed (c6 .pair-words2 .ensures .0)) ∙ c6 .pair-words2 .ensures .1 ∙ sym p in
     let o = c8 .post-entry .ensures .0 ∙ ap (λ x. posted x (record { number = A .number; offset = A .offset; length = A .length })) q in

@@ -4,7 +4,7 @@ use lib.Dec.{eqb}
 use borrow.Author.Tests.{eq-eqb, ne-eqb}
 use Rattle.pair.specs.Answer.{statusNumber, executed}
 use Rattle.abi_spec.specs.Pair.{pairWords, malformed}
-use Rattle.abi_spec.proofs.Laws.{put-many}
+use Rattle.abi_spec.proofs.Laws.{overwrite-many}
 use Rattle.udalopek_spec.proofs.Steps.{second, first, thirty-four}
 use Rattle.udalopek_spec.specs.Host.{setUpNumber, setUpWords, setUpTable, otherLength}
 use lib.Dec.{eqb}
@@ -50,7 +50,7 @@ returns-3 c =
     let e = c7 .set-up .ensures .0 in
     let n = c6 .number .ensures ∙ ap (λ o. statusNumber (o .status)) e in
     let x = ap (λ m. eqb m 0) (sym n) ∙ eq-eqb _ _ (c5 .if2 .left) in
-    (c2 .leave .ensures .0 ∙ ap (λ o. statusNumber (o .status)) e ∙ second _ 34 _ t, (c2 .leave .ensures .1 .0 ∙ put-many _ _ (c9 .if1 .left) ∙ ap (λ o. pairWords (o .pair)) e ∙ first _ _ _ x ∙ second _ _ _ t, (c7 .set-up .ensures .1 ∙ second _ _ _ t, λ z. ap malformed (c2 .leave .ensures .1 .0 ∙ put-many _ _ (c9 .if1 .left)) ∙ c2 .leave .ensures .1 .1)))
+    (c2 .leave .ensures .0 ∙ ap (λ o. statusNumber (o .status)) e ∙ second _ 34 _ t, (c2 .leave .ensures .1 .0 ∙ overwrite-many _ _ (c9 .if1 .left) ∙ ap (λ o. pairWords (o .pair)) e ∙ first _ _ _ x ∙ second _ _ _ t, (c7 .set-up .ensures .1 ∙ second _ _ _ t, λ z. ap malformed (c2 .leave .ensures .1 .0 ∙ overwrite-many _ _ (c9 .if1 .left)) ∙ c2 .leave .ensures .1 .1)))
 
 pub udalopek-set-up-spec : {M : Type 1} → statement M
 udalopek-set-up-spec =

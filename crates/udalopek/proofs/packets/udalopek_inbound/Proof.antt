@@ -3,7 +3,7 @@ use mathlib.Core.Bool.{true, false}
 use Rattle.pair.specs.Answer.{statusNumber}
 use Rattle.abi_spec.specs.Pair.{malformed, pairWords}
 use Rattle.responder_spec.specs.Inbound.{inbound, inboundMemory, inboundSaved, inboundOut}
-use Rattle.udalopek_spec.proofs.Steps.{second, first, strange-by, left-words, refused-words, refused-rows}
+use Rattle.udalopek_spec.proofs.Steps.{second, first, malformed-by, left-words, refused-words, refused-rows}
 use Rattle.udalopek_spec.specs.Packets.{inboundNumber, inboundWords, inboundRows, inboundBytes, inboundOutput, inboundReport, malformedFor, reportWords}
 use Rattle.responder_spec.specs.Inbound.{inbound, inboundMemory, inboundSaved, inboundOut}
 use borrow.Author.Needs.{needs}
@@ -31,7 +31,7 @@ returns c =
     let c1 = c .before in let c2 = c1 .before in let c5 = c2 .before .before .before in let c6 = c5 .before in
     let A = c6 .before .before .before .before .before .before .args in
     let q = c6 .pair-of .ensures in
-    let p : malformed (A .pair .now) ≡ true = strange-by (A .pair .now) _ _ _ q (c5 .pair-words .ensures .0) (c2 .same .ensures) ∙ c1 .if1 .taken in
+    let p : malformed (A .pair .now) ≡ true = malformed-by (A .pair .now) _ _ _ q (c5 .pair-words .ensures .0) (c2 .same .ensures) ∙ c1 .if1 .taken in
     let r = refused-words (A .pair .now) (A .regions .now) (A .packet .now) p in
     (first _ 34 _ r, (first _ _ _ r, (first _ _ _ r, (first _ _ _ r, (first _ _ _ r, (first _ _ _ r, refl))))))
 
@@ -51,7 +51,7 @@ returns-2 c =
     let c8 = c5 .before .before .before in let c9 = c8 .before in
     let A = c9 .before .before .before .before .before .before .args in
     let q = c9 .pair-of .ensures in
-    let p : malformed (A .pair .now) ≡ false = strange-by (A .pair .now) _ _ _ q (c8 .pair-words .ensures .0) (c5 .same .ensures) ∙ c4 .if1 .left in
+    let p : malformed (A .pair .now) ≡ false = malformed-by (A .pair .now) _ _ _ q (c8 .pair-words .ensures .0) (c5 .same .ensures) ∙ c4 .if1 .left in
     let h = ap (λ x. malformedFor (A .regions .now) (x .setup .memory) (A .packet .now)) (sym q) ∙ ap (λ n. malformedFor (A .regions .now) n (A .packet .now)) (sym (c3 .usize-to-u64 .ensures)) ∙ sym (c2 .malformed-for .ensures) ∙ c1 .if2 .taken in
     let r = refused-rows (A .pair .now) (A .regions .now) (A .packet .now) _ p h in
     (first _ 34 _ r, (first _ _ _ r, (first _ _ _ r, (first _ _ _ r, (first _ _ _ r, (first _ _ _ r, refl))))))
@@ -92,7 +92,7 @@ returns-3 c =
     let c25 = c22 .before .before .before in let c26 = c25 .before in
     let A = c26 .before .before .before .before .before .before .args in
     let q = c26 .pair-of .ensures in
-    let p : malformed (A .pair .now) ≡ false = strange-by (A .pair .now) _ _ _ q (c25 .pair-words .ensures .0) (c22 .same .ensures) ∙ c21 .if1 .left in
+    let p : malformed (A .pair .now) ≡ false = malformed-by (A .pair .now) _ _ _ q (c25 .pair-words .ensures .0) (c22 .same .ensures) ∙ c21 .if1 .left in
     let h = ap (λ x. malformedFor (A .regions .now) (x .setup .memory) (A .packet .now)) (sym q) ∙ ap (λ n. malformedFor (A .regions .now) n (A .packet .now)) (sym (c20 .usize-to-u64 .ensures)) ∙ sym (c19 .malformed-for .ensures) ∙ c18 .if2 .left in
     let r = refused-rows (A .pair .now) (A .regions .now) (A .packet .now) _ p h in
     let l = left-words (A .pair .now) _ _ _ p (c6 .pair-words2 .ensures .0) (c3 .overwrite-words .ensures) in

@@ -4,7 +4,7 @@ use Rattle.pair.specs.Answer.{statusNumber}
 use Rattle.abi_spec.specs.Pair.{malformed, pairWords}
 use mathlib.Core.List.{[], _∷_}
 use Rattle.responder_spec.specs.Response.{nextResponse, nextOut}
-use Rattle.udalopek_spec.proofs.Steps.{second, first, strange-by, left-words}
+use Rattle.udalopek_spec.proofs.Steps.{second, first, malformed-by, left-words}
 use Rattle.udalopek_spec.specs.Packets.{nextNumber, nextWords, nextOutput, nextReport}
 use Rattle.responder_spec.specs.Response.{nextResponse, nextOut}
 use borrow.Author.Needs.{needs}
@@ -32,7 +32,7 @@ returns c =
     let c1 = c .before in let c2 = c1 .before in let c5 = c2 .before .before .before in let c6 = c5 .before in
     let A = c6 .before .before .before .before .before .args in
     let q = c6 .pair-of .ensures in
-    let p : malformed (A .pair .now) ≡ true = strange-by (A .pair .now) _ _ _ q (c5 .pair-words .ensures .0) (c2 .same .ensures) ∙ c1 .if1 .taken in
+    let p : malformed (A .pair .now) ≡ true = malformed-by (A .pair .now) _ _ _ q (c5 .pair-words .ensures .0) (c2 .same .ensures) ∙ c1 .if1 .taken in
     (first _ 34 _ p, (first _ _ _ p, (first _ _ _ p, (first _ _ _ p, refl))))
 
 next-response-requires : tie.Need-next-response-requires
@@ -67,7 +67,7 @@ returns-2 c =
     let c18 = c15 .before .before .before in let c19 = c18 .before in
     let A = c19 .before .before .before .before .before .args in
     let q = c19 .pair-of .ensures in
-    let p : malformed (A .pair .now) ≡ false = strange-by (A .pair .now) _ _ _ q (c18 .pair-words .ensures .0) (c15 .same .ensures) ∙ c14 .if1 .left in
+    let p : malformed (A .pair .now) ≡ false = malformed-by (A .pair .now) _ _ _ q (c18 .pair-words .ensures .0) (c15 .same .ensures) ∙ c14 .if1 .left in
     let l = left-words (A .pair .now) _ _ _ p (c6 .pair-words2 .ensures .0) (c3 .overwrite-words .ensures) in
     let s = ap malformed l ∙ sym (ap malformed (c6 .pair-words2 .ensures .0)) ∙ c6 .pair-words2 .ensures .1 ∙ sym p in
     let o = c12 .next-response .ensures .0 ∙ ap (λ x. nextResponse x (A .mem .now) (A .out .now)) q in

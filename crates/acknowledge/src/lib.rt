@@ -1,4 +1,5 @@
-// The packets that answer a request: ACKs and NAKs, Atomic Acknowledges.
+// The packets that answer a request: ACKs and NAKs, Atomic Acknowledges. The definitions and their laws stand in the
+// crate responder_spec.
 use header::Aeth;
 use header::Bth;
 use pair::Setup;
@@ -61,7 +62,7 @@ fn write_value(out: &mut [u8], s: Setup, psn: Psn, syndrome: u8, msn: Msn, value
 }
 
 // Writes the packet of a decision at the start of an output of at least 24 bytes; a shorter one stays as it is.
-pub fn reply(out: &mut [u8], s: Setup, d: Decision, msn: Msn, value: u64)
+pub fn write(out: &mut [u8], s: Setup, d: Decision, msn: Msn, value: u64)
     ensures { λ _. ⌜ now (out .exit) ≡ cond (ltb (length (now (out .entry))) 24) (now (out .entry)) (over (answerBytes s d msn value) (now (out .entry))) ⌝ }
 {
     if out.len() < 24 {

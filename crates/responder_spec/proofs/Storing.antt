@@ -14,10 +14,10 @@ use Rattle.header.specs.Read.{bthOf, extensionOf, headerOf}
 use Rattle.memory.specs.Memory.{store}
 use Rattle.memory.specs.Word.{wordAt, fetchAdded, swapped}
 use Rattle.memory.specs.Claims.{OnlyWord}
-use Rattle.memory.proofs.Put.{placed-none}
+use Rattle.memory.proofs.Overwrite.{store-none}
 use Rattle.memory.proofs.Words.{fetch-within, swap-within}
 use Rattle.packet.specs.Packet.{payloadOf}
-use Rattle.pmtu.specs.Pieces.{ends}
+use Rattle.opcode.specs.Place.{ends}
 use Rattle.table.specs.View.{regionOf, savedRows}
 use Rattle.pair.specs.Answer.{statusNumber}
 use Rattle.pair.specs.Claims.{Sound}
@@ -37,14 +37,14 @@ use Rattle.responder_spec.specs.Decide.{completes, completionOf, message
 use Rattle.responder_spec.specs.Apply.{savedBy, memoryBy, executedPair, after, pairBy}
 use Rattle.responder_spec.specs.Inbound.{outcomeBy, decision, inbound, inboundMemory, inboundSaved, inboundOut}
 use Rattle.responder_spec.specs.Effects.{Silent}
-use Rattle.responder_spec.specs.Answers.{entryAtHead, OnlyBytes, Completes, Puts, packetIn, InboundPuts, OnRegion, InboundSwaps}
+use Rattle.responder_spec.specs.Answers.{entryAtHead, OnlyBytes, Completes, StoresPayload, packetIn, InboundStores, OnRegion, InboundSwaps}
 use Rattle.responder_spec.proofs.Codes.Bare.{swaps, adds}
 use Rattle.responder_spec.proofs.Codes.{class-is}
 use Rattle.responder_spec.proofs.Refusals.{inbound-meant}
 use Rattle.responder_spec.proofs.Effects.{silent, leftBy}
 use Rattle.responder_spec.proofs.Answers.{head-first, code-by, high}
 use Rattle.responder_spec.proofs.Ways.Way.{away, places, exchanges, delivers}
-use Rattle.responder_spec.proofs.Ways.{acts, regionBy, codeBy, decided-way, only-by, only-placed, payload-size}
+use Rattle.responder_spec.proofs.Ways.{acts, regionBy, codeBy, decided-way, only-by, only-stored, payload-size}
 use Rattle.responder_spec.proofs.Ways.{payload-is, ends-true, ends-false, few, which, which-atomic, region-is}
 use Rattle.responder_spec.proofs.Ways.{or-true, and-false, Way}
 use Rattle.responder_spec.proofs.Views.{viewed, viewed-sound, current-closed}
@@ -76,10 +76,10 @@ module _ (q : Pair) (regions entries saved : List (List ℕ)) (m p : List ℕ) (
       (order (q .setup) (q .message) k M (q .entries .count) (headEntry q entries) region place-known (current-tested (q .message) k place-known)))
 
   -- the bytes of a WRITE are no more than those still to come
-  rest : LengthsGood k (q .setup .pmtu) M (getD entry 2 0) → k .kind ≡ 6 → M .stored + (k .padded - k .pad) ≤ M .length
+  rest : LengthsGood k (q .setup .pmtu) M (getD entry 2 0) → k .kind ≡ 6 → M .stored + (k .body - k .pad) ≤ M .length
   rest L e = go place-known
     where
-      go : Place (k .place) → M .stored + (k .padded - k .pad) ≤ M .length
+      go : Place (k .place) → M .stored + (k .body - k .pad) ≤ M .length
       go (inl (inl x)) = omega (arith, L .more e (inl x))
       go (inl (inr x)) = omega (arith, L .whole e (inr x))
       go (inr (inl x)) = omega (arith, L .more e (inr x))
@@ -88,9 +88,9 @@ module _ (q : Pair) (regions entries saved : List (List ℕ)) (m p : List ℕ) (
   abbrev D : Decision
   D = storePayload (packetIn p) (current (q .message) (packetIn p)) (headEntry q entries) (regionBy q regions (packetIn p))
 
-  put-memory : (at : ℕ) → targetOffset (k .kind) M (headEntry q entries) (regionBy q regions k) ≡ at → memoryBy D m p ≡ store m at (payloadOf p)
+  stored-memory : (at : ℕ) → targetOffset (k .kind) M (headEntry q entries) (regionBy q regions k) ≡ at → memoryBy D m p ≡ store m at (payloadOf p)
   unfolding memoryBy storePayload
-  put-memory at e = λ i. store m (e i) (payload-is p i)
+  stored-memory at e = λ i. store m (e i) (payload-is p i)
 
   at-entry : k .kind ≡ 0 → targetOffset (k .kind) M (headEntry q entries) (regionBy q regions k) ≡ getD entry 1 0 + M .stored
   unfolding targetOffset
@@ -119,11 +119,11 @@ module _ (q : Pair) (regions entries saved : List (List ℕ)) (m p : List ℕ) (
       go (inr g) = ap (λ x. x .kind) (C .old g) ∙ I .onward g
 
   -- what completes
-  told : (length : ℕ) → Ends (k .place) → (k .kind ≡ 0) ⊎ (k .operands .immediate ≡ true)
+  completed : (length : ℕ) → Ends (k .place) → (k .kind ≡ 0) ⊎ (k .operands .immediate ≡ true)
       → cond (eqb (k .kind) 0) (M .stored + payloadSize k) (M .length) ≡ length
       → Completes k (getD entry 0 0) length (completionOf k M (getD (headEntry q entries) 0 0))
   unfolding completionOf completes
-  told length h u e =
+  completed length h u e =
       rw (ends-true (k .place) h, uses u)
       (record { some = refl; entry = ap (λ r. getD r 0 0) (head-first q entries S); length = e; immediate = refl; value = refl })
     where
@@ -149,11 +149,11 @@ module _ (q : Pair) (regions entries saved : List (List ℕ)) (m p : List ℕ) (
   unfolding messageAfter
   opened size e f h = ran ∙ rw (ends-false (k .place) h) (λ i. record { kind = f i; stored = M .stored + e i; address = M .address; key = M .key; length = M .length })
 
-  net-size : payloadSize k ≡ length (payloadOf p)
+  payload-size-is : payloadSize k ≡ length (payloadOf p)
   unfolding payloadSize
-  net-size = sym (payload-size p)
+  payload-size-is = sym (payload-size p)
 
-  puts-by : (out : List ℕ) → carrying (k .kind) ≡ true → Puts q regions entries m p k M (leftBy q saved m p out D)
+  puts-by : (out : List ℕ) → carrying (k .kind) ≡ true → StoresPayload q regions entries m p k M (leftBy q saved m p out D)
   unfolding leftBy outcomeBy storePayload
   puts-by out c =
       let T = judged .only refl in
@@ -166,41 +166,41 @@ module _ (q : Pair) (regions entries saved : List (List ℕ)) (m p : List ℕ) (
             λ e.
             let f : M .stored + length (payloadOf p) ≤ getD entry 2 0 = omega (arith, size, L .fits e) in
             let w : getD entry 1 0 + getD entry 2 0 ≤ q .setup .memory = T .5 (inl e) in
-            let s = put-memory (getD entry 1 0 + M .stored) (at-entry e) in
+            let s = stored-memory (getD entry 1 0 + M .stored) (at-entry e) in
             record {
               lies = w;
               fits = f;
               stands = s;
               only =
                   subst (λ x. OnlyBytes m x (getD entry 1 0) (getD entry 2 0)) (sym s)
-                  (only-placed m (payloadOf p) (getD entry 1 0 + M .stored) (getD entry 1 0) (getD entry 2 0) (omega arith) (omega (arith, f)) (omega (arith, w, n)));
+                  (only-stored m (payloadOf p) (getD entry 1 0 + M .stored) (getD entry 1 0) (getD entry 2 0) (omega arith) (omega (arith, f)) (omega (arith, w, n)));
             };
         writes =
             λ e h.
             let G = T .6 .writes e h in
             let f : length (payloadOf p) ≤ M .length - M .stored = omega (arith, size, rest L e) in
             let at = getD region 3 0 + (M .address + M .stored - getD region 1 0) in
-            let s = put-memory at (at-region e h) in
+            let s = stored-memory at (at-region e h) in
             record {
               gives = G;
               fits = f;
               stands = s;
               only =
                   subst (λ x. OnlyBytes m x (getD region 3 0) (getD region 2 0)) (sym s)
-                  (only-placed m (payloadOf p) at (getD region 3 0) (getD region 2 0) (omega arith) (omega (arith, f, G .from, G .to)) (omega (arith, G .within, n)));
+                  (only-stored m (payloadOf p) at (getD region 3 0) (getD region 2 0) (omega arith) (omega (arith, f, G .from, G .to)) (omega (arith, G .within, n)));
             };
         nothing =
             λ e h.
             let z : length (payloadOf p) ≡ 0 = omega (arith, size, rest L e, h) in
-            put-memory 0 (at-none e h) ∙ placed-none m 0 (payloadOf p) z;
+            stored-memory 0 (at-none e h) ∙ store-none m 0 (payloadOf p) z;
         sent-whole =
             λ e h.
-            told (M .stored + length (payloadOf p)) h (inl e)
-            (rw (eq-eqb (k .kind) 0 e) (ap (λ x. M .stored + x) net-size));
-        written = λ e h i. told (M .length) h (inr i) (rw (ne-eqb (k .kind) 0 (λ x. omega arith)));
+            completed (M .stored + length (payloadOf p)) h (inl e)
+            (rw (eq-eqb (k .kind) 0 e) (ap (λ x. M .stored + x) payload-size-is));
+        written = λ e h i. completed (M .length) h (inr i) (rw (ne-eqb (k .kind) 0 (λ x. omega arith)));
         unreported = λ e i. untold-by e i;
         onward = λ h. onward-by h;
-        opens = λ h. opened (length (payloadOf p)) net-size (same-kind (T .0)) h;
+        opens = λ h. opened (length (payloadOf p)) payload-size-is (same-kind (T .0)) h;
       }
 
   -- an atomic is a message of one packet, of 8 bytes
@@ -303,8 +303,8 @@ module _ (q : Pair) (regions entries saved : List (List ℕ)) (m p out : List �
   unfolding pairBy after storePayload executedPair statusNumber
   same-message t = sym (rw (few (packetIn p .ackreq)))
 
-  unseen : (t : OpenMessage) → Puts v regions entries m p (packetIn p) t (leftBy v saved m p out (placedAt t))
-      → Puts q regions entries m p (packetIn p) t (leftBy q saved m p out (unanswered n (placedAt t)))
+  unseen : (t : OpenMessage) → StoresPayload v regions entries m p (packetIn p) t (leftBy v saved m p out (placedAt t))
+      → StoresPayload q regions entries m p (packetIn p) t (leftBy q saved m p out (unanswered n (placedAt t)))
   unfolding leftBy outcomeBy memoryBy
   unseen t P =
       record {
@@ -321,15 +321,15 @@ module _ (q : Pair) (regions entries saved : List (List ℕ)) (m p out : List �
       }
 
   ucExecuted : Sound q → length m ≡ q .setup .memory → codeBy v regions entries (packetIn p) ≡ 0 → carrying (packetIn p .kind) ≡ true
-      → Puts q regions entries m p (packetIn p) (current (q .message) (packetIn p)) (leftBy q saved m p out (unanswered n (placedAt (current (q .message) (packetIn p)))))
+      → StoresPayload q regions entries m p (packetIn p) (current (q .message) (packetIn p)) (leftBy q saved m p out (unanswered n (placedAt (current (q .message) (packetIn p)))))
   ucExecuted S w z c =
-      subst (λ t. Puts q regions entries m p (packetIn p) t (leftBy q saved m p out (unanswered n (placedAt t)))) (current-closed (q .message) (packetIn p))
+      subst (λ t. StoresPayload q regions entries m p (packetIn p) t (leftBy q saved m p out (unanswered n (placedAt t)))) (current-closed (q .message) (packetIn p))
       (unseen (current (v .message) (packetIn p)) (puts-by v regions entries saved m p (viewed-sound (packetIn p .place) q S) w z out c))
 
 -- the two claims: any other decision has another answer
 module _ (q : Pair) (regions entries saved : List (List ℕ)) (m p out : List ℕ) (w : length m ≡ q .setup .memory) where
   puts-way : (d : Decision) → Way q regions entries (packetIn p) d → (statusNumber (d .status) ≡ 0) ⊎ (statusNumber (d .status) ≡ 1)
-      → Puts q regions entries m p (packetIn p) (current (q .message) (packetIn p)) (leftBy q saved m p out d)
+      → StoresPayload q regions entries m p (packetIn p) (current (q .message) (packetIn p)) (leftBy q saved m p out d)
   unfolding runAtomic statusNumber
   puts-way d (away e (inl x)) (inl y) = absurd (omega arith)
   puts-way d (away e (inl x)) (inr y) = absurd (omega arith)
@@ -358,12 +358,12 @@ small : (n : ℕ) → (n ≡ 0) ⊎ (n ≡ 1) → n < 32
 small n (inl e) = omega arith
 small n (inr e) = omega arith
 
-pub inbound-puts : InboundPuts
+pub inbound-stores : InboundStores
 unfolding inbound inboundMemory inboundSaved inboundOut decision leftBy outcomeBy packetOf headerOf
-inbound-puts q regions entries saved m p out t C h =
+inbound-stores q regions entries saved m p out t C h =
     let d = decided q regions entries saved (length m) p (length out) in
     let w = inbound-meant q regions entries saved m p out (small (statusNumber (d .status)) h) .1 in
-    subst (λ x. Puts q regions entries m p (packetIn p) x (leftBy q saved m p out d)) (sym (current-one (q .message) (packetIn p) t (any-place (bthOf p .opcode)) C))
+    subst (λ x. StoresPayload q regions entries m p (packetIn p) x (leftBy q saved m p out d)) (sym (current-one (q .message) (packetIn p) t (any-place (bthOf p .opcode)) C))
     (puts-way q regions entries saved m p out w d (decided-way q regions entries saved (length m) p (length out)) h)
 
 pub inbound-swaps : InboundSwaps

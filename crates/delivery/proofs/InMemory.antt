@@ -9,8 +9,9 @@ use lib.ListN.{length, getD}
 use borrow.Author.Tests.{eqb-true, eqb-false}
 use Rattle.lemmas.proofs.Auto.{tests}
 use Rattle.memory.specs.Memory.{overwrite, store}
-use Rattle.memory.proofs.Put.{placed-put, put-none, placed-none}
-use Rattle.pmtu.specs.Pieces.{ends, pieceAt}
+use Rattle.memory.proofs.Overwrite.{store-overwrite, overwrite-none, store-none}
+use Rattle.opcode.specs.Place.{ends}
+use Rattle.pmtu.specs.Pieces.{pieceAt}
 use Rattle.table.specs.View.{regionOf}
 use Rattle.table.specs.Claims.{RegionsSound}
 use Rattle.table.specs.declared.Entry.{Entry}
@@ -26,21 +27,21 @@ use Rattle.delivery.specs.Plain.{regionOffset, takesEntry, isLast}
 use Rattle.delivery.specs.Demand.{LiesInRegion}
 use Rattle.delivery.proofs.Chain.{Stands}
 use Rattle.delivery.proofs.Places.{Sizes}
-use Rattle.delivery.proofs.Cutting.{netFor, placeFor, cutPacket, sizes}
+use Rattle.delivery.proofs.Cutting.{slotSize, placeFor, cutPacket, sizes}
 use Rattle.delivery.proofs.Operands.{addressOf, keyOf}
-use Rattle.delivery.proofs.Rel.{IsOf, Under}
-use Rattle.delivery.proofs.Fitting.{net-total, write-right}
+use Rattle.delivery.proofs.Rel.{IsOf, OpenedFor}
+use Rattle.delivery.proofs.Fitting.{payload-total, write-right}
 use Rattle.delivery.proofs.Checks.{ends-is, says, now}
-use Rattle.delivery.proofs.Verdicts.{spot-is}
+use Rattle.delivery.proofs.Verdicts.{offset-is}
 use Rattle.delivery.proofs.Requests.{Carries, Sends, Writes}
-use Rattle.delivery.proofs.Placing.{net-is, placing-bytes, length-piece}
+use Rattle.delivery.proofs.Storing.{slot-payload-is, storing-bytes, length-piece}
 
 twice : (b c : Bool) → (b && (b && c)) ≡ (b && c)
 twice true c = refl
 twice false c = refl
 
 module _ (s : Setup) (regions : List (List ℕ)) (f : SetupFit s) (t : Slot) (H : Stands s regions t) (opened : OpenMessage) (held : List Entry)
-    (U : Under (eqb (t .index) 0) t opened held) (C : Carries (t .message .request)) (entry : List ℕ) where
+    (U : OpenedFor (eqb (t .index) 0) t opened held) (C : Carries (t .message .request)) (entry : List ℕ) where
   abbrev M : OpenMessage
   M = current opened (cutPacket t)
 
@@ -59,27 +60,27 @@ module _ (s : Setup) (regions : List (List ℕ)) (f : SetupFit s) (t : Slot) (H 
   last-is : ends (placeFor t) ≡ isLast t
   last-is = ends-is s regions f t H opened held U
 
-  sized : Sizes (t .index) (packetCount (t .message)) (netFor t) (t .message .connection .pmtu) (length (t .message .bytes))
+  sized : Sizes (t .index) (packetCount (t .message)) (slotSize t) (t .message .connection .pmtu) (length (t .message .bytes))
   sized = sizes s f t (H .outgoing) (C .carrier)
 
-  pub inside : t .index * t .message .connection .pmtu + netFor t ≤ length (t .message .bytes)
-  inside = net-total (t .index) (packetCount (t .message)) (netFor t) (t .message .connection .pmtu) (length (t .message .bytes)) (H .outgoing .inside) sized
+  pub inside : t .index * t .message .connection .pmtu + slotSize t ≤ length (t .message .bytes)
+  inside = payload-total (t .index) (packetCount (t .message)) (slotSize t) (t .message .connection .pmtu) (length (t .message .bytes)) (H .outgoing .inside) sized
 
-  piece-long : length piece ≡ netFor t
+  piece-long : length piece ≡ slotSize t
   piece-long = length-piece s regions f t H opened held U C entry region
 
   bytes-are : (m : List ℕ) → memoryBy (storePayload (cutPacket t) M entry region) m (packetAt t) ≡ store m (targetOffset (kindNumber (t .message .request)) M entry region) piece
-  bytes-are m = placing-bytes s regions f t H opened held U C entry region m
+  bytes-are m = storing-bytes s regions f t H opened held U C entry region m
 
   module _ (Z : Sends (t .message .request)) where
-    pub send-lands : (m : List ℕ) → getD entry 1 0 + getD entry 2 0 ≤ length m → length (t .message .bytes) ≤ getD entry 2 0
+    pub send-memory-is : (m : List ℕ) → getD entry 1 0 + getD entry 2 0 ≤ length m → length (t .message .bytes) ≤ getD entry 2 0
         → memoryBy (storePayload (cutPacket t) M entry region) m (packetAt t) ≡ overwrite m (getD entry 1 0 + off) piece
     unfolding targetOffset
-    send-lands m o large =
+    send-memory-is m o large =
         let a : getD entry 1 0 + M .stored ≡ getD entry 1 0 + off = omega (arith, N .stored) in
         bytes-are m
         ∙ (ap (λ k. store m (targetOffset k M entry region) piece) (Z .kind)
-        ∙ (ap (λ k. store m k piece) a ∙ placed-put m (getD entry 1 0 + off) piece (omega (arith, piece-long, inside, o, large))))
+        ∙ (ap (λ k. store m k piece) a ∙ store-overwrite m (getD entry 1 0 + off) piece (omega (arith, piece-long, inside, o, large))))
 
     pub send-completes : completes (kindNumber (t .message .request)) (placeFor t) (cutPacket t .operands .immediate) ≡ (isLast t && takesEntry (t .message .request))
     unfolding completes
@@ -88,7 +89,7 @@ module _ (s : Setup) (regions : List (List ℕ)) (f : SetupFit s) (t : Slot) (H 
     pub send-long : isLast t ≡ true → cond (eqb (kindNumber (t .message .request)) 0) (M .stored + payloadSize (cutPacket t)) (M .length) ≡ length (t .message .bytes)
     send-long e =
         let z = sized .last (eqb-true (suc (t .index)) (packetCount (t .message)) e) in
-        let n = net-is s regions f t H opened held U C entry region in
+        let n = slot-payload-is s regions f t H opened held U C entry region in
         ap (λ y. cond (eqb y 0) (M .stored + payloadSize (cutPacket t)) (M .length)) (Z .kind) ∙ omega (arith, N .stored, n, z .2)
 
   module _ (Z : Writes (t .message .request)) where
@@ -116,7 +117,7 @@ module _ (s : Setup) (regions : List (List ℕ)) (f : SetupFit s) (t : Slot) (H 
             first true z = omega (arith, zeroth (t .index) (eqb-true (t .index) 0 z))
             first false z =
                 let l = sized .last (eqb-true (suc (t .index)) (packetCount (t .message)) e) in
-                let g : 0 < netFor t = l .1 (omega (arith, tests)) in
+                let g : 0 < slotSize t = l .1 (omega (arith, tests)) in
                 omega (arith, l .2)
 
     abbrev to : ℕ
@@ -138,17 +139,17 @@ module _ (s : Setup) (regions : List (List ℕ)) (f : SetupFit s) (t : Slot) (H 
           → (targetOffset 6 M entry keyed ≡ to + off) × (to + length (t .message .bytes) ≤ s .memory)
       unfolding targetOffset
       in-place o =
-          spot-is (s .memory) 6 (keyOf (t .message .request)) (addressOf (t .message .request)) (length (t .message .bytes)) off regions (λ r. r .write) M sound write-right
+          offset-is (s .memory) 6 (keyOf (t .message .request)) (addressOf (t .message .request)) (length (t .message .bytes)) off regions (λ r. r .write) M sound write-right
           (N .address) (N .stored) (N .length ∙ Z .named (length (t .message .bytes))) (omega (arith, inside)) right (short o)
 
-      pub write-lands : (m : List ℕ) → length m ≡ s .memory
+      pub write-memory-is : (m : List ℕ) → length m ≡ s .memory
           → memoryBy (storePayload (cutPacket t) M entry region) m (packetAt t) ≡ overwrite m (to + off) piece
-      write-lands m l =
+      write-memory-is m l =
           bytes-are m
           ∙ ((λ i. store m (targetOffset (Z .kind i) M entry (region-is i)) piece) ∙ go (eqb (length (t .message .bytes)) 0) refl)
         where
           go : (b : Bool) → eqb (length (t .message .bytes)) 0 ≡ b → store m (targetOffset 6 M entry keyed) piece ≡ overwrite m (to + off) piece
-          go true e = let z : length piece ≡ 0 = omega (arith, tests, piece-long, inside) in placed-none m _ piece z ∙ sym (put-none m (to + off) piece z)
+          go true e = let z : length piece ≡ 0 = omega (arith, tests, piece-long, inside) in store-none m _ piece z ∙ sym (overwrite-none m (to + off) piece z)
           go false e =
               let w = in-place (omega (arith, eqb-false (length (t .message .bytes)) 0 e)) in
-              ap (λ k. store m k piece) (w .0) ∙ placed-put m (to + off) piece (omega (arith, piece-long, w .1, inside, l))
+              ap (λ k. store m k piece) (w .0) ∙ store-overwrite m (to + off) piece (omega (arith, piece-long, w .1, inside, l))

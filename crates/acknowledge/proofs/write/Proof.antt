@@ -1,8 +1,8 @@
 use borrow.Author.Tests.{lt-ltb, le-ltb, eq-eqb, ne-eqb}
 use Rattle.responder_spec.specs.Reply.{answerBytes, over}
 use borrow.Author.Needs.{needs}
-use Rattle.apply.proofs.answer.reply.Statement.{statement}
-use Rattle.apply.proofs.answer.reply.Tie as tie
+use Rattle.acknowledge.proofs.write.Statement.{statement}
+use Rattle.acknowledge.proofs.write.Tie as tie
 
 returns : tie.Need-returns
 unfolding answerBytes over
@@ -39,8 +39,8 @@ returns-4 c =
     let c2 = c .before .before in let c4 = c2 .before .before in
     simp (le-ltb _ _ (c4 .if1 .left), ne-eqb _ _ (c2 .if2 .left), ne-eqb _ _ (c .if3 .left))
 
-pub reply-spec : {M : Type 1} → statement M
-reply-spec =
+pub write-spec : {M : Type 1} → statement M
+write-spec =
     tie.close
     (tie.spec
     returns

@@ -10,7 +10,8 @@ use Rattle.lemmas.proofs.Auto.{tests}
 use Rattle.lemmas.proofs.Tests.{and-left}
 use Rattle.header.specs.Write.{headerLength}
 use Rattle.memory.specs.Memory.{store}
-use Rattle.pmtu.specs.Pieces.{ends, pieceAt}
+use Rattle.opcode.specs.Place.{ends}
+use Rattle.pmtu.specs.Pieces.{pieceAt}
 use Rattle.sequence.specs.declared.Msn.{Msn}
 use Rattle.pair.specs.Answer.{statusNumber}
 use Rattle.pair.specs.declared.Status.the-variants as status
@@ -28,52 +29,52 @@ use Rattle.responder_spec.specs.declared.Completion.{Completion}
 use Rattle.delivery.specs.Stream.{Slot, psnCount, packetAt}
 use Rattle.delivery.specs.Plain.{takesEntry, completionFor, isLast, isRead}
 use Rattle.delivery.proofs.Chain.{Stands, further}
-use Rattle.delivery.proofs.Cutting.{headerFor, netFor, placeFor, cutPacket, carried-is, sizes}
-use Rattle.delivery.proofs.Rel.{IsOf, Under}
+use Rattle.delivery.proofs.Cutting.{headerFor, slotSize, placeFor, cutPacket, carried-is, sizes}
+use Rattle.delivery.proofs.Rel.{IsOf, OpenedFor}
 use Rattle.delivery.proofs.Checks.{ends-is, says, now}
 use Rattle.delivery.proofs.Operands.{immediateOf}
 use Rattle.delivery.proofs.Requests.{Carries}
 
 module _ (s : Setup) (regions : List (List ℕ)) (f : SetupFit s) (t : Slot) (h : Stands s regions t) (opened : OpenMessage) (held : List Entry)
-    (U : Under (eqb (t .index) 0) t opened held) (C : Carries (t .message .request)) (entry region : List ℕ) where
+    (U : OpenedFor (eqb (t .index) 0) t opened held) (C : Carries (t .message .request)) (entry region : List ℕ) where
   abbrev pub M : OpenMessage
   M = current opened (cutPacket t)
 
-  pub placing-answers : statusNumber (storePayload (cutPacket t) M entry region .status) ≤ 3
+  pub storing-answers : statusNumber (storePayload (cutPacket t) M entry region .status) ≤ 3
   unfolding storePayload statusNumber
-  placing-answers = go (cutPacket t .ackreq)
+  storing-answers = go (cutPacket t .ackreq)
     where
       go : (b : Bool) → statusNumber (cond b status.Acknowledged status.Executed) ≤ 3
       go true = omega arith
       go false = omega arith
 
-  pub placing-numbers : storePayload (cutPacket t) M entry region .psns ≡ psnCount t
+  pub storing-psns : storePayload (cutPacket t) M entry region .psns ≡ psnCount t
   unfolding storePayload
-  placing-numbers = sym (C .psnCount (t .message .connection .pmtu))
+  storing-psns = sym (C .psnCount (t .message .connection .pmtu))
 
-  pub placing-ends : storePayload (cutPacket t) M entry region .ends ≡ isLast t
+  pub storing-ends : storePayload (cutPacket t) M entry region .ends ≡ isLast t
   unfolding storePayload
-  placing-ends = ends-is s regions f t h opened held U
+  storing-ends = ends-is s regions f t h opened held U
 
-  pub placing-reads : (a : ReadAnswer) (msn : Msn) (r : ℕ) → a .remaining ≡ r
+  pub storing-reads : (a : ReadAnswer) (msn : Msn) (r : ℕ) → a .remaining ≡ r
       → readBy (storePayload (cutPacket t) M entry region) a msn .remaining ≡ cond (isRead (t .message .request)) (psnCount t) r
   unfolding storePayload readBy
-  placing-reads a msn r e = e ∙ ap (λ b. cond b (psnCount t) r) (sym (C .read))
+  storing-reads a msn r e = e ∙ ap (λ b. cond b (psnCount t) r) (sym (C .read))
 
-  pub net-is : payloadSize (cutPacket t) ≡ netFor t
+  pub slot-payload-is : payloadSize (cutPacket t) ≡ slotSize t
   unfolding payloadSize
-  net-is = omega arith
+  slot-payload-is = omega arith
 
   -- the bytes stored are the message's piece
-  pub placing-bytes : (m : List ℕ)
+  pub storing-bytes : (m : List ℕ)
       → memoryBy (storePayload (cutPacket t) M entry region) m (packetAt t)
       ≡ store m (targetOffset (kindNumber (t .message .request)) M entry region) (pieceAt (t .message .bytes) (t .message .connection .pmtu) (t .index))
   unfolding storePayload memoryBy
-  placing-bytes m =
+  storing-bytes m =
       ap (store m (targetOffset (kindNumber (t .message .request)) M entry region))
-      (ap (λ k. take k (drop (headerLength (headerFor t)) (packetAt t))) net-is ∙ (carried-is s f t (h .outgoing) ∙ C .payload (t .message .connection) (t .message .bytes) (t .index)))
+      (ap (λ k. take k (drop (headerLength (headerFor t)) (packetAt t))) slot-payload-is ∙ (carried-is s f t (h .outgoing) ∙ C .payload (t .message .connection) (t .message .bytes) (t .index)))
 
-  pub length-piece : length (pieceAt (t .message .bytes) (t .message .connection .pmtu) (t .index)) ≡ netFor t
+  pub length-piece : length (pieceAt (t .message .bytes) (t .message .connection .pmtu) (t .index)) ≡ slotSize t
   length-piece = sym (ap length (C .payload (t .message .connection) (t .message .bytes) (t .index)))
 
   -- the message that stays open
@@ -87,7 +88,7 @@ module _ (s : Setup) (regions : List (List ℕ)) (f : SetupFit s) (t : Slot) (h 
       let N = now s regions f t h opened held U in
       let z = sizes s f t (h .outgoing) (C .carrier) .more (omega (arith, tests, h .outgoing .inside)) in
       rw (ends-is s regions f t h opened held U ∙ e)
-      (record { kind = N .kind; stored = omega (arith, N .stored, net-is, z .0); address = N .address; key = N .key; length = N .length })
+      (record { kind = N .kind; stored = omega (arith, N .stored, slot-payload-is, z .0); address = N .address; key = N .key; length = N .length })
 
   -- what is reported where a message with an entry ends
   module _ (e : Entry) (completing : completes (kindNumber (t .message .request)) (placeFor t) (cutPacket t .operands .immediate) ≡ (isLast t && takesEntry (t .message .request)))
@@ -103,9 +104,9 @@ module _ (s : Setup) (regions : List (List ℕ)) (f : SetupFit s) (t : Slot) (h 
           value = cutPacket t .operands .value;
         }
 
-    told-is : (isLast t && takesEntry (t .message .request)) ≡ true
+    completes-is : (isLast t && takesEntry (t .message .request)) ≡ true
         → completionWith ≡ completionFor (t .message .request) e (length (t .message .bytes))
-    told-is q =
+    completes-is q =
         let W = says s regions f t h opened in
         let l : isLast t ≡ true = and-left (isLast t) (takesEntry (t .message .request)) q in
         let o : ends (placeFor t) ≡ true = ends-is s regions f t h opened held U ∙ l in
@@ -119,15 +120,15 @@ module _ (s : Setup) (regions : List (List ℕ)) (f : SetupFit s) (t : Slot) (h 
         })
         ∙ sym (C .completion e (length (t .message .bytes)))
 
-    pub placing-told :
+    pub storing-completes :
         (reports (completionOf (cutPacket t) M (getD entry 0 0))
         ≡ cond (isLast t && takesEntry (t .message .request)) (completionFor (t .message .request) e (length (t .message .bytes)) ∷ []) [])
         × (completionOf (cutPacket t) M (getD entry 0 0) .some ≡ (isLast t && takesEntry (t .message .request)))
     unfolding completionOf
-    placing-told = rw completing (go (isLast t && takesEntry (t .message .request)) refl)
+    storing-completes = rw completing (go (isLast t && takesEntry (t .message .request)) refl)
       where
         go : (b : Bool) → (isLast t && takesEntry (t .message .request)) ≡ b
             → (reports (cond b completionWith noCompletion) ≡ cond b (completionFor (t .message .request) e (length (t .message .bytes)) ∷ []) [])
             × (cond b completionWith noCompletion .some ≡ b)
-        go true q = (ap (λ c. c ∷ []) (told-is q), refl)
+        go true q = (ap (λ c. c ∷ []) (completes-is q), refl)
         go false q = (refl, refl)

@@ -2,8 +2,8 @@ use Rattle.packet.proofs.Pads.{zeros}
 use Rattle.memory.specs.Memory.{store}
 use mathlib.Core.Path.{_∙_, ap}
 use borrow.Author.Needs.{needs}
-use Rattle.packet.proofs.place_pad.Statement.{statement}
-use Rattle.packet.proofs.place_pad.Tie as tie
+use Rattle.packet.proofs.write_pad.Statement.{statement}
+use Rattle.packet.proofs.write_pad.Tie as tie
 
 sub-store : tie.Need-sub-store
 sub-store c = search needs
@@ -23,7 +23,7 @@ same-length c = search needs
 returns : tie.Need-returns
 returns c = c .before .before .store .ensures ∙ ap (store _ _) (zeros (c .before .before .before .before .before .before .before .args .padcnt) (search needs))
 
-pub place-pad-spec : {M : Type 1} → statement M
-place-pad-spec =
+pub write-pad-spec : {M : Type 1} → statement M
+write-pad-spec =
     tie.close
     (tie.spec sub-store part-store-start part-store-end store-requires same-length returns)

@@ -1,8 +1,8 @@
 use borrow.Author.Needs.{needs}
 use Rattle.lemmas.proofs.Auto.{tested}
-use Rattle.pmtu.specs.Pieces.{starts}
-use Rattle.pmtu.proofs.starts.Statement.{statement}
-use Rattle.pmtu.proofs.starts.Tie as tie
+use Rattle.opcode.specs.Place.{starts}
+use Rattle.opcode.proofs.starts.Statement.{statement}
+use Rattle.opcode.proofs.starts.Tie as tie
 
 returns : tie.Need-returns
 unfolding starts

@@ -13,26 +13,26 @@ use Rattle.memory.specs.Memory.{overwrite, store}
 use Rattle.memory.specs.Claims.{LengthKept, Found, BeforeKept, AfterKept, NothingOver}
 
 -- what fits is stored
-pub placed-put : (m : List ℕ) (at : ℕ) (d : List ℕ) → at + length d ≤ length m → store m at d ≡ overwrite m at d
+pub store-overwrite : (m : List ℕ) (at : ℕ) (d : List ℕ) → at + length d ≤ length m → store m at d ≡ overwrite m at d
 unfolding store
-placed-put m at d h = rw (le-leb (at + length d) (length m) h)
+store-overwrite m at d h = rw (le-leb (at + length d) (length m) h)
 
 -- what does not fit is not
-pub placed-over : NothingOver
+pub store-past : NothingOver
 unfolding store
-placed-over m at d h = rw (lt-leb (at + length d) (length m) h)
+store-past m at d h = rw (lt-leb (at + length d) (length m) h)
 
 -- the length is kept
-pub length-put : (m : List ℕ) (at : ℕ) (d : List ℕ) → at + length d ≤ length m → length (overwrite m at d) ≡ length m
+pub length-overwrite : (m : List ℕ) (at : ℕ) (d : List ℕ) → at + length d ≤ length m → length (overwrite m at d) ≡ length m
 unfolding overwrite
-length-put m at d h = simp (length-append, length-take, length-drop) (omega arith)
+length-overwrite m at d h = simp (length-append, length-take, length-drop) (omega arith)
 
-pub length-placed : LengthKept
+pub length-store : LengthKept
 unfolding store
-length-placed m at d = go (leb (at + length d) (length m)) refl
+length-store m at d = go (leb (at + length d) (length m)) refl
   where
     go : (b : Bool) → leb (at + length d) (length m) ≡ b → length (cond b (overwrite m at d) m) ≡ length m
-    go true e = length-put m at d (leb-true (at + length d) (length m) e)
+    go true e = length-overwrite m at d (leb-true (at + length d) (length m) e)
     go false e = refl
 
 beside : (d e x : List ℕ) → overwrite (d ++ x) (length d) e ≡ (d ++ e) ++ drop (length e) x
@@ -43,37 +43,37 @@ front : (m : List ℕ) (at : ℕ) (d : List ℕ) → at + length d ≤ length m 
 front m at d h = simp length-take (omega arith)
 
 -- what was stored is there
-pub placed-found : Found
+pub store-found : Found
 unfolding overwrite
-placed-found m at d h =
+store-found m at d h =
     let l : length (take at m) ≡ at = front m at d h in
-    rw (placed-put m at d h, drop-at (take at m) (d ++ drop (at + length d) m) at l) (take-at d (drop (at + length d) m) (length d) refl)
+    rw (store-overwrite m at d h, drop-at (take at m) (d ++ drop (at + length d) m) at l) (take-at d (drop (at + length d) m) (length d) refl)
 
 -- and nothing else moved
-pub placed-before : BeforeKept
+pub store-before : BeforeKept
 unfolding overwrite
-placed-before m at d h = rw (placed-put m at d h) (take-at (take at m) (d ++ drop (at + length d) m) at (front m at d h))
+store-before m at d h = rw (store-overwrite m at d h) (take-at (take at m) (d ++ drop (at + length d) m) at (front m at d h))
 
-pub placed-after : AfterKept
+pub store-after : AfterKept
 unfolding overwrite
-placed-after m at d h =
+store-after m at d h =
     let l : length (take at m ++ d) ≡ at + length d = simp (length-append, length-take) (omega arith) in
     let e : take at m ++ (d ++ drop (at + length d) m) ≡ (take at m ++ d) ++ drop (at + length d) m =
     sym (append-assoc (take at m) d (drop (at + length d) m)) in
-    rw (placed-put m at d h, e) (drop-at (take at m ++ d) (drop (at + length d) m) (at + length d) l)
+    rw (store-overwrite m at d h, e) (drop-at (take at m ++ d) (drop (at + length d) m) (at + length d) l)
 
 -- at the start of memory
-pub put-start : (m d : List ℕ) → overwrite m 0 d ≡ d ++ drop (length d) m
+pub overwrite-start : (m d : List ℕ) → overwrite m 0 d ≡ d ++ drop (length d) m
 unfolding overwrite
-put-start m d =
+overwrite-start m d =
     let e : 0 + length d ≡ length d = omega arith in
     ap (λ n. d ++ drop n m) e
 
 -- two parts side by side are one
-pub put-put : (m : List ℕ) (at : ℕ) (d e : List ℕ) → at ≤ length m
+pub overwrite-twice : (m : List ℕ) (at : ℕ) (d e : List ℕ) → at ≤ length m
     → overwrite (overwrite m at d) (at + length d) e ≡ overwrite m at (d ++ e)
 unfolding overwrite
-put-put m at d e h =
+overwrite-twice m at d e h =
     let P = take at m ++ d in
     let x = drop (at + length d) m in
     let l : length P ≡ at + length d = simp (length-append, length-take) (omega arith) in
@@ -86,14 +86,14 @@ put-put m at d e h =
     ∙ (ap (λ z. z ++ drop (at + length (d ++ e)) m) (append-assoc (take at m) d e)
     ∙ append-assoc (take at m) (d ++ e) (drop (at + length (d ++ e)) m))))
 
-pub placed-placed : (m : List ℕ) (at : ℕ) (d e : List ℕ) → at + length d + length e ≤ length m
+pub store-twice : (m : List ℕ) (at : ℕ) (d e : List ℕ) → at + length d + length e ≤ length m
     → store (store m at d) (at + length d) e ≡ store m at (d ++ e)
-placed-placed m at d e h =
-    let one : store m at d ≡ overwrite m at d = placed-put m at d (omega arith) in
-    let same : length (overwrite m at d) ≡ length m = length-put m at d (omega arith) in
-    let two : store (overwrite m at d) (at + length d) e ≡ overwrite (overwrite m at d) (at + length d) e = placed-put (overwrite m at d) (at + length d) e (omega arith) in
+store-twice m at d e h =
+    let one : store m at d ≡ overwrite m at d = store-overwrite m at d (omega arith) in
+    let same : length (overwrite m at d) ≡ length m = length-overwrite m at d (omega arith) in
+    let two : store (overwrite m at d) (at + length d) e ≡ overwrite (overwrite m at d) (at + length d) e = store-overwrite (overwrite m at d) (at + length d) e (omega arith) in
     let whole : at + length (d ++ e) ≤ length m = omega (arith, length-append d e) in
-    ap (λ z. store z (at + length d) e) one ∙ (two ∙ (put-put m at d e (omega arith) ∙ sym (placed-put m at (d ++ e) whole)))
+    ap (λ z. store z (at + length d) e) one ∙ (two ∙ (overwrite-twice m at d e (omega arith) ∙ sym (store-overwrite m at (d ++ e) whole)))
 
 -- what the kit's copy leaves in a part as long as its source is the source
 module _ (m d : List ℕ) (at e : ℕ) (l : at + length d ≡ e) where
@@ -109,17 +109,17 @@ module _ (m d : List ℕ) (at e : ℕ) (l : at + length d ≡ e) where
       rw whole (ap (λ x. take at m ++ (d ++ x)) (drop-drop (e - at) at m ∙ ap (λ n. drop n m) k))
 
 -- no bytes change nothing, wherever they go
-pub put-none : (m : List ℕ) (at : ℕ) (d : List ℕ) → length d ≡ 0 → overwrite m at d ≡ m
+pub overwrite-none : (m : List ℕ) (at : ℕ) (d : List ℕ) → length d ≡ 0 → overwrite m at d ≡ m
 unfolding overwrite
-put-none m at [] e =
+overwrite-none m at [] e =
     let k : at + 0 ≡ at = omega arith in
     ap (λ n. take at m ++ drop n m) k ∙ take-append-drop at m
-put-none m at (b ∷ d) e = absurd (omega arith)
+overwrite-none m at (b ∷ d) e = absurd (omega arith)
 
-pub placed-none : (m : List ℕ) (at : ℕ) (d : List ℕ) → length d ≡ 0 → store m at d ≡ m
+pub store-none : (m : List ℕ) (at : ℕ) (d : List ℕ) → length d ≡ 0 → store m at d ≡ m
 unfolding store
-placed-none m at d e = go (leb (at + length d) (length m))
+store-none m at d e = go (leb (at + length d) (length m))
   where
     go : (b : Bool) → cond b (overwrite m at d) m ≡ m
-    go true = put-none m at d e
+    go true = overwrite-none m at d e
     go false = refl

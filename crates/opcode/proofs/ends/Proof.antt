@@ -1,8 +1,8 @@
 use borrow.Author.Needs.{needs}
 use Rattle.lemmas.proofs.Auto.{tested}
-use Rattle.pmtu.specs.Pieces.{ends}
-use Rattle.pmtu.proofs.ends.Statement.{statement}
-use Rattle.pmtu.proofs.ends.Tie as tie
+use Rattle.opcode.specs.Place.{ends}
+use Rattle.opcode.proofs.ends.Statement.{statement}
+use Rattle.opcode.proofs.ends.Tie as tie
 
 returns : tie.Need-returns
 unfolding ends

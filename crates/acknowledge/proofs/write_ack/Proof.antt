@@ -3,10 +3,10 @@ use mathlib.Core.List.{_++_}
 use lib.ListN.{length}
 use Rattle.header.specs.Write.{bthBytes, aethBytes, extensionBytes, headerBytes}
 use Rattle.responder_spec.specs.Reply.{replyHeader, ackHeader}
-use Rattle.apply.proofs.Steps.{in-two}
+use Rattle.acknowledge.proofs.Steps.{in-two}
 use borrow.Author.Needs.{needs}
-use Rattle.apply.proofs.answer.write_ack.Statement.{statement}
-use Rattle.apply.proofs.answer.write_ack.Tie as tie
+use Rattle.acknowledge.proofs.write_ack.Statement.{statement}
+use Rattle.acknowledge.proofs.write_ack.Tie as tie
 
 reply-bth-requires : tie.Need-reply-bth-requires
 reply-bth-requires c κs = search needs
