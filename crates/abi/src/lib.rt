@@ -15,7 +15,7 @@ use sequence::Msn;
 use sequence::Psn;
 use table::Ring;
 ghost use mathlib.Core.Path.{_≡_};
-ghost use mathlib.Core.Bool.{not, false, cond};
+ghost use mathlib.Core.Bool.{false, cond};
 ghost use Prim.Native.Nat.{_%_, _^_, _≤_};
 ghost use lib.Dec.{eqb};
 ghost use lib.ListN.{length};

@@ -10,7 +10,7 @@ use table::Ring;
 ghost use mathlib.Core.Path.{_≡_};
 ghost use lib.Dec.{leb};
 ghost use Rattle.sequence.specs.Sequence.{psnAfter};
-ghost use Rattle.responder_spec.specs.Apply.{ringTaken, entriesBy, savedRingBy, msnBy, readBy, executedPair, closing, pairBy};
+ghost use Rattle.responder_spec.specs.Apply.{entriesBy, savedRingBy, msnBy, readBy, executedPair, closing, pairBy};
 ghost use Rattle.pair.specs.Answer.{statusNumber};
 
 // The ring without its first entry, where a message completes.

@@ -1,14 +1,13 @@
 -- How large the numbers of a cut are.
-use Prim.Native.Nat.{ℕ, _+_, _≤_, _<_}
+use Prim.Native.Nat.{ℕ, _≤_, _<_}
 use mathlib.Core.Path.{_≡_}
 use mathlib.Core.Bool.{true, false}
 use native.Mathlib.Omega.{arith}
-use lib.Dec.{eqb}
 use borrow.Author.Tests.{ltb-false}
 use Rattle.lemmas.proofs.Tests.{cond-le}
 use Rattle.header.specs.Read.{otherService}
 use Rattle.opcode.specs.Place.{ends}
-use Rattle.pmtu.specs.Pieces.{pmtuFits, pieces, placeAt}
+use Rattle.pmtu.specs.Pieces.{pmtuFits, pieces}
 use Rattle.pmtu.proofs.Counting.{counts, pmtu-bounds}
 use Rattle.cut_spec.specs.Message.{carries, carriedLength, messageLength, messageLimit, packetsOf}
 use Rattle.cut_spec.specs.Cut.{withImmediate, lowFor}

@@ -28,7 +28,7 @@ use Rattle.delivery.specs.Demand.{Run, AllLongEnough, LongEnough, entryO
 use Rattle.delivery.proofs.Chain.{Stands, Good}
 use Rattle.delivery.proofs.Cutting.{placeFor, cutPacket}
 use Rattle.delivery.proofs.Rel.{OpenedFor, Link}
-use Rattle.delivery.proofs.Checks.{ends-is, now}
+use Rattle.delivery.proofs.Checks.{ends-is}
 use Rattle.delivery.proofs.Entries.{entries-by, count-is, head-is, entry-fits}
 use Rattle.delivery.proofs.Effects.{Does, opened-next}
 use Rattle.delivery.proofs.Requests.{Carries, Sends}

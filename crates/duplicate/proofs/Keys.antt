@@ -1,17 +1,16 @@
 -- A duplicate READ that is answered has a good key, so its bytes lie in memory.
 use Prim.Native.Nat.{ℕ, _%_, _^_, _<_}
-use mathlib.Core.Path.{_≡_, refl, sym, ap, _∙_}
-use mathlib.Core.Bool.{Bool, true, false, cond, not, _&&_, _||_, true≢false}
+use mathlib.Core.Path.{_≡_, refl, sym, _∙_}
+use mathlib.Core.Bool.{Bool, false, not}
 use mathlib.Core.List.{List}
 use native.Mathlib.Omega.{arith}
 use lib.Dec.{eqb}
 use Rattle.lemmas.proofs.Tests.{or-left, or-right}
 use Rattle.sequence.specs.declared.Psn.{Psn}
-use Rattle.opcode.specs.Place.{starts}
 use Rattle.table.specs.Table.{memoryOffset}
 use Rattle.pair.specs.declared.OpenMessage.{OpenMessage}
 use Rattle.pair.specs.declared.Setup.{Setup}
-use Rattle.request_spec.specs.Verdict.{single, fragment, notEnabled, overLimit, keyFails, current}
+use Rattle.request_spec.specs.Verdict.{notEnabled, overLimit, keyFails}
 use Rattle.request_spec.specs.declared.Packet.{Packet}
 use Rattle.responder_spec.specs.Decide.{duplicateReadFails}
 use Rattle.responder_spec.proofs.Inside.{own-inside}

@@ -11,7 +11,7 @@ use Rattle.header.specs.declared.Header.{Header}
 use Rattle.header.specs.declared.Answer.{Answer}
 use Rattle.header.specs.declared.Answer.the-variants.{Done}
 use Rattle.packet.specs.Packet.{packetWritten, packetOut}
-use Rattle.pmtu.specs.Pieces.{partAt, pieceAt}
+use Rattle.pmtu.specs.Pieces.{partAt}
 use Rattle.pmtu.specs.declared.Range.{Range}
 use Rattle.pmtu.proofs.Cuts.{parts-within, part-of}
 use Rattle.pair.specs.Answer.{statusNumber, executed}

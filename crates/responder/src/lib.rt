@@ -10,7 +10,6 @@ use responder_spec::Decision;
 use responder_spec::Outcome;
 pub use response::next_response;
 ghost use mathlib.Core.Path.{_≡_};
-ghost use lib.ListN.{length};
 ghost use Rattle.responder_spec.specs.Inbound.{inbound, inboundMemory, inboundSaved, inboundOut};
 ghost use Rattle.responder.specs.Unchanged.{unchanged, outcomeWith};
 

@@ -1,7 +1,6 @@
 // The tables of a pair, lent as 16 rows of numbers each: regions, receive entries, saved atomics.
 use sequence::Psn;
 ghost use mathlib.Core.Path.{_≡_};
-ghost use mathlib.Core.Bool.{cond};
 ghost use mathlib.Core.List.{[]};
 ghost use Prim.Native.Nat.{_%_, _^_, _≤_, _<_};
 ghost use lib.ListN.{getD};

@@ -24,7 +24,6 @@ use Rattle.cut_spec.specs.Claims.{Carrier, kindNumber}
 use Rattle.cut_spec.specs.declared.Request.{Request}
 use Rattle.cut_spec.specs.declared.Request.the-variants.{Send, SendImmediate, Write, WriteImmediate, Read, CmpSwap, FetchAdd}
 use Rattle.request_spec.specs.Verdict.{carrying, usesEntry, payloadSize, current, requestCode, expectedCode}
-use Rattle.request_spec.specs.declared.Packet.{Packet}
 use Rattle.responder_spec.specs.declared.Decision.{Decision}
 use Rattle.responder_spec.specs.Decide.{decided, regionFor, closedBy, orphaned, strays, completionOf, messageAfter, storePayload, unanswered}
 use Rattle.responder_spec.specs.Apply.{memoryBy, entriesBy, msnBy}

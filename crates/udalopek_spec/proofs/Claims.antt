@@ -12,7 +12,7 @@ use Rattle.pair.specs.declared.Pair.{Pair}
 use Rattle.pair.specs.Answer.{statusNumber}
 use Rattle.pair.specs.Claims.{Sound}
 use Rattle.pair.specs.Sound.{pairUnsound}
-use Rattle.pair.specs.Host.{resetTo, resetRegions, madeReady, addStatus, addRegions, removeStatus, removeRegions, posted, postEntries}
+use Rattle.pair.specs.Host.{resetTo, resetRegions, madeReady, addStatus, addRegions, posted, postEntries}
 use Rattle.pair.proofs.Tests.{tested}
 use Rattle.table.specs.Claims.{RegionsSound}
 use Rattle.responder_spec.specs.declared.Completion.{Completion}

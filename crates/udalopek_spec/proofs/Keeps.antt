@@ -3,7 +3,6 @@ use Prim.Native.Nat.{ℕ, _≤_}
 use mathlib.Core.Path.{_≡_, refl, sym, ap, _∙_}
 use mathlib.Core.Bool.{Bool, true, false, cond}
 use mathlib.Core.List.{List, [], _∷_}
-use lib.Dec.{eqb}
 use native.Mathlib.Omega.{arith}
 use borrow.Author.Tests.{ne-eqb}
 use Rattle.pair.specs.declared.Status.{Status}
@@ -12,7 +11,7 @@ use Rattle.pair.specs.Answer.{statusNumber, executed}
 use Rattle.pair.specs.Host.{setUp, setUpStatus, setUpRegions, resetTo, resetStatus, resetRegions, madeReady}
 use Rattle.pair.specs.Host.{readyStatus, addStatus, addRegions, removeStatus, removeRegions, posted, postStatus}
 use Rattle.pair.specs.Host.{postEntries}
-use Rattle.responder_spec.specs.Response.{nextResponse, nextStatus, nextOut}
+use Rattle.responder_spec.specs.Response.{nextResponse, nextOut}
 use Rattle.abi_spec.specs.Pair.{pairOf, pairWords, malformed}
 use Rattle.abi_spec.proofs.Laws.{words-accepted, others-malformed}
 use Rattle.udalopek_spec.specs.Packets.{nextNumber, nextWords, nextOutput, nextReport}

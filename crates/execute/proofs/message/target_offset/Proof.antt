@@ -1,7 +1,7 @@
 use Prim.Native.Nat.{_<_}
 use native.Mathlib.Omega.{arith}
 use Rattle.execute.proofs.Places.{nowhere, at-offset}
-use borrow.Author.Tests.{eq-eqb, ne-eqb}
+use borrow.Author.Tests.{eq-eqb}
 use Rattle.responder_spec.specs.Decide.{targetOffset}
 use Rattle.request_spec.specs.Verdict.{bytesToCome}
 use Rattle.table.specs.Table.{memoryOffset}
