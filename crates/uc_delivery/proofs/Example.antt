@@ -18,7 +18,9 @@ use Rattle.pair.specs.Calls.{begun, called, calledAll}
 use Rattle.pair.specs.Host.{setUpStatus, setUp, setUpRegions, addStatus, addRegions, postStatus, posted, postEntries, readyStatus, madeReady}
 use Rattle.pair.specs.Sound.{setupUnfit, setupUnsound, countersUnsound, ringUnsound, messageUnsound, readUnsound, pairUnsound}
 use Rattle.cut_spec.specs.Message.{carries, carriedLength, packetsOf}
-use Rattle.cut_spec.specs.declared.Request.the-variants.{Send, SendImmediate}
+use Rattle.cut_spec.specs.Claims.{Carrier, InLimit, RequestWidths}
+use Rattle.cut_spec.specs.declared.Request.{Request}
+use Rattle.cut_spec.specs.declared.Request.the-variants.{Send, SendImmediate, Write, WriteImmediate}
 use Rattle.uc_delivery.specs.Message.{Standing, packetOf, handed, Comes, firstWaiting, Unreported}
 use Rattle.uc_delivery.specs.Example.{setup, region, calls, made, message, out, first, fresh, AllFulfilled, Delivered, broken, Interrupted}
 use Rattle.responder_spec.specs.Calls.{received}
@@ -38,31 +40,44 @@ is-standing = stands-made setup [] (replicate 16 (replicate 3 0)) (replicate 16 
 room : (i : ℕ) → 24 ≤ length (replicate {A = ℕ} 24 0)
 room i = omega arith
 
+-- a message of the example comes to its pair
+comes-by : (r : Request) (n : ℕ) → InLimit r (length (replicate {A = ℕ} n 9)) → RequestWidths r → Carrier r → Comes out (message r n) first fresh
+unfolding fresh made setup calls region message calledAll called begun setUp setUpStatus setUpRegions addStatus addRegions postStatus posted postEntries readyStatus madeReady executed statusNumber freshPair setupUnfit setupUnsound countersUnsound ringUnsound messageUnsound readUnsound pairUnsound pmtuFits otherService outside pastTop regionOutside firstFrom sought regionRow entryRow slotAt regionOf pkeysMatch fullMember
+comes-by r n limit widths carries =
+    record {
+      standing = is-standing;
+      memory = refl;
+      outputs = room;
+      first24 = omega arith;
+      addressed = record { limit = limit; service = refl; pmtu = refl; dest = refl; match = refl; pkey = omega arith; widths = widths };
+      carries = carries;
+    }
+
 pub all-met : AllFulfilled
 unfolding fresh made setup calls region message calledAll called begun setUp setUpStatus setUpRegions addStatus addRegions postStatus posted postEntries readyStatus madeReady executed statusNumber freshPair setupUnfit setupUnsound countersUnsound ringUnsound messageUnsound readUnsound pairUnsound pmtuFits otherService outside pastTop regionOutside firstFrom sought regionRow entryRow slotAt regionOf pkeysMatch fullMember
 all-met =
     record {
       send =
           record {
-            comes = record { standing = is-standing; memory = refl; outputs = room; first24 = omega arith; addressed = record { limit = omega arith; service = refl; pmtu = refl; dest = refl; match = refl; pkey = omega arith; widths = tt }; carries = tt };
+            comes = comes-by Send 3 (omega arith) tt tt;
             allowed = refl;
             supplied = record { some = λ e. omega arith; long = omega arith };
           };
       sendImmediate =
           record {
-            comes = record { standing = is-standing; memory = refl; outputs = room; first24 = omega arith; addressed = record { limit = omega arith; service = refl; pmtu = refl; dest = refl; match = refl; pkey = omega arith; widths = omega arith }; carries = tt };
+            comes = comes-by (SendImmediate 77) 600 (omega arith) (omega arith) tt;
             allowed = refl;
             supplied = record { some = λ e. omega arith; long = omega arith };
           };
       write =
           record {
-            comes = record { standing = is-standing; memory = refl; outputs = room; first24 = omega arith; addressed = record { limit = omega arith; service = refl; pmtu = refl; dest = refl; match = refl; pkey = omega arith; widths = (omega arith, omega arith) }; carries = tt };
+            comes = comes-by (Write (record { address = 65540; key = 7 })) 300 (omega arith) (omega arith, omega arith) tt;
             allowed = (refl, inr (region, refl, refl, omega arith, omega arith));
             supplied = record { some = λ e. omega arith; long = tt };
           };
       writeImmediate =
           record {
-            comes = record { standing = is-standing; memory = refl; outputs = room; first24 = omega arith; addressed = record { limit = omega arith; service = refl; pmtu = refl; dest = refl; match = refl; pkey = omega arith; widths = ((omega arith, omega arith), omega arith) }; carries = tt };
+            comes = comes-by (WriteImmediate (record { address = 65536; key = 7 }) 1) 0 (omega arith) ((omega arith, omega arith), omega arith) tt;
             allowed = (refl, inl refl);
             supplied = record { some = λ e. omega arith; long = tt };
           };

@@ -101,7 +101,10 @@ pub stored-out : (w : Whole) (e : Psn) (n : Msn) (b : Bool) (u : OpenMessage) (r
     ≡ at w (psnAfter (k .psn) 1) (msnBy (d .ends) n) false (d .message) (entriesBy (d .completion .some) r) (memoryBy d m p) (cs ++ reports (d .completion))
 unfolding pairBy after statusNumber executedPair storePayload readBy savedRingBy savedBy actsAtomic memoryBy
 stored-out w e n b u r m cs p k t entry region =
-    ap (λ x. at w x (msnBy (storePayload k t entry region .ends) n) false (storePayload k t entry region .message) (entriesBy (storePayload k t entry region .completion .some) r) (memoryBy (storePayload k t entry region) m p) (cs ++ reports (storePayload k t entry region .completion)))
+    ap
+    (λ x. at w x (msnBy (storePayload k t entry region .ends) n) false (storePayload k t entry region .message)
+    (entriesBy (storePayload k t entry region .completion .some) r) (memoryBy (storePayload k t entry region) m p)
+    (cs ++ reports (storePayload k t entry region .completion)))
     (number-taken (k .psn) e)
 
 -- what the rules decide of a SEND or WRITE that follows and passes the checks

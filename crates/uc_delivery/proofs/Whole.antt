@@ -199,8 +199,12 @@ handed-whole outs m first x K allowed sup =
     let G = begins w m first P (K .carries) small S sup n (w .pair .expected) (w .pair .message) in
     let k = packetCount m - 1 in
     let e : suc k ≡ packetCount m = omega arith in
-    let b = bounded w m first P (K .carries) small (S .unreliable) (S .ready) (S .idle) sup 0 n (w .pair .expected) (w .pair .msn) (w .pair .nakmark) (w .pair .message) (x .memory) (x .completions) G (S .steady) (K .memory) in
+    let b =
+    bounded w m first P (K .carries) small (S .unreliable) (S .ready) (S .idle) sup 0 n (w .pair .expected) (w .pair .msn) (w .pair .nakmark) (w .pair .message)
+    (x .memory) (x .completions) G (S .steady) (K .memory) in
     let none : x .memory ≡ overwrite (x .memory) (target (m .request) (w .regions) (firstWaiting w)) (take (0 * m .connection .pmtu) (m .bytes)) =
-    sym (overwrite-none (x .memory) (target (m .request) (w .regions) (firstWaiting w)) (take (0 * m .connection .pmtu) (m .bytes)) (simp length-take (omega (arith, zero-mul (m .connection .pmtu))))) in
+    sym
+    (overwrite-none (x .memory) (target (m .request) (w .regions) (firstWaiting w)) (take (0 * m .connection .pmtu) (m .bytes)) (simp length-take (omega (arith, zero-mul (m .connection .pmtu))))) in
     subst (λ j. handed outs m first x 0 (replicate j true) ≡ handedAll x m first) e
-    (rest w m first P (K .carries) small S sup (x .memory) (x .completions) outs (K .outputs) b k 0 (omega arith) (w .pair .expected) (w .pair .nakmark) (w .pair .message) (x .memory) G none (S .steady) (K .memory))
+    (rest w m first P (K .carries) small S sup (x .memory) (x .completions) outs (K .outputs) b k 0 (omega arith) (w .pair .expected) (w .pair .nakmark)
+    (w .pair .message) (x .memory) G none (S .steady) (K .memory))

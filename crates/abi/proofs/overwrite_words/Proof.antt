@@ -44,9 +44,15 @@ loop-less c = omega arith
 
 loop-again : tie.Need-loop-again Inv-loop μ-loop
 loop-again c =
-    let C = c .before .before in
-    let A = C .before .before .args in
-    (omega arith, (ap (λ (l : List ℕ). set l (C .loop .i) (getD (A .new .now) (C .loop .i) 0)) (C .loop .inv .1 .0) ∙ overwrite-one (A .new .now) (A .words .now) (C .loop .i) (omega arith) (omega arith) ∙ ap (λ (n : ℕ). take n (A .new .now) ++ drop n (A .words .now)) (sym (add-one (C .loop .i))), length-set (C .loop .words) (C .loop .i) _ ∙ C .loop .inv .1 .1))
+    let C = c .before .before in let A = C .before .before .args in (
+      omega arith,
+      (
+        ap (λ (l : List ℕ). set l (C .loop .i) (getD (A .new .now) (C .loop .i) 0)) (C .loop .inv .1 .0)
+            ∙ overwrite-one (A .new .now) (A .words .now) (C .loop .i) (omega arith) (omega arith)
+            ∙ ap (λ (n : ℕ). take n (A .new .now) ++ drop n (A .words .now)) (sym (add-one (C .loop .i))),
+        length-set (C .loop .words) (C .loop .i) _ ∙ C .loop .inv .1 .1,
+      ),
+    )
 
 same-length : tie.Need-same-length Inv-loop μ-loop
 same-length c = search needs
@@ -54,8 +60,7 @@ same-length c = search needs
 returns-2 : tie.Need-returns-2 Inv-loop μ-loop
 unfolding overwriteWords
 returns-2 c =
-    let C = c .before in
-    let A = C .before .before .args in
+    let C = c .before in let A = C .before .before .args in
     let e : C .loop .i ≡ length (A .new .now) = omega arith in
     rw (eq-eqb _ _ (C .before .if1 .left)) (C .loop .inv .1 .0 ∙ ap (λ (n : ℕ). take n (A .new .now) ++ drop n (A .words .now)) e ∙ overwrite-all (A .new .now) (A .words .now) (omega arith))
 

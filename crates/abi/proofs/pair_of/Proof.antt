@@ -1,5 +1,6 @@
-use borrow.Author.Tests.{le-leb, le-ltb, lt-leb, lt-ltb}
+use borrow.Author.Tests.{lt-leb, lt-ltb}
 use Rattle.abi_spec.specs.Pair.{pairOf}
+use Rattle.lemmas.proofs.Auto.{tested}
 use borrow.Author.Needs.{needs}
 use Rattle.abi.proofs.pair_of.Statement.{statement}
 use Rattle.abi.proofs.pair_of.Tie as tie
@@ -62,7 +63,7 @@ returns-2 c =
     let c2 = c .before .before in let c4 = c2 .before .before in let c6 = c4 .before .before in
     let c10 = c6 .before .before .before .before in let c13 = c10 .before .before .before in let c14 = c13 .before in
     let c15 = c14 .before in
-    simp (le-ltb _ _ (c15 .if1 .left), le-leb _ _ (c15 .if1 .left), ← c14 .setup-of .ensures, ← c13 .message-of .ensures, ← c10 .read-of .ensures, ← c6 .low32 .ensures, ← c4 .low322 .ensures, ← c2 .low8 .ensures, ← c .flag .ensures)
+    simp (tested, c15 .if1 .left, ← c14 .setup-of .ensures, ← c13 .message-of .ensures, ← c10 .read-of .ensures, ← c6 .low32 .ensures, ← c4 .low322 .ensures, ← c2 .low8 .ensures, ← c .flag .ensures)
 
 pub pair-of-spec : {M : Type 1} → statement M
 pair-of-spec =

@@ -63,8 +63,10 @@ cast-t40 c = search needs
 returns : tie.Need-returns
 unfolding pairWords
 returns c =
-    let A = let c14 = c .before .before .before .before .before .before .before .before .before .before .before .before .before .before in let c28 = c14 .before .before .before .before .before .before .before .before .before .before .before .before .before .before in c28 .args in
-    let G = let c14 = c .before .before .before .before .before .before .before .before .before .before .before .before .before .before in let c28 = c14 .before .before .before .before .before .before .before .before .before .before .before .before .before .before in c28 .good .0 in (
+    let A = let c14 = c .before .before .before .before .before .before .before .before .before .before .before .before .before .before in
+    let c28 = c14 .before .before .before .before .before .before .before .before .before .before .before .before .before .before in c28 .args in
+    let G = let c14 = c .before .before .before .before .before .before .before .before .before .before .before .before .before .before in
+    let c28 = c14 .before .before .before .before .before .before .before .before .before .before .before .before .before .before in c28 .good .0 in (
       refl,
       pair-back (A .q) (record {
         setup = record { ours = omega (arith, G); theirs = omega (arith, G); start = omega (arith, G); pkey = omega (arith, G); service = omega (arith, G); timer = omega (arith, G) };

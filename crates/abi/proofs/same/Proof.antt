@@ -44,7 +44,15 @@ loop-less : tie.Need-loop-less Inv-loop μ-loop
 loop-less c = omega arith
 
 loop-again : tie.Need-loop-again Inv-loop μ-loop
-loop-again c = let C = c .before .before .before .before in let A = C .before .before .before .before .args in let n = C .loop .i in (omega arith, (C .loop .inv .1 .0 ∙ so-far-next (C .loop .ok) (A .a .now) (A .b .now) n (omega arith) (omega arith) ∙ ap (λ t. cond t (eqWords (drop (suc n) (A .a .now)) (drop (suc n) (A .b .now))) false) (sym (c .same-so-far .ensures)) ∙ ap (λ (m : ℕ). cond (c .same-so-far .result) (eqWords (drop m (A .a .now)) (drop m (A .b .now))) false) (sym (add-one n)), C .loop .inv .1 .1))
+loop-again c = let C = c .before .before .before .before in let A = C .before .before .before .before .args in let n = C .loop .i in (
+  omega arith,
+  (
+    C .loop .inv .1 .0 ∙ so-far-next (C .loop .ok) (A .a .now) (A .b .now) n (omega arith) (omega arith)
+        ∙ ap (λ t. cond t (eqWords (drop (suc n) (A .a .now)) (drop (suc n) (A .b .now))) false) (sym (c .same-so-far .ensures))
+        ∙ ap (λ (m : ℕ). cond (c .same-so-far .result) (eqWords (drop m (A .a .now)) (drop m (A .b .now))) false) (sym (add-one n)),
+    C .loop .inv .1 .1,
+  ),
+)
 
 returns-2 : tie.Need-returns-2 Inv-loop μ-loop
 returns-2 c = let C = c .before in let A = C .before .before .before .before .args in sym (C .loop .inv .1 .0 ∙ so-far-end (C .loop .ok) (A .a .now) (A .b .now) (C .loop .i) (omega arith) (C .loop .inv .1 .1))

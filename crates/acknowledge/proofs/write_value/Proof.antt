@@ -51,7 +51,8 @@ returns c =
     let eb = c17 .bth-bytes .ensures ∙ ap bthBytes (c18 .reply-bth .ensures) in
     let ea = c11 .aeth-bytes .ensures in
     let ev = c5 .value-bytes .ensures in
-    in-three (A .out .now) _ _ _ _ (ap length eb) (ap length ea) (c14 .store .ensures) (c8 .store2 .ensures) _ _ _ (ap length ev) (c2 .store3 .ensures) (λ i. sym eb i ++ (sym ea i ++ sym ev i)) (c20 .pre)
+    in-three (A .out .now) _ _ _ _ (ap length eb) (ap length ea) (c14 .store .ensures) (c8 .store2 .ensures) _ _ _ (ap length ev) (c2 .store3 .ensures)
+    (λ i. sym eb i ++ (sym ea i ++ sym ev i)) (c20 .pre)
 
 pub write-value-spec : {M : Type 1} → statement M
 write-value-spec =

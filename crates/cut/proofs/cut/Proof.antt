@@ -47,7 +47,8 @@ returns-2 c =
     let c2 = c .before .before in let c5 = c2 .before .before .before in let c6 = c5 .before in let c7 = c6 .before in
     let c8 = c7 .before in let c9 = c8 .before in
     let A = c9 .before .before .before .args in
-    whole (A .connection) (A .request) (A .message .now) (A .out .now) (A .first) (A .index) _ _ _ _ _ _ (c9 .refusal .ensures) (c8 .if1 .left) (c7 .header-at .ensures) (c6 .carried-length .ensures) (c5 .part .ensures) (c2 .write .ensures .0) (c2 .write .ensures .1)
+    whole (A .connection) (A .request) (A .message .now) (A .out .now) (A .first) (A .index) _ _ _ _ _ _ (c9 .refusal .ensures) (c8 .if1 .left)
+    (c7 .header-at .ensures) (c6 .carried-length .ensures) (c5 .part .ensures) (c2 .write .ensures .0) (c2 .write .ensures .1)
 
 pub cut-spec : {M : Type 1} → statement M
 cut-spec =

@@ -48,7 +48,8 @@ returns c =
     let c1 = c .before in let c2 = c1 .before in let c4 = c2 .before .before in let c5 = c4 .before in
     let c6 = c5 .before in let c7 = c6 .before in let c8 = c7 .before in
     let A = c8 .before .args in
-    header-is (A .connection) (A .request) (A .n) (A .first) (A .index) _ _ _ _ _ _ _ _ (c8 .carried-length .ensures) (c7 .count .ensures) (c6 .place .ensures) (c5 .part .ensures) (c4 .low-for .ensures) (c2 .bth-at .ensures) (c1 .message-length .ensures) (c .extension-for .ensures)
+    header-is (A .connection) (A .request) (A .n) (A .first) (A .index) _ _ _ _ _ _ _ _ (c8 .carried-length .ensures) (c7 .count .ensures) (c6 .place .ensures)
+    (c5 .part .ensures) (c4 .low-for .ensures) (c2 .bth-at .ensures) (c1 .message-length .ensures) (c .extension-for .ensures)
 
 pub header-at-spec : {M : Type 1} → statement M
 header-at-spec =

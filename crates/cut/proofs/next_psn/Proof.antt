@@ -27,7 +27,11 @@ count-requires c κs = search needs
 
 cast-after : tie.Need-cast-after
 cast-after c =
-    omega (arith, let c1 = c .before in let c2 = c1 .before in let c6 = c2 .before .before .before .before in count-passed _ (c6 .args .pmtu) _ _ (c2 .length-refusal .ensures) (c1 .if2 .left) (c .count .ensures))
+    omega (
+      arith,
+      let c1 = c .before in let c2 = c1 .before in let c6 = c2 .before .before .before .before in
+          count-passed _ (c6 .args .pmtu) _ _ (c2 .length-refusal .ensures) (c1 .if2 .left) (c .count .ensures),
+    )
 
 after-requires : tie.Need-after-requires
 after-requires c κs = search needs

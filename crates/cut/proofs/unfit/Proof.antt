@@ -1,6 +1,7 @@
 use Rattle.cut_spec.proofs.Steps.{unfit-last}
-use borrow.Author.Tests.{le-leb, le-ltb, lt-leb, lt-ltb}
+use borrow.Author.Tests.{le-leb, le-ltb}
 use Rattle.cut_spec.specs.Cut.{cutUnfit}
+use Rattle.lemmas.proofs.Auto.{tested}
 use borrow.Author.Needs.{needs}
 use Rattle.cut.proofs.unfit.Statement.{statement}
 use Rattle.cut.proofs.unfit.Tie as tie
@@ -32,7 +33,7 @@ unfolding cutUnfit
 returns-4 c =
     let c2 = c .before .before in let c4 = c2 .before .before in let c5 = c4 .before in let c6 = c5 .before in
     let c7 = c6 .before in
-    simp (← c7 .pmtu-unfit .ensures, c6 .if1 .left, ← c5 .other-service .ensures, c4 .if2 .left, lt-leb _ _ (c2 .if3 .left), lt-ltb _ _ (c2 .if3 .left), le-ltb _ _ (c .if4 .taken), le-leb _ _ (c .if4 .taken))
+    simp (tested, ← c7 .pmtu-unfit .ensures, c6 .if1 .left, ← c5 .other-service .ensures, c4 .if2 .left, c2 .if3 .left, c .if4 .taken)
 
 unserved-requires : tie.Need-unserved-requires
 unserved-requires c κs = search needs
@@ -42,7 +43,8 @@ returns-5 c =
     let c1 = c .before in let c3 = c1 .before .before in let c5 = c3 .before .before in let c6 = c5 .before in
     let c7 = c6 .before in let c8 = c7 .before in
     let A = c8 .before .args in
-    unfit-last (A .connection) (A .carrying) (A .first .0) _ _ _ (c8 .pmtu-unfit .ensures) (c7 .if1 .left) (c6 .other-service .ensures) (c5 .if2 .left) (c3 .if3 .left) (c1 .if4 .left) (c .unserved .ensures)
+    unfit-last (A .connection) (A .carrying) (A .first .0) _ _ _ (c8 .pmtu-unfit .ensures) (c7 .if1 .left) (c6 .other-service .ensures) (c5 .if2 .left)
+    (c3 .if3 .left) (c1 .if4 .left) (c .unserved .ensures)
 
 pub unfit-spec : {M : Type 1} → statement M
 unfit-spec =

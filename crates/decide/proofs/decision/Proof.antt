@@ -56,7 +56,8 @@ returns-2 c =
     let A = c6 .before .args in
     let class = sym (c3 .class-of .ensures) ∙ c1 .enum-told .given .1 in
     simp (← c6 .unformed .ensures, c4 .if1 .left)
-    (formed _ _ _ _ (c .decision .ensures) (sym (c6 .unformed .ensures) ∙ c4 .if1 .left) ∙ expected (A .pair) (A .regions .now) (A .entries .now) (A .saved .now) (A .p) (c5 .unreliable .result) (c5 .unreliable .ensures) class)
+    (formed _ _ _ _ (c .decision .ensures) (sym (c6 .unformed .ensures) ∙ c4 .if1 .left)
+    ∙ expected (A .pair) (A .regions .now) (A .entries .now) (A .saved .now) (A .p) (c5 .unreliable .result) (c5 .unreliable .ensures) class)
 
 returns-3 : tie.Need-returns-3
 returns-3 c =
@@ -74,7 +75,8 @@ returns-4 c =
     let A = c6 .before .args in
     let class = sym (c3 .class-of .ensures) ∙ c1 .enum-told3 .given .1 in
     simp (← c6 .unformed .ensures, c4 .if1 .left)
-    (formed _ _ _ _ (c .answer .ensures) (whole (A .p) (A .pair .setup .timer) (c6 .unformed .result) (c6 .unformed .ensures) (c4 .if1 .left)) ∙ duplicate (A .pair) (A .regions .now) (A .entries .now) (A .saved .now) (A .p) (c5 .unreliable .result) (c5 .unreliable .ensures) class)
+    (formed _ _ _ _ (c .answer .ensures) (whole (A .p) (A .pair .setup .timer) (c6 .unformed .result) (c6 .unformed .ensures) (c4 .if1 .left))
+    ∙ duplicate (A .pair) (A .regions .now) (A .entries .now) (A .saved .now) (A .p) (c5 .unreliable .result) (c5 .unreliable .ensures) class)
 
 pub decision-spec : {M : Type 1} → statement M
 decision-spec =

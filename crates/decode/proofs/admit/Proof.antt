@@ -1,8 +1,9 @@
 use mathlib.Core.Path.{sym, _∙_}
 use Rattle.decode.proofs.Room.{whole, room-of-class}
-use borrow.Author.Tests.{eq-eqb, le-leb, le-ltb, lt-leb, lt-ltb, ne-eqb}
+use borrow.Author.Tests.{eq-eqb, ne-eqb}
 use Rattle.header.specs.Check.{admitted, headerReason}
 use Rattle.header.specs.Read.{readBy, headerOf}
+use Rattle.lemmas.proofs.Auto.{tested}
 use borrow.Author.Needs.{needs}
 use Rattle.decode.proofs.admit.Statement.{statement}
 use Rattle.decode.proofs.admit.Tie as tie
@@ -81,7 +82,7 @@ returns-8 c =
     let c7 = c6 .before in let c9 = c7 .before .before in let c10 = c9 .before in let c12 = c10 .before .before in
     let c13 = c12 .before in let c14 = c13 .before in let c16 = c14 .before .before in let c18 = c16 .before .before in
     let c19 = c18 .before in let c20 = c19 .before in
-    simp (← c20 .bad-length .ensures, c19 .if1 .left, ← c18 .read-bth .ensures, eq-eqb _ _ (c16 .if2 .left), eq-eqb _ _ (c14 .if3 .left), ← c13 .pkeys-match .ensures, c12 .if4 .left, ← c10 .wrong-service .ensures, c9 .if5 .left, ← c7 .is-response .ensures, c6 .if6 .left, ← c4 .beyond-service .ensures, c3 .if7 .left, ← c2 .class .ensures, lt-leb _ _ (c .if8 .taken), lt-ltb _ _ (c .if8 .taken))
+    simp (tested, ← c20 .bad-length .ensures, c19 .if1 .left, ← c18 .read-bth .ensures, eq-eqb _ _ (c16 .if2 .left), eq-eqb _ _ (c14 .if3 .left), ← c13 .pkeys-match .ensures, c12 .if4 .left, ← c10 .wrong-service .ensures, c9 .if5 .left, ← c7 .is-response .ensures, c6 .if6 .left, ← c4 .beyond-service .ensures, c3 .if7 .left, ← c2 .class .ensures, c .if8 .taken)
 
 returns-9 : tie.Need-returns-9
 unfolding admitted headerReason readBy headerOf
@@ -90,7 +91,7 @@ returns-9 c =
     let c7 = c5 .before .before in let c8 = c7 .before in let c10 = c8 .before .before in let c11 = c10 .before in
     let c13 = c11 .before .before in let c14 = c13 .before in let c15 = c14 .before in let c17 = c15 .before .before in
     let c19 = c17 .before .before in let c20 = c19 .before in let c21 = c20 .before in
-    simp (← c21 .bad-length .ensures, c20 .if1 .left, ← c19 .read-bth .ensures, eq-eqb _ _ (c17 .if2 .left), eq-eqb _ _ (c15 .if3 .left), ← c14 .pkeys-match .ensures, c13 .if4 .left, ← c11 .wrong-service .ensures, c10 .if5 .left, ← c8 .is-response .ensures, c7 .if6 .left, ← c5 .beyond-service .ensures, c4 .if7 .left, ← c3 .class .ensures, le-ltb _ _ (c1 .if8 .left), le-leb _ _ (c1 .if8 .left), c .if9 .taken)
+    simp (tested, ← c21 .bad-length .ensures, c20 .if1 .left, ← c19 .read-bth .ensures, eq-eqb _ _ (c17 .if2 .left), eq-eqb _ _ (c15 .if3 .left), ← c14 .pkeys-match .ensures, c13 .if4 .left, ← c11 .wrong-service .ensures, c10 .if5 .left, ← c8 .is-response .ensures, c7 .if6 .left, ← c5 .beyond-service .ensures, c4 .if7 .left, ← c3 .class .ensures, c1 .if8 .left, c .if9 .taken)
 
 read-extension-requires : tie.Need-read-extension-requires
 read-extension-requires c κs =
@@ -104,7 +105,7 @@ returns-10 c =
     let c6 = c5 .before in let c8 = c6 .before .before in let c9 = c8 .before in let c11 = c9 .before .before in
     let c12 = c11 .before in let c14 = c12 .before .before in let c15 = c14 .before in let c16 = c15 .before in
     let c18 = c16 .before .before in let c20 = c18 .before .before in let c21 = c20 .before in let c22 = c21 .before in
-    simp (← c22 .bad-length .ensures, c21 .if1 .left, ← c20 .read-bth .ensures, eq-eqb _ _ (c18 .if2 .left), eq-eqb _ _ (c16 .if3 .left), ← c15 .pkeys-match .ensures, c14 .if4 .left, ← c12 .wrong-service .ensures, c11 .if5 .left, ← c9 .is-response .ensures, c8 .if6 .left, ← c6 .beyond-service .ensures, c5 .if7 .left, ← c4 .class .ensures, le-ltb _ _ (c2 .if8 .left), le-leb _ _ (c2 .if8 .left), c1 .if9 .left, ← c .read-extension .ensures)
+    simp (tested, ← c22 .bad-length .ensures, c21 .if1 .left, ← c20 .read-bth .ensures, eq-eqb _ _ (c18 .if2 .left), eq-eqb _ _ (c16 .if3 .left), ← c15 .pkeys-match .ensures, c14 .if4 .left, ← c12 .wrong-service .ensures, c11 .if5 .left, ← c9 .is-response .ensures, c8 .if6 .left, ← c6 .beyond-service .ensures, c5 .if7 .left, ← c4 .class .ensures, c2 .if8 .left, c1 .if9 .left, ← c .read-extension .ensures)
 
 pub admit-spec : {M : Type 1} → statement M
 admit-spec =

@@ -1,7 +1,8 @@
 use mathlib.Core.Path.{sym, _∙_}
 use Rattle.decode.proofs.Room.{whole, room-of-class}
-use borrow.Author.Tests.{eq-eqb, le-leb, le-ltb, lt-leb, lt-ltb, ne-eqb}
+use borrow.Author.Tests.{eq-eqb, ne-eqb}
 use Rattle.header.specs.Read.{readHeader, readBy, readReason, headerOf}
+use Rattle.lemmas.proofs.Auto.{tested}
 use borrow.Author.Needs.{needs}
 use Rattle.decode.proofs.read.Statement.{statement}
 use Rattle.decode.proofs.read.Tie as tie
@@ -40,7 +41,7 @@ unfolding readHeader readBy readReason headerOf
 returns-4 c =
     let c2 = c .before .before in let c3 = c2 .before in let c4 = c3 .before in let c6 = c4 .before .before in
     let c8 = c6 .before .before in let c9 = c8 .before in let c10 = c9 .before in
-    simp (← c10 .bad-length .ensures, c9 .if1 .left, ← c8 .read-bth .ensures, eq-eqb _ _ (c6 .if2 .left), ← c4 .other-service .ensures, c3 .if3 .left, ← c2 .class .ensures, lt-leb _ _ (c .if4 .taken), lt-ltb _ _ (c .if4 .taken))
+    simp (tested, ← c10 .bad-length .ensures, c9 .if1 .left, ← c8 .read-bth .ensures, eq-eqb _ _ (c6 .if2 .left), ← c4 .other-service .ensures, c3 .if3 .left, ← c2 .class .ensures, c .if4 .taken)
 
 read-extension-requires : tie.Need-read-extension-requires
 read-extension-requires c κs = room-of-class (c .before .before .class .result) _ _ (c .before .before .class .ensures) (c .if4 .left)
@@ -50,7 +51,7 @@ unfolding readHeader readBy readReason headerOf
 returns-5 c =
     let c1 = c .before in let c3 = c1 .before .before in let c4 = c3 .before in let c5 = c4 .before in
     let c7 = c5 .before .before in let c9 = c7 .before .before in let c10 = c9 .before in let c11 = c10 .before in
-    simp (← c11 .bad-length .ensures, c10 .if1 .left, ← c9 .read-bth .ensures, eq-eqb _ _ (c7 .if2 .left), ← c5 .other-service .ensures, c4 .if3 .left, ← c3 .class .ensures, le-ltb _ _ (c1 .if4 .left), le-leb _ _ (c1 .if4 .left), ← c .read-extension .ensures)
+    simp (tested, ← c11 .bad-length .ensures, c10 .if1 .left, ← c9 .read-bth .ensures, eq-eqb _ _ (c7 .if2 .left), ← c5 .other-service .ensures, c4 .if3 .left, ← c3 .class .ensures, c1 .if4 .left, ← c .read-extension .ensures)
 
 pub read-spec : {M : Type 1} → statement M
 read-spec =

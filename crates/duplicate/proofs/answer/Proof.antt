@@ -1,6 +1,7 @@
 use mathlib.Core.Path.{sym, _∙_}
 use Rattle.responder_spec.specs.Decide.{duplicateDecision}
 use borrow.Author.Tests.{eq-eqb, ne-eqb}
+use Rattle.lemmas.proofs.Auto.{tested}
 use borrow.Author.Needs.{needs}
 use Rattle.duplicate.proofs.answer.Statement.{statement}
 use Rattle.duplicate.proofs.answer.Tie as tie
@@ -65,7 +66,7 @@ unfolding duplicateDecision
 returns-4 c =
     let c1 = c .before in let c3 = c1 .before .before in let c4 = c3 .before in let c5 = c4 .before in
     let c7 = c5 .before .before in let c8 = c7 .before in let c9 = c8 .before in let c10 = c9 .before in
-    simp (← c10 .fragment .ensures, c9 .if1 .left, ← c8 .carrying .ensures, c7 .if2 .left, ne-eqb _ _ (c5 .if3 .left), ← c4 .is-atomic .ensures, c3 .if4 .taken, ← c1 .newest .ensures, ← c .duplicate-atomic .ensures)
+    simp (tested, ← c10 .fragment .ensures, c9 .if1 .left, ← c8 .carrying .ensures, c7 .if2 .left, c5 .if3 .left, ← c4 .is-atomic .ensures, c3 .if4 .taken, ← c1 .newest .ensures, ← c .duplicate-atomic .ensures)
 
 no-reply-requires-2 : tie.Need-no-reply-requires-2
 no-reply-requires-2 c κs = search needs

@@ -3,6 +3,7 @@ use native.Mathlib.Omega.{arith}
 use borrow.Author.Tests.{lt-ltb, le-ltb, lt-leb, le-leb, eq-eqb, ne-eqb}
 use Rattle.lemmas.proofs.Tests.{not-ltb}
 use Rattle.header.specs.Write.{bthFits}
+use Rattle.lemmas.proofs.Auto.{tested}
 use borrow.Author.Needs.{needs}
 use Rattle.encode.proofs.bth_unfit.Statement.{statement}
 use Rattle.encode.proofs.bth_unfit.Tie as tie
@@ -44,7 +45,7 @@ returns-4 c =
     let pkey = lt-ltb (A .b .pkey) (2 ^ 16) (omega arith) in
     let reserved8 = lt-ltb (A .b .reserved8) (2 ^ 8) (omega arith) in
     let c2 = c .before .before in let c4 = c2 .before .before in let c6 = c4 .before .before in let c7 = c6 .before in
-    simp (opcode, pkey, reserved8, ← c7 .other-service .ensures, c6 .if1 .left, lt-leb _ _ (c4 .if2 .left), lt-ltb _ _ (c4 .if2 .left), eq-eqb _ _ (c2 .if3 .left), le-ltb _ _ (c .if4 .taken), le-leb _ _ (c .if4 .taken))
+    simp (tested, opcode, pkey, reserved8, ← c7 .other-service .ensures, c6 .if1 .left, c4 .if2 .left, eq-eqb _ _ (c2 .if3 .left), c .if4 .taken)
 
 returns-5 : tie.Need-returns-5
 unfolding bthFits
@@ -55,7 +56,7 @@ returns-5 c =
     let reserved8 = lt-ltb (A .b .reserved8) (2 ^ 8) (omega arith) in
     let c2 = c .before .before in let c4 = c2 .before .before in let c6 = c4 .before .before in
     let c8 = c6 .before .before in let c9 = c8 .before in
-    simp (opcode, pkey, reserved8, ← c9 .other-service .ensures, c8 .if1 .left, lt-leb _ _ (c6 .if2 .left), lt-ltb _ _ (c6 .if2 .left), eq-eqb _ _ (c4 .if3 .left), lt-leb _ _ (c2 .if4 .left), lt-ltb _ _ (c2 .if4 .left), le-ltb _ _ (c .if5 .taken), le-leb _ _ (c .if5 .taken))
+    simp (tested, opcode, pkey, reserved8, ← c9 .other-service .ensures, c8 .if1 .left, c6 .if2 .left, eq-eqb _ _ (c4 .if3 .left), c2 .if4 .left, c .if5 .taken)
 
 returns-6 : tie.Need-returns-6
 unfolding bthFits
@@ -66,7 +67,7 @@ returns-6 c =
     let reserved8 = lt-ltb (A .b .reserved8) (2 ^ 8) (omega arith) in
     let c2 = c .before .before in let c4 = c2 .before .before in let c6 = c4 .before .before in
     let c8 = c6 .before .before in let c10 = c8 .before .before in let c11 = c10 .before in
-    simp (opcode, pkey, reserved8, ← c11 .other-service .ensures, c10 .if1 .left, lt-leb _ _ (c8 .if2 .left), lt-ltb _ _ (c8 .if2 .left), eq-eqb _ _ (c6 .if3 .left), lt-leb _ _ (c4 .if4 .left), lt-ltb _ _ (c4 .if4 .left), lt-leb _ _ (c2 .if5 .left), lt-ltb _ _ (c2 .if5 .left), not-ltb (A .b .psn .0) (2 ^ 24))
+    simp (tested, opcode, pkey, reserved8, ← c11 .other-service .ensures, c10 .if1 .left, c8 .if2 .left, eq-eqb _ _ (c6 .if3 .left), c4 .if4 .left, c2 .if5 .left, not-ltb (A .b .psn .0) (2 ^ 24))
 
 pub bth-unfit-spec : {M : Type 1} → statement M
 bth-unfit-spec =

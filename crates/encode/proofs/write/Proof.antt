@@ -42,7 +42,8 @@ returns-3 c =
     let c2 = c .before .before in let c6 = c2 .before .before .before .before in let c9 = c6 .before .before .before in
     let c10 = c9 .before in let c12 = c10 .before .before in let c14 = c12 .before .before in let c15 = c14 .before in
     let c17 = c15 .before .before in
-    whole (c17 .args .h) (c17 .args .out .now) _ (c15 .unfit .ensures) (c14 .if1 .left) _ (c12 .class .ensures) _ _ _ (c10 .if2 .left) (c9 .bth-bytes .ensures) (c6 .store .ensures) (c2 .write-extension .ensures)
+    whole (c17 .args .h) (c17 .args .out .now) _ (c15 .unfit .ensures) (c14 .if1 .left) _ (c12 .class .ensures) _ _ _ (c10 .if2 .left) (c9 .bth-bytes .ensures)
+    (c6 .store .ensures) (c2 .write-extension .ensures)
 
 pub write-spec : {M : Type 1} → statement M
 write-spec =

@@ -66,14 +66,18 @@ execute-requires c κs =
     let opened = A .pair .message in let entry = c3 .before .before .before .entry-at in
     let region = c3 .before .before .key-region in let kind = c3 .before .open-kind in
     let found = sym (c7 .before .before .is .ensures) ∙ c7 .before .if2 .taken in
-    let P = passed (A .p) s (A .pair .expected) opened (A .pair .entries .count) (entry .result) (region .result) (A .uc) (c10 .lost .result) (c10 .lost .ensures) found (c7 .current .result) (c7 .current .ensures) (kind .result) (kind .ensures) (c3 .expected-status .result) (c3 .expected-status .ensures) (sym (c .before .is2 .ensures) ∙ c .if3 .taken) in
+    let P =
+    passed (A .p) s (A .pair .expected) opened (A .pair .entries .count) (entry .result) (region .result) (A .uc) (c10 .lost .result) (c10 .lost .ensures) found
+    (c7 .current .result) (c7 .current .ensures) (kind .result) (kind .ensures) (c3 .expected-status .result) (c3 .expected-status .ensures)
+    (sym (c .before .is2 .ensures) ∙ c .if3 .taken) in
     let memory : s .memory < 2 ^ 64 = omega (arith, S .good .1 .0) in
     let stored : c7 .current .result .stored < 2 ^ 64 = omega (arith, c7 .current .ok) in
     let length : c7 .current .result .length < 2 ^ 64 = omega (arith, c7 .current .ok) in
     let same = c7 .current .ensures ∙ sym (current-met (A .p) s (A .pair .expected) opened (A .pair .entries .count) (entry .result) (region .result) (A .uc)) in
     let full = whole (A .p) (s .timer) (c12 .before .unformed .result) (c12 .before .unformed .ensures) (c12 .if1 .left) in
     subst (λ x. Executable (A .p) x (entry .result) (region .result)) (sym same)
-    (executable s (cond (A .uc) (closedBy (A .p .place) opened) opened) (A .p) (entry .result) (region .result) P memory (subst (λ x. x .stored < 2 ^ 64) same stored) (subst (λ x. x .length < 2 ^ 64) same length) full)
+    (executable s (cond (A .uc) (closedBy (A .p .place) opened) opened) (A .p) (entry .result) (region .result) P memory
+    (subst (λ x. x .stored < 2 ^ 64) same stored) (subst (λ x. x .length < 2 ^ 64) same length) full)
 
 returns-2 : tie.Need-returns-2
 unfolding statusNumber
@@ -87,8 +91,12 @@ returns-2 c =
     let passed = sym (c2 .is2 .ensures) ∙ c1 .if3 .taken in
     simp (← c13 .unformed .ensures, c12 .if1 .left)
     (c .execute .ensures
-    ∙ (executes (A .p) s (A .pair .expected) opened (A .pair .entries .count) (entry .result) (region .result) (A .uc) (c10 .lost .result) (c10 .lost .ensures) found (c7 .current .result) (c7 .current .ensures) (kind .result) (kind .ensures) (c3 .expected-status .result) (c3 .expected-status .ensures) passed
-    ∙ (λ i. either (A .uc) (A .p) s (A .pair .expected) opened (A .pair .entries .count) (entry .ensures i) ((region .ensures ∙ ap (λ x. regionFor (A .p .kind) (x .key) (A .regions .now)) (c7 .current .ensures)) i))))
+    ∙
+    (executes (A .p) s (A .pair .expected) opened (A .pair .entries .count) (entry .result) (region .result) (A .uc) (c10 .lost .result) (c10 .lost .ensures) found
+    (c7 .current .result) (c7 .current .ensures) (kind .result) (kind .ensures) (c3 .expected-status .result) (c3 .expected-status .ensures) passed
+    ∙
+    (λ i. either (A .uc) (A .p) s (A .pair .expected) opened (A .pair .entries .count) (entry .ensures i)
+    ((region .ensures ∙ ap (λ x. regionFor (A .p .kind) (x .key) (A .regions .now)) (c7 .current .ensures)) i))))
 
 refused-requires : tie.Need-refused-requires
 refused-requires c κs =
@@ -109,8 +117,12 @@ returns-3 c =
     let passed = sym (c2 .is2 .ensures) ∙ c1 .if3 .left in
     simp (← c13 .unformed .ensures, c12 .if1 .left)
     (c .refused .ensures
-    ∙ (refuses (A .p) s (A .pair .expected) opened (A .pair .entries .count) (entry .result) (region .result) (A .uc) (c10 .lost .result) (c10 .lost .ensures) found (c7 .current .result) (c7 .current .ensures) (kind .result) (kind .ensures) (c3 .expected-status .result) (c3 .expected-status .ensures) passed
-    ∙ (λ i. either (A .uc) (A .p) s (A .pair .expected) opened (A .pair .entries .count) (entry .ensures i) ((region .ensures ∙ ap (λ x. regionFor (A .p .kind) (x .key) (A .regions .now)) (c7 .current .ensures)) i))))
+    ∙
+    (refuses (A .p) s (A .pair .expected) opened (A .pair .entries .count) (entry .result) (region .result) (A .uc) (c10 .lost .result) (c10 .lost .ensures) found
+    (c7 .current .result) (c7 .current .ensures) (kind .result) (kind .ensures) (c3 .expected-status .result) (c3 .expected-status .ensures) passed
+    ∙
+    (λ i. either (A .uc) (A .p) s (A .pair .expected) opened (A .pair .entries .count) (entry .ensures i)
+    ((region .ensures ∙ ap (λ x. regionFor (A .p .kind) (x .key) (A .regions .now)) (c7 .current .ensures)) i))))
 
 no-reply-requires-2 : tie.Need-no-reply-requires-2
 no-reply-requires-2 c κs = search needs

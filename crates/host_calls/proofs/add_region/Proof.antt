@@ -1,7 +1,8 @@
 use mathlib.Core.Path.{refl}
-use borrow.Author.Tests.{eq-eqb, le-leb, le-ltb, lt-leb, lt-ltb, ne-eqb}
+use borrow.Author.Tests.{eq-eqb, ne-eqb}
 use Rattle.pair.specs.Host.{addStatus, addRegions}
 use Rattle.pair.specs.Answer.{executed, statusNumber}
+use Rattle.lemmas.proofs.Auto.{tested}
 use borrow.Author.Needs.{needs}
 use Rattle.host_calls.proofs.add_region.Statement.{statement}
 use Rattle.host_calls.proofs.add_region.Tie as tie
@@ -44,7 +45,7 @@ returns-4 c =
     let c1 = c .before in let c3 = c1 .before .before in let c4 = c3 .before in let c6 = c4 .before .before in
     let c7 = c6 .before in let c8 = c7 .before in let c9 = c8 .before in let c10 = c9 .before in
     let c11 = c10 .before in
-    simp (ne-eqb _ _ (c11 .if1 .left), ← c10 .unsound .ensures, c9 .if2 .left, ← c8 .usize-to-u64 .ensures, ← c7 .region-outside .ensures, c6 .if3 .left, ← c4 .u32-to-u64 .ensures .0, ← c3 .find .ensures .0, ← c1 .find2 .ensures .0, lt-leb _ _ (c .if4 .taken), lt-ltb _ _ (c .if4 .taken)) (refl, refl)
+    simp (tested, c11 .if1 .left, ← c10 .unsound .ensures, c9 .if2 .left, ← c8 .usize-to-u64 .ensures, ← c7 .region-outside .ensures, c6 .if3 .left, ← c4 .u32-to-u64 .ensures .0, ← c3 .find .ensures .0, ← c1 .find2 .ensures .0, c .if4 .taken) (refl, refl)
 
 returns-5 : tie.Need-returns-5
 unfolding addStatus addRegions executed statusNumber
@@ -52,7 +53,7 @@ returns-5 c =
     let c1 = c .before in let c2 = c1 .before in let c4 = c2 .before .before in let c5 = c4 .before in
     let c7 = c5 .before .before in let c8 = c7 .before in let c9 = c8 .before in let c10 = c9 .before in
     let c11 = c10 .before in let c12 = c11 .before in
-    simp (ne-eqb _ _ (c12 .if1 .left), ← c11 .unsound .ensures, c10 .if2 .left, ← c9 .usize-to-u64 .ensures, ← c8 .region-outside .ensures, c7 .if3 .left, ← c5 .u32-to-u64 .ensures .0, ← c4 .find .ensures .0, ← c2 .find2 .ensures .0, le-ltb _ _ (c1 .if4 .left), le-leb _ _ (c1 .if4 .left), le-ltb _ _ (c .if5 .taken), le-leb _ _ (c .if5 .taken)) (refl, refl)
+    simp (tested, c12 .if1 .left, ← c11 .unsound .ensures, c10 .if2 .left, ← c9 .usize-to-u64 .ensures, ← c8 .region-outside .ensures, c7 .if3 .left, ← c5 .u32-to-u64 .ensures .0, ← c4 .find .ensures .0, ← c2 .find2 .ensures .0, c1 .if4 .left, c .if5 .taken) (refl, refl)
 
 region-row-requires : tie.Need-region-row-requires
 region-row-requires c κs = search needs
@@ -69,7 +70,7 @@ returns-6 c =
     let c1 = c .before in let c2 = c1 .before in let c3 = c2 .before in let c5 = c3 .before .before in
     let c6 = c5 .before in let c8 = c6 .before .before in let c9 = c8 .before in let c10 = c9 .before in
     let c11 = c10 .before in let c12 = c11 .before in let c13 = c12 .before in
-    simp (ne-eqb _ _ (c13 .if1 .left), ← c12 .unsound .ensures, c11 .if2 .left, ← c10 .usize-to-u64 .ensures, ← c9 .region-outside .ensures, c8 .if3 .left, ← c6 .u32-to-u64 .ensures .0, ← c5 .find .ensures .0, ← c3 .find2 .ensures .0, le-ltb _ _ (c2 .if4 .left), le-leb _ _ (c2 .if4 .left), lt-leb _ _ (c1 .if5 .left), lt-ltb _ _ (c1 .if5 .left), ← c .region-row .ensures) (refl, refl)
+    simp (tested, c13 .if1 .left, ← c12 .unsound .ensures, c11 .if2 .left, ← c10 .usize-to-u64 .ensures, ← c9 .region-outside .ensures, c8 .if3 .left, ← c6 .u32-to-u64 .ensures .0, ← c5 .find .ensures .0, ← c3 .find2 .ensures .0, c2 .if4 .left, c1 .if5 .left, ← c .region-row .ensures) (refl, refl)
 
 pub add-region-spec : {M : Type 1} → statement M
 add-region-spec =

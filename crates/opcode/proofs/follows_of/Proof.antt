@@ -1,5 +1,6 @@
 use borrow.Author.Tests.{eq-eqb, le-leb, le-ltb, lt-leb, lt-ltb, ne-eqb}
 use Rattle.opcode.specs.Opcode.{followsOf}
+use Rattle.lemmas.proofs.Auto.{tested}
 use borrow.Author.Needs.{needs}
 use Rattle.opcode.proofs.follows_of.Statement.{statement}
 use Rattle.opcode.proofs.follows_of.Tie as tie
@@ -35,35 +36,35 @@ returns-6 : tie.Need-returns-6
 unfolding followsOf
 returns-6 c =
     let c1 = c .before in let c2 = c1 .before in let c3 = c2 .before in let c4 = c3 .before in let c5 = c4 .before in
-    simp (le-ltb _ _ (c5 .if1 .left), le-leb _ _ (c5 .if1 .left), ne-eqb _ _ (c4 .if2 .left), ne-eqb _ _ (c3 .if3 .left), ne-eqb _ _ (c2 .if4 .left), ne-eqb _ _ (c1 .if5 .left), eq-eqb _ _ (c .if6 .taken))
+    simp (tested, c5 .if1 .left, c4 .if2 .left, c3 .if3 .left, c2 .if4 .left, c1 .if5 .left, eq-eqb _ _ (c .if6 .taken))
 
 returns-7 : tie.Need-returns-7
 unfolding followsOf
 returns-7 c =
     let c1 = c .before in let c2 = c1 .before in let c3 = c2 .before in let c4 = c3 .before in let c5 = c4 .before in
     let c6 = c5 .before in
-    simp (le-ltb _ _ (c6 .if1 .left), le-leb _ _ (c6 .if1 .left), ne-eqb _ _ (c5 .if2 .left), ne-eqb _ _ (c4 .if3 .left), ne-eqb _ _ (c3 .if4 .left), ne-eqb _ _ (c2 .if5 .left), ne-eqb _ _ (c1 .if6 .left), eq-eqb _ _ (c .if7 .taken))
+    simp (tested, c6 .if1 .left, c5 .if2 .left, c4 .if3 .left, c3 .if4 .left, c2 .if5 .left, c1 .if6 .left, eq-eqb _ _ (c .if7 .taken))
 
 returns-8 : tie.Need-returns-8
 unfolding followsOf
 returns-8 c =
     let c1 = c .before in let c2 = c1 .before in let c3 = c2 .before in let c4 = c3 .before in let c5 = c4 .before in
     let c6 = c5 .before in let c7 = c6 .before in
-    simp (le-ltb _ _ (c7 .if1 .left), le-leb _ _ (c7 .if1 .left), ne-eqb _ _ (c6 .if2 .left), ne-eqb _ _ (c5 .if3 .left), ne-eqb _ _ (c4 .if4 .left), ne-eqb _ _ (c3 .if5 .left), ne-eqb _ _ (c2 .if6 .left), ne-eqb _ _ (c1 .if7 .left), eq-eqb _ _ (c .if8 .taken))
+    simp (tested, c7 .if1 .left, c6 .if2 .left, c5 .if3 .left, c4 .if4 .left, c3 .if5 .left, c2 .if6 .left, c1 .if7 .left, eq-eqb _ _ (c .if8 .taken))
 
 returns-9 : tie.Need-returns-9
 unfolding followsOf
 returns-9 c =
     let c1 = c .before in let c2 = c1 .before in let c3 = c2 .before in let c4 = c3 .before in let c5 = c4 .before in
     let c6 = c5 .before in let c7 = c6 .before in let c8 = c7 .before in
-    simp (le-ltb _ _ (c8 .if1 .left), le-leb _ _ (c8 .if1 .left), ne-eqb _ _ (c7 .if2 .left), ne-eqb _ _ (c6 .if3 .left), ne-eqb _ _ (c5 .if4 .left), ne-eqb _ _ (c4 .if5 .left), ne-eqb _ _ (c3 .if6 .left), ne-eqb _ _ (c2 .if7 .left), ne-eqb _ _ (c1 .if8 .left), eq-eqb _ _ (c .if9 .taken))
+    simp (tested, c8 .if1 .left, c7 .if2 .left, c6 .if3 .left, c5 .if4 .left, c4 .if5 .left, c3 .if6 .left, c2 .if7 .left, c1 .if8 .left, eq-eqb _ _ (c .if9 .taken))
 
 returns-10 : tie.Need-returns-10
 unfolding followsOf
 returns-10 c =
     let c1 = c .before in let c2 = c1 .before in let c3 = c2 .before in let c4 = c3 .before in let c5 = c4 .before in
     let c6 = c5 .before in let c7 = c6 .before in let c8 = c7 .before in
-    simp (le-ltb _ _ (c8 .if1 .left), le-leb _ _ (c8 .if1 .left), ne-eqb _ _ (c7 .if2 .left), ne-eqb _ _ (c6 .if3 .left), ne-eqb _ _ (c5 .if4 .left), ne-eqb _ _ (c4 .if5 .left), ne-eqb _ _ (c3 .if6 .left), ne-eqb _ _ (c2 .if7 .left), ne-eqb _ _ (c1 .if8 .left), ne-eqb _ _ (c .if9 .left))
+    simp (tested, c8 .if1 .left, c7 .if2 .left, c6 .if3 .left, c5 .if4 .left, c4 .if5 .left, c3 .if6 .left, c2 .if7 .left, c1 .if8 .left, c .if9 .left)
 
 pub follows-of-spec : {M : Type 1} → statement M
 follows-of-spec =

@@ -1,5 +1,6 @@
 use borrow.Author.Tests.{eq-eqb, le-leb, le-ltb, lt-leb, lt-ltb, ne-eqb}
 use Rattle.opcode.specs.Opcode.{placeOf}
+use Rattle.lemmas.proofs.Auto.{tested}
 use borrow.Author.Needs.{needs}
 use Rattle.opcode.proofs.place_of.Statement.{statement}
 use Rattle.opcode.proofs.place_of.Tie as tie
@@ -16,11 +17,11 @@ place-in-requires-2 c κs = search needs
 
 returns-2 : tie.Need-returns-2
 unfolding placeOf
-returns-2 c = simp (le-ltb _ _ (c .before .before .if1 .left), le-leb _ _ (c .before .before .if1 .left), lt-leb _ _ (c .before .if2 .taken), lt-ltb _ _ (c .before .if2 .taken), ← c .place-in2 .ensures)
+returns-2 c = simp (tested, c .before .before .if1 .left, c .before .if2 .taken, ← c .place-in2 .ensures)
 
 returns-3 : tie.Need-returns-3
 unfolding placeOf
-returns-3 c = simp (le-ltb _ _ (c .before .before .if1 .left), le-leb _ _ (c .before .before .if1 .left), le-ltb _ _ (c .before .if2 .left), le-leb _ _ (c .before .if2 .left), eq-eqb _ _ (c .if3 .taken))
+returns-3 c = simp (tested, c .before .before .if1 .left, c .before .if2 .left, eq-eqb _ _ (c .if3 .taken))
 
 returns-4 : tie.Need-returns-4
 unfolding placeOf
@@ -32,13 +33,13 @@ returns-5 : tie.Need-returns-5
 unfolding placeOf
 returns-5 c =
     let c1 = c .before in let c2 = c1 .before in let c3 = c2 .before in let c4 = c3 .before in
-    simp (le-ltb _ _ (c4 .if1 .left), le-leb _ _ (c4 .if1 .left), le-ltb _ _ (c3 .if2 .left), le-leb _ _ (c3 .if2 .left), ne-eqb _ _ (c2 .if3 .left), ne-eqb _ _ (c1 .if4 .left), eq-eqb _ _ (c .if5 .taken))
+    simp (tested, c4 .if1 .left, c3 .if2 .left, c2 .if3 .left, c1 .if4 .left, eq-eqb _ _ (c .if5 .taken))
 
 returns-6 : tie.Need-returns-6
 unfolding placeOf
 returns-6 c =
     let c1 = c .before in let c2 = c1 .before in let c3 = c2 .before in let c4 = c3 .before in
-    simp (le-ltb _ _ (c4 .if1 .left), le-leb _ _ (c4 .if1 .left), le-ltb _ _ (c3 .if2 .left), le-leb _ _ (c3 .if2 .left), ne-eqb _ _ (c2 .if3 .left), ne-eqb _ _ (c1 .if4 .left), ne-eqb _ _ (c .if5 .left))
+    simp (tested, c4 .if1 .left, c3 .if2 .left, c2 .if3 .left, c1 .if4 .left, c .if5 .left)
 
 pub place-of-spec : {M : Type 1} → statement M
 place-of-spec =

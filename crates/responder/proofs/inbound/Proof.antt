@@ -29,7 +29,8 @@ returns : tie.Need-returns
 returns c =
     let c1 = c .before in let c2 = c1 .before in let c3 = c2 .before in
     let A = c3 .before .before .before .before .args in
-    refused (A .pair) (A .regions .now) (A .entries .now) (A .saved .now) (A .mem .now) (A .packet .now) (A .out .now) (c3 .refusal .result) (c3 .refusal .ensures) (c2 .number .result) (c2 .number .ensures) (c1 .if1 .taken) (c .unchanged .result) (c .unchanged .ensures)
+    refused (A .pair) (A .regions .now) (A .entries .now) (A .saved .now) (A .mem .now) (A .packet .now) (A .out .now) (c3 .refusal .result) (c3 .refusal .ensures)
+    (c2 .number .result) (c2 .number .ensures) (c1 .if1 .taken) (c .unchanged .result) (c .unchanged .ensures)
 
 admit-requires : tie.Need-admit-requires
 admit-requires c κs = search needs
@@ -48,7 +49,9 @@ returns-2 c =
     let c1 = c .before in let c3 = c1 .before .before in let c5 = c3 .before .before in let c6 = c5 .before in
     let c7 = c6 .before in
     let A = c7 .before .before .before .before .args in
-    left-at-once (A .pair) (A .regions .now) (A .entries .now) (A .saved .now) (A .mem .now) (A .packet .now) (A .out .now) (c7 .refusal .result) (c7 .refusal .ensures) (c6 .number .result) (c6 .number .ensures) (c5 .if1 .left) (c3 .admit .result) (c3 .admit .ensures) _ (c1 .enum-told .given .1) (c .unchanged2 .result) (c .unchanged2 .ensures)
+    left-at-once (A .pair) (A .regions .now) (A .entries .now) (A .saved .now) (A .mem .now) (A .packet .now) (A .out .now) (c7 .refusal .result)
+    (c7 .refusal .ensures) (c6 .number .result) (c6 .number .ensures) (c5 .if1 .left) (c3 .admit .result) (c3 .admit .ensures) _ (c1 .enum-told .given .1)
+    (c .unchanged2 .result) (c .unchanged2 .ensures)
 
 packet-of-requires : tie.Need-packet-of-requires
 packet-of-requires c κs = search needs

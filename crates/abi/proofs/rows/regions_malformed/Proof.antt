@@ -26,7 +26,8 @@ row-malformed-requires : tie.Need-row-malformed-requires Inv-loop μ-loop
 row-malformed-requires c κs = search needs
 
 returns : tie.Need-returns Inv-loop μ-loop
-returns c = let C = c .before .before .before .before in let A = C .before .args in sym (C .loop .inv .1 ∙ malformed-here (A .regions .now) (A .memory) (C .loop .i) 16 (omega arith) (sym (c .before .row-malformed .ensures) ∙ c .if1 .taken))
+returns c = let C = c .before .before .before .before in let A = C .before .args in
+    sym (C .loop .inv .1 ∙ malformed-here (A .regions .now) (A .memory) (C .loop .i) 16 (omega arith) (sym (c .before .row-malformed .ensures) ∙ c .if1 .taken))
 
 add-i : tie.Need-add-i Inv-loop μ-loop
 add-i c = search needs
@@ -35,7 +36,8 @@ loop-less : tie.Need-loop-less Inv-loop μ-loop
 loop-less c = search needs
 
 loop-again : tie.Need-loop-again Inv-loop μ-loop
-loop-again c = let C = c .before .before .before .before in let A = C .before .args in (omega arith, C .loop .inv .1 ∙ malformed-next (A .regions .now) (A .memory) (C .loop .i) 16 (omega arith) (sym (c .before .row-malformed .ensures) ∙ c .if1 .left))
+loop-again c = let C = c .before .before .before .before in let A = C .before .args in
+    (omega arith, C .loop .inv .1 ∙ malformed-next (A .regions .now) (A .memory) (C .loop .i) 16 (omega arith) (sym (c .before .row-malformed .ensures) ∙ c .if1 .left))
 
 returns-2 : tie.Need-returns-2 Inv-loop μ-loop
 returns-2 c = let C = c .before in let A = C .before .args in sym (C .loop .inv .1 ∙ malformed-end (A .regions .now) (A .memory) (C .loop .i) 16 (omega arith))

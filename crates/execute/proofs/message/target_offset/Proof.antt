@@ -48,7 +48,8 @@ returns-3 : tie.Need-returns-3
 returns-3 c =
     let c3 = c .before .before .before in let c4 = c3 .before in let c5 = c4 .before in let c6 = c5 .before in
     let A = c6 .args in
-    at-offset (A .kind) (A .m) (A .t3) (A .region) (c4 .if1 .left) (c3 .saturating-sub .result) (c3 .saturating-sub .ensures) (c5 .usize-to-u64 .result) (c5 .usize-to-u64 .ensures) (c .memory-offset .result) (c .memory-offset .ensures) (c6 .pre .offset (c4 .if1 .left))
+    at-offset (A .kind) (A .m) (A .t3) (A .region) (c4 .if1 .left) (c3 .saturating-sub .result) (c3 .saturating-sub .ensures) (c5 .usize-to-u64 .result)
+    (c5 .usize-to-u64 .ensures) (c .memory-offset .result) (c .memory-offset .ensures) (c6 .pre .offset (c4 .if1 .left))
 
 pub target-offset-spec : {M : Type 1} → statement M
 target-offset-spec =

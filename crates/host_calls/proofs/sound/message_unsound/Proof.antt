@@ -1,5 +1,6 @@
-use borrow.Author.Tests.{eq-eqb, le-leb, le-ltb, lt-leb, lt-ltb, ne-eqb}
+use borrow.Author.Tests.{eq-eqb, le-leb, le-ltb, ne-eqb}
 use Rattle.pair.specs.Sound.{messageUnsound, writeUnsound}
+use Rattle.lemmas.proofs.Auto.{tested}
 use borrow.Author.Needs.{needs}
 use Rattle.host_calls.proofs.sound.message_unsound.Statement.{statement}
 use Rattle.host_calls.proofs.sound.message_unsound.Tie as tie
@@ -29,7 +30,7 @@ returns-5 : tie.Need-returns-5
 unfolding messageUnsound writeUnsound
 returns-5 c =
     let c1 = c .before in let c2 = c1 .before in let c3 = c2 .before in let c4 = c3 .before in
-    simp (ne-eqb _ _ (c4 .if1 .left), ne-eqb _ _ (c3 .if2 .left), eq-eqb _ _ (c2 .if3 .left), lt-leb _ _ (c1 .if4 .left), lt-ltb _ _ (c1 .if4 .left), lt-leb _ _ (c .if5 .taken), lt-ltb _ _ (c .if5 .taken))
+    simp (tested, c4 .if1 .left, c3 .if2 .left, eq-eqb _ _ (c2 .if3 .left), c1 .if4 .left, c .if5 .taken)
 
 usize-to-u64-requires : tie.Need-usize-to-u64-requires
 usize-to-u64-requires c κs = search needs
@@ -42,7 +43,7 @@ unfolding messageUnsound writeUnsound
 returns-6 c =
     let c1 = c .before in let c2 = c1 .before in let c3 = c2 .before in let c4 = c3 .before in let c5 = c4 .before in
     let c6 = c5 .before in
-    simp (ne-eqb _ _ (c6 .if1 .left), ne-eqb _ _ (c5 .if2 .left), eq-eqb _ _ (c4 .if3 .left), lt-leb _ _ (c3 .if4 .left), lt-ltb _ _ (c3 .if4 .left), le-ltb _ _ (c2 .if5 .left), le-leb _ _ (c2 .if5 .left), ← c1 .usize-to-u64 .ensures, ← c .past-top .ensures)
+    simp (tested, c6 .if1 .left, c5 .if2 .left, eq-eqb _ _ (c4 .if3 .left), c3 .if4 .left, c2 .if5 .left, ← c1 .usize-to-u64 .ensures, ← c .past-top .ensures)
 
 pub message-unsound-spec : {M : Type 1} → statement M
 message-unsound-spec =

@@ -1,5 +1,6 @@
 use borrow.Author.Tests.{eq-eqb, le-leb, le-ltb, lt-leb, lt-ltb, ne-eqb}
 use Rattle.pair.specs.Sound.{readUnsound}
+use Rattle.lemmas.proofs.Auto.{tested}
 use borrow.Author.Needs.{needs}
 use Rattle.host_calls.proofs.sound.read_unsound.Statement.{statement}
 use Rattle.host_calls.proofs.sound.read_unsound.Tie as tie
@@ -29,14 +30,14 @@ unfolding readUnsound
 returns-4 c =
     let c2 = c .before .before in let c3 = c2 .before in let c4 = c3 .before in let c5 = c4 .before in
     let c6 = c5 .before in
-    simp (ne-eqb _ _ (c6 .if1 .left), ← c5 .count .ensures, le-ltb _ _ (c4 .if2 .left), le-leb _ _ (c4 .if2 .left), ← c3 .outside .ensures, c2 .if3 .left, le-ltb _ _ (c .if4 .taken), le-leb _ _ (c .if4 .taken))
+    simp (tested, c6 .if1 .left, ← c5 .count .ensures, c4 .if2 .left, ← c3 .outside .ensures, c2 .if3 .left, c .if4 .taken)
 
 returns-5 : tie.Need-returns-5
 unfolding readUnsound
 returns-5 c =
     let c1 = c .before in let c3 = c1 .before .before in let c4 = c3 .before in let c5 = c4 .before in
     let c6 = c5 .before in let c7 = c6 .before in
-    simp (ne-eqb _ _ (c7 .if1 .left), ← c6 .count .ensures, le-ltb _ _ (c5 .if2 .left), le-leb _ _ (c5 .if2 .left), ← c4 .outside .ensures, c3 .if3 .left, lt-leb _ _ (c1 .if4 .left), lt-ltb _ _ (c1 .if4 .left))
+    simp (tested, c7 .if1 .left, ← c6 .count .ensures, c5 .if2 .left, ← c4 .outside .ensures, c3 .if3 .left, c1 .if4 .left)
 
 pub read-unsound-spec : {M : Type 1} → statement M
 read-unsound-spec =

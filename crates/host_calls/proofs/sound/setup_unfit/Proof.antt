@@ -1,5 +1,6 @@
-use borrow.Author.Tests.{eq-eqb, le-leb, le-ltb, lt-leb, lt-ltb, ne-eqb}
+use borrow.Author.Tests.{eq-eqb, le-leb, le-ltb}
 use Rattle.pair.specs.Sound.{setupUnfit}
+use Rattle.lemmas.proofs.Auto.{tested}
 use borrow.Author.Needs.{needs}
 use Rattle.host_calls.proofs.sound.setup_unfit.Statement.{statement}
 use Rattle.host_calls.proofs.sound.setup_unfit.Tie as tie
@@ -31,28 +32,28 @@ unfolding setupUnfit
 returns-4 c =
     let c2 = c .before .before in let c4 = c2 .before .before in let c5 = c4 .before in let c6 = c5 .before in
     let c7 = c6 .before in
-    simp (← c7 .pmtu-unfit .ensures, c6 .if1 .left, ← c5 .other-service .ensures, c4 .if2 .left, lt-leb _ _ (c2 .if3 .left), lt-ltb _ _ (c2 .if3 .left), le-ltb _ _ (c .if4 .taken), le-leb _ _ (c .if4 .taken))
+    simp (tested, ← c7 .pmtu-unfit .ensures, c6 .if1 .left, ← c5 .other-service .ensures, c4 .if2 .left, c2 .if3 .left, c .if4 .taken)
 
 returns-5 : tie.Need-returns-5
 unfolding setupUnfit
 returns-5 c =
     let c2 = c .before .before in let c4 = c2 .before .before in let c6 = c4 .before .before in let c7 = c6 .before in
     let c8 = c7 .before in let c9 = c8 .before in
-    simp (← c9 .pmtu-unfit .ensures, c8 .if1 .left, ← c7 .other-service .ensures, c6 .if2 .left, lt-leb _ _ (c4 .if3 .left), lt-ltb _ _ (c4 .if3 .left), lt-leb _ _ (c2 .if4 .left), lt-ltb _ _ (c2 .if4 .left), le-ltb _ _ (c .if5 .taken), le-leb _ _ (c .if5 .taken))
+    simp (tested, ← c9 .pmtu-unfit .ensures, c8 .if1 .left, ← c7 .other-service .ensures, c6 .if2 .left, c4 .if3 .left, c2 .if4 .left, c .if5 .taken)
 
 returns-6 : tie.Need-returns-6
 unfolding setupUnfit
 returns-6 c =
     let c2 = c .before .before in let c4 = c2 .before .before in let c6 = c4 .before .before in
     let c8 = c6 .before .before in let c9 = c8 .before in let c10 = c9 .before in let c11 = c10 .before in
-    simp (← c11 .pmtu-unfit .ensures, c10 .if1 .left, ← c9 .other-service .ensures, c8 .if2 .left, lt-leb _ _ (c6 .if3 .left), lt-ltb _ _ (c6 .if3 .left), lt-leb _ _ (c4 .if4 .left), lt-ltb _ _ (c4 .if4 .left), lt-leb _ _ (c2 .if5 .left), lt-ltb _ _ (c2 .if5 .left), eq-eqb _ _ (c .if6 .taken))
+    simp (tested, ← c11 .pmtu-unfit .ensures, c10 .if1 .left, ← c9 .other-service .ensures, c8 .if2 .left, c6 .if3 .left, c4 .if4 .left, c2 .if5 .left, eq-eqb _ _ (c .if6 .taken))
 
 returns-7 : tie.Need-returns-7
 unfolding setupUnfit
 returns-7 c =
     let c1 = c .before in let c3 = c1 .before .before in let c5 = c3 .before .before in let c7 = c5 .before .before in
     let c9 = c7 .before .before in let c10 = c9 .before in let c11 = c10 .before in let c12 = c11 .before in
-    simp (← c12 .pmtu-unfit .ensures, c11 .if1 .left, ← c10 .other-service .ensures, c9 .if2 .left, lt-leb _ _ (c7 .if3 .left), lt-ltb _ _ (c7 .if3 .left), lt-leb _ _ (c5 .if4 .left), lt-ltb _ _ (c5 .if4 .left), lt-leb _ _ (c3 .if5 .left), lt-ltb _ _ (c3 .if5 .left), ne-eqb _ _ (c1 .if6 .left))
+    simp (tested, ← c12 .pmtu-unfit .ensures, c11 .if1 .left, ← c10 .other-service .ensures, c9 .if2 .left, c7 .if3 .left, c5 .if4 .left, c3 .if5 .left, c1 .if6 .left)
 
 pub setup-unfit-spec : {M : Type 1} → statement M
 setup-unfit-spec =

@@ -32,7 +32,8 @@ returns-3 : tie.Need-returns-3
 returns-3 c =
     let c1 = c .before in let c2 = c1 .before in let c3 = c2 .before in let c4 = c3 .before in let c5 = c4 .before in
     let A = c5 .before .args in
-    past (A .memory) (A .kind) (A .m) (A .region) (c5 .if1 .left) (c4 .saturating-sub .result) (c4 .saturating-sub .ensures) (c3 .if2 .left) (c2 .usize-to-u64 .result) (c2 .usize-to-u64 .ensures) (c1 .past-top .result) (c1 .past-top .ensures) (c .if3 .taken)
+    past (A .memory) (A .kind) (A .m) (A .region) (c5 .if1 .left) (c4 .saturating-sub .result) (c4 .saturating-sub .ensures) (c3 .if2 .left)
+    (c2 .usize-to-u64 .result) (c2 .usize-to-u64 .ensures) (c1 .past-top .result) (c1 .past-top .ensures) (c .if3 .taken)
 
 right-of-requires : tie.Need-right-of-requires
 right-of-requires c κs = search needs
@@ -40,7 +41,11 @@ right-of-requires c κs = search needs
 add-lacks : tie.Need-add-lacks
 add-lacks c =
     let A = c .before .before .before .before .before .before .before .before .args in
-    omega (arith, let c2 = c .before .before in let c3 = c2 .before in let c4 = c3 .before in below-top (A .m .address) (c4 .usize-to-u64 .result) (c3 .past-top .result) (c3 .past-top .ensures) (c2 .if3 .left))
+    omega (
+      arith,
+      let c2 = c .before .before in let c3 = c2 .before in let c4 = c3 .before in
+          below-top (A .m .address) (c4 .usize-to-u64 .result) (c3 .past-top .result) (c3 .past-top .ensures) (c2 .if3 .left),
+    )
 
 usize-to-u64-requires-2 : tie.Need-usize-to-u64-requires-2
 usize-to-u64-requires-2 c κs = search needs
@@ -53,7 +58,9 @@ returns-4 c =
     let c1 = c .before in let c3 = c1 .before .before in let c6 = c3 .before .before .before in let c7 = c6 .before in
     let c8 = c7 .before in let c9 = c8 .before in
     let A = c9 .before .args in
-    judged (A .memory) (A .kind) (A .m) (A .region) (c9 .if1 .left) (c8 .saturating-sub .result) (c8 .saturating-sub .ensures) (c7 .if2 .left) (c6 .usize-to-u64 .result) (c6 .usize-to-u64 .ensures) (c3 .right-of .result) (c3 .right-of .ensures) (c1 .usize-to-u642 .result) (c1 .usize-to-u642 .ensures) (c .lacks .result) (c .lacks .ensures)
+    judged (A .memory) (A .kind) (A .m) (A .region) (c9 .if1 .left) (c8 .saturating-sub .result) (c8 .saturating-sub .ensures) (c7 .if2 .left)
+    (c6 .usize-to-u64 .result) (c6 .usize-to-u64 .ensures) (c3 .right-of .result) (c3 .right-of .ensures) (c1 .usize-to-u642 .result) (c1 .usize-to-u642 .ensures)
+    (c .lacks .result) (c .lacks .ensures)
 
 pub key-fails-spec : {M : Type 1} → statement M
 key-fails-spec =

@@ -1,5 +1,6 @@
-use borrow.Author.Tests.{eq-eqb, le-leb, le-ltb, lt-leb, lt-ltb, ne-eqb}
+use borrow.Author.Tests.{eq-eqb, ne-eqb}
 use Rattle.request_spec.specs.Verdict.{lacks}
+use Rattle.lemmas.proofs.Auto.{tested}
 use borrow.Author.Needs.{needs}
 use Rattle.request_checks.proofs.key.lacks.Statement.{statement}
 use Rattle.request_checks.proofs.key.lacks.Tie as tie
@@ -53,7 +54,7 @@ unfolding lacks
 returns-4 c =
     let c1 = c .before in let c2 = c1 .before in let c3 = c2 .before in let c4 = c3 .before in let c5 = c4 .before in
     let c6 = c5 .before in
-    simp (ne-eqb _ _ (c6 .if1 .left), ← c5 .usize-to-u64 .ensures, ← c4 .outside .ensures, c3 .if2 .left, ← c2 .past-top .ensures, c1 .if3 .left, lt-leb _ _ (c .if4 .taken), lt-ltb _ _ (c .if4 .taken))
+    simp (tested, c6 .if1 .left, ← c5 .usize-to-u64 .ensures, ← c4 .outside .ensures, c3 .if2 .left, ← c2 .past-top .ensures, c1 .if3 .left, c .if4 .taken)
 
 array-read-past-end : tie.Need-array-read-past-end
 array-read-past-end c = search needs
@@ -69,7 +70,7 @@ unfolding lacks
 returns-5 c =
     let c1 = c .before in let c2 = c1 .before in let c3 = c2 .before in let c4 = c3 .before in let c5 = c4 .before in
     let c6 = c5 .before in let c7 = c6 .before in
-    simp (ne-eqb _ _ (c7 .if1 .left), ← c6 .usize-to-u64 .ensures, ← c5 .outside .ensures, c4 .if2 .left, ← c3 .past-top .ensures, c2 .if3 .left, le-ltb _ _ (c1 .if4 .left), le-leb _ _ (c1 .if4 .left), ← c .past-end .ensures)
+    simp (tested, c7 .if1 .left, ← c6 .usize-to-u64 .ensures, ← c5 .outside .ensures, c4 .if2 .left, ← c3 .past-top .ensures, c2 .if3 .left, c1 .if4 .left, ← c .past-end .ensures)
 
 pub lacks-spec : {M : Type 1} → statement M
 lacks-spec =

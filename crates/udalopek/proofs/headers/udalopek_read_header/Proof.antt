@@ -29,8 +29,11 @@ unfolding readHeaderNumber readBth readExtension readCheck reportedBth reportedE
 returns-2 c =
     let c4 = c .before .before .before .before in let c6 = c4 .before .before in
     let A = c6 .before .before .args in
-    let e = sym (c6 .read .ensures) ∙ c4 .found2 .given .1 in
-    (c .report-header .ensures .0 ∙ sym (ap readCheck e), (c .report-header .ensures .1 .0 ∙ sym (ap (λ h. reportedBth h (A .bth .now)) e), c .report-header .ensures .1 .1 ∙ sym (ap (λ h. reportedExtension h (A .extension .now)) e)))
+    let e = sym (c6 .read .ensures) ∙ c4 .found2 .given .1 in (
+      c .report-header .ensures .0
+          ∙ sym (ap readCheck e),
+      (c .report-header .ensures .1 .0 ∙ sym (ap (λ h. reportedBth h (A .bth .now)) e), c .report-header .ensures .1 .1 ∙ sym (ap (λ h. reportedExtension h (A .extension .now)) e)),
+    )
 
 pub udalopek-read-header-spec : {M : Type 1} → statement M
 udalopek-read-header-spec =

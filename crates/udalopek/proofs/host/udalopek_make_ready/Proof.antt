@@ -38,8 +38,15 @@ returns-2 c =
     let c2 = c .before .before in let c5 = c2 .before .before .before in let c6 = c5 .before in
     let c8 = c6 .before .before in let c9 = c8 .before in let c12 = c9 .before .before .before in
     let p : malformed (c12 .args .pair .now) ≡ false = sym (c9 .malformed .ensures) ∙ c8 .if1 .left in
-    let e = c5 .make-ready .ensures ∙ ap (λ x. madeReady x) (c6 .pair-of .ensures) in
-    (c2 .leave .ensures .0 ∙ ap (λ o. statusNumber (o .status)) e ∙ second _ 34 _ p, (c2 .leave .ensures .1 .0 ∙ overwrite-pair _ _ p ∙ ap (λ o. pairWords (o .pair)) e ∙ second _ _ _ p, ap malformed (c2 .leave .ensures .1 .0 ∙ overwrite-pair _ _ p) ∙ c2 .leave .ensures .1 .1 ∙ sym p))
+    let e = c5 .make-ready .ensures ∙ ap (λ x. madeReady x) (c6 .pair-of .ensures) in (
+      c2 .leave .ensures .0 ∙ ap (λ o. statusNumber (o .status)) e
+          ∙ second _ 34 _ p,
+      (
+        c2 .leave .ensures .1 .0 ∙ overwrite-pair _ _ p ∙ ap (λ o. pairWords (o .pair)) e
+            ∙ second _ _ _ p,
+        ap malformed (c2 .leave .ensures .1 .0 ∙ overwrite-pair _ _ p) ∙ c2 .leave .ensures .1 .1 ∙ sym p,
+      ),
+    )
 
 pub udalopek-make-ready-spec : {M : Type 1} → statement M
 udalopek-make-ready-spec =

@@ -62,8 +62,15 @@ returns-2 c =
     let p : malformed (A .pair .now) ≡ false = malformed-by (A .pair .now) _ _ _ q (c14 .pair-words .ensures .0) (c11 .same .ensures) ∙ c10 .if1 .left in
     let l = left-words (A .pair .now) _ _ _ p (c6 .pair-words2 .ensures .0) (c3 .overwrite-words .ensures) in
     let s = ap malformed l ∙ sym (ap malformed (c6 .pair-words2 .ensures .0)) ∙ c6 .pair-words2 .ensures .1 ∙ sym p in
-    let o = c8 .post-entry .ensures .0 ∙ ap (λ x. posted x (record { number = A .number; offset = A .offset; length = A .length })) q in
-    (c .number .ensures ∙ ap (λ x. statusNumber (x .status)) o ∙ second _ 34 _ p, (l ∙ ap (λ x. pairWords (x .pair)) o ∙ second _ _ _ p, (c8 .post-entry .ensures .1 ∙ ap (λ x. postEntries x (A .entries .now) (record { number = A .number; offset = A .offset; length = A .length })) q ∙ second _ _ _ p, s)))
+    let o = c8 .post-entry .ensures .0 ∙ ap (λ x. posted x (record { number = A .number; offset = A .offset; length = A .length })) q in (
+      c .number .ensures ∙ ap (λ x. statusNumber (x .status)) o
+          ∙ second _ 34 _ p,
+      (
+        l ∙ ap (λ x. pairWords (x .pair)) o
+            ∙ second _ _ _ p,
+        (c8 .post-entry .ensures .1 ∙ ap (λ x. postEntries x (A .entries .now) (record { number = A .number; offset = A .offset; length = A .length })) q ∙ second _ _ _ p, s),
+      ),
+    )
 
 pub udalopek-post-entry-spec : {M : Type 1} → statement M
 udalopek-post-entry-spec =

@@ -48,7 +48,9 @@ returns-3 c =
     let p : malformed (A .pair .now) ≡ false = sym (c8 .malformed .ensures) ∙ c7 .if1 .left in
     let q = c6 .pair-of .ensures in
     let u : unmade (A .pair .now) ≡ false = ap pairUnsound (sym q) ∙ sym (c5 .unsound .ensures) ∙ c4 .if2 .left in
-    let o : malformedRegions (A .pair .now) (A .regions .now) ≡ true = ap (λ x. malformedFrom (A .regions .now) (x .setup .memory) 0 16) (sym q) ∙ ap (λ n. malformedFrom (A .regions .now) n 0 16) (sym (c2 .usize-to-u64 .ensures)) ∙ sym (c1 .regions-malformed .ensures) ∙ c .if3 .taken in
+    let o : malformedRegions (A .pair .now) (A .regions .now) ≡ true =
+    ap (λ x. malformedFrom (A .regions .now) (x .setup .memory) 0 16) (sym q) ∙ ap (λ n. malformedFrom (A .regions .now) n 0 16) (sym (c2 .usize-to-u64 .ensures))
+    ∙ sym (c1 .regions-malformed .ensures) ∙ c .if3 .taken in
     (first _ 34 _ o ∙ second _ 34 _ u ∙ second _ 34 _ p, first _ _ _ o ∙ second _ _ _ u ∙ second _ _ _ p)
 
 remove-region-requires : tie.Need-remove-region-requires
@@ -67,8 +69,13 @@ returns-4 c =
     let p : malformed (A .pair .now) ≡ false = sym (c11 .malformed .ensures) ∙ c10 .if1 .left in
     let q = c9 .pair-of .ensures in
     let u : unmade (A .pair .now) ≡ false = ap pairUnsound (sym q) ∙ sym (c8 .unsound .ensures) ∙ c7 .if2 .left in
-    let o : malformedRegions (A .pair .now) (A .regions .now) ≡ false = ap (λ x. malformedFrom (A .regions .now) (x .setup .memory) 0 16) (sym q) ∙ ap (λ n. malformedFrom (A .regions .now) n 0 16) (sym (c5 .usize-to-u64 .ensures)) ∙ sym (c4 .regions-malformed .ensures) ∙ c3 .if3 .left in
-    (c .number .ensures ∙ ap statusNumber (c1 .remove-region .ensures .0) ∙ second _ 34 _ o ∙ second _ 34 _ u ∙ second _ 34 _ p, c1 .remove-region .ensures .1 ∙ second _ _ _ o ∙ second _ _ _ u ∙ second _ _ _ p)
+    let o : malformedRegions (A .pair .now) (A .regions .now) ≡ false =
+    ap (λ x. malformedFrom (A .regions .now) (x .setup .memory) 0 16) (sym q) ∙ ap (λ n. malformedFrom (A .regions .now) n 0 16) (sym (c5 .usize-to-u64 .ensures))
+    ∙ sym (c4 .regions-malformed .ensures) ∙ c3 .if3 .left in (
+      c .number .ensures ∙ ap statusNumber (c1 .remove-region .ensures .0) ∙ second _ 34 _ o ∙ second _ 34 _ u ∙ second _ 34 _ p,
+      c1 .remove-region .ensures .1
+          ∙ second _ _ _ o ∙ second _ _ _ u ∙ second _ _ _ p,
+    )
 
 pub udalopek-remove-region-spec : {M : Type 1} → statement M
 udalopek-remove-region-spec =

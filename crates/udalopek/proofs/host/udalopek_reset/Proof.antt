@@ -57,8 +57,19 @@ returns-3 c =
     let p : malformed (A .pair .now) ≡ false = sym (c12 .malformed .ensures) ∙ c11 .if1 .left in
     let q = c9 .pair-of .ensures in
     let u : unmade (A .pair .now) ≡ false = ap pairUnsound (sym q) ∙ sym (c8 .unsound .ensures) ∙ c7 .if2 .left in
-    let e = c5 .reset .ensures .0 ∙ ap resetTo q in
-    (c2 .leave .ensures .0 ∙ ap (λ o. statusNumber (o .status)) e ∙ second _ 34 _ u ∙ second _ 34 _ p, (c2 .leave .ensures .1 .0 ∙ overwrite-pair _ _ p ∙ ap (λ o. pairWords (o .pair)) e ∙ second _ _ _ u ∙ second _ _ _ p, (c5 .reset .ensures .1 ∙ ap (λ x. resetRegions x (A .regions .now)) q ∙ second _ _ _ u ∙ second _ _ _ p, ap malformed (c2 .leave .ensures .1 .0 ∙ overwrite-pair _ _ p) ∙ c2 .leave .ensures .1 .1 ∙ sym p)))
+    let e = c5 .reset .ensures .0 ∙ ap resetTo q in (
+      c2 .leave .ensures .0 ∙ ap (λ o. statusNumber (o .status)) e ∙ second _ 34 _ u
+          ∙ second _ 34 _ p,
+      (
+        c2 .leave .ensures .1 .0 ∙ overwrite-pair _ _ p ∙ ap (λ o. pairWords (o .pair)) e ∙ second _ _ _ u
+            ∙ second _ _ _ p,
+        (
+          c5 .reset .ensures .1 ∙ ap (λ x. resetRegions x (A .regions .now)) q ∙ second _ _ _ u
+              ∙ second _ _ _ p,
+          ap malformed (c2 .leave .ensures .1 .0 ∙ overwrite-pair _ _ p) ∙ c2 .leave .ensures .1 .1 ∙ sym p,
+        ),
+      ),
+    )
 
 pub udalopek-reset-spec : {M : Type 1} → statement M
 udalopek-reset-spec =

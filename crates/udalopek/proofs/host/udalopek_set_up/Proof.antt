@@ -49,8 +49,15 @@ returns-3 c =
     let t = ap not (eq-eqb _ _ (c9 .if1 .left)) in
     let e = c7 .set-up .ensures .0 in
     let n = c6 .number .ensures ∙ ap (λ o. statusNumber (o .status)) e in
-    let x = ap (λ m. eqb m 0) (sym n) ∙ eq-eqb _ _ (c5 .if2 .left) in
-    (c2 .leave .ensures .0 ∙ ap (λ o. statusNumber (o .status)) e ∙ second _ 34 _ t, (c2 .leave .ensures .1 .0 ∙ overwrite-many _ _ (c9 .if1 .left) ∙ ap (λ o. pairWords (o .pair)) e ∙ first _ _ _ x ∙ second _ _ _ t, (c7 .set-up .ensures .1 ∙ second _ _ _ t, λ z. ap malformed (c2 .leave .ensures .1 .0 ∙ overwrite-many _ _ (c9 .if1 .left)) ∙ c2 .leave .ensures .1 .1)))
+    let x = ap (λ m. eqb m 0) (sym n) ∙ eq-eqb _ _ (c5 .if2 .left) in (
+      c2 .leave .ensures .0 ∙ ap (λ o. statusNumber (o .status)) e
+          ∙ second _ 34 _ t,
+      (
+        c2 .leave .ensures .1 .0 ∙ overwrite-many _ _ (c9 .if1 .left) ∙ ap (λ o. pairWords (o .pair)) e ∙ first _ _ _ x
+            ∙ second _ _ _ t,
+        (c7 .set-up .ensures .1 ∙ second _ _ _ t, λ z. ap malformed (c2 .leave .ensures .1 .0 ∙ overwrite-many _ _ (c9 .if1 .left)) ∙ c2 .leave .ensures .1 .1),
+      ),
+    )
 
 pub udalopek-set-up-spec : {M : Type 1} → statement M
 udalopek-set-up-spec =

@@ -52,7 +52,9 @@ returns-2 c =
     let A = c9 .before .before .before .before .before .before .args in
     let q = c9 .pair-of .ensures in
     let p : malformed (A .pair .now) ≡ false = malformed-by (A .pair .now) _ _ _ q (c8 .pair-words .ensures .0) (c5 .same .ensures) ∙ c4 .if1 .left in
-    let h = ap (λ x. malformedFor (A .regions .now) (x .setup .memory) (A .packet .now)) (sym q) ∙ ap (λ n. malformedFor (A .regions .now) n (A .packet .now)) (sym (c3 .usize-to-u64 .ensures)) ∙ sym (c2 .malformed-for .ensures) ∙ c1 .if2 .taken in
+    let h =
+    ap (λ x. malformedFor (A .regions .now) (x .setup .memory) (A .packet .now)) (sym q)
+    ∙ ap (λ n. malformedFor (A .regions .now) n (A .packet .now)) (sym (c3 .usize-to-u64 .ensures)) ∙ sym (c2 .malformed-for .ensures) ∙ c1 .if2 .taken in
     let r = refused-rows (A .pair .now) (A .regions .now) (A .packet .now) _ p h in
     (first _ 34 _ r, (first _ _ _ r, (first _ _ _ r, (first _ _ _ r, (first _ _ _ r, (first _ _ _ r, refl))))))
 
@@ -93,12 +95,33 @@ returns-3 c =
     let A = c26 .before .before .before .before .before .before .args in
     let q = c26 .pair-of .ensures in
     let p : malformed (A .pair .now) ≡ false = malformed-by (A .pair .now) _ _ _ q (c25 .pair-words .ensures .0) (c22 .same .ensures) ∙ c21 .if1 .left in
-    let h = ap (λ x. malformedFor (A .regions .now) (x .setup .memory) (A .packet .now)) (sym q) ∙ ap (λ n. malformedFor (A .regions .now) n (A .packet .now)) (sym (c20 .usize-to-u64 .ensures)) ∙ sym (c19 .malformed-for .ensures) ∙ c18 .if2 .left in
+    let h =
+    ap (λ x. malformedFor (A .regions .now) (x .setup .memory) (A .packet .now)) (sym q)
+    ∙ ap (λ n. malformedFor (A .regions .now) n (A .packet .now)) (sym (c20 .usize-to-u64 .ensures)) ∙ sym (c19 .malformed-for .ensures) ∙ c18 .if2 .left in
     let r = refused-rows (A .pair .now) (A .regions .now) (A .packet .now) _ p h in
     let l = left-words (A .pair .now) _ _ _ p (c6 .pair-words2 .ensures .0) (c3 .overwrite-words .ensures) in
     let s = ap malformed l ∙ sym (ap malformed (c6 .pair-words2 .ensures .0)) ∙ c6 .pair-words2 .ensures .1 ∙ sym p in
-    let o = c14 .inbound .ensures .0 ∙ ap (λ x. inbound x (A .regions .now) (A .entries .now) (A .saved .now) (A .mem .now) (A .packet .now) (A .out .now)) q in
-    (c .number .ensures ∙ ap (λ x. statusNumber (x .status)) o ∙ second _ 34 _ r, (l ∙ ap (λ x. pairWords (x .pair)) o ∙ second _ _ _ r, (c14 .inbound .ensures .1 .1 .0 ∙ ap (λ x. inboundSaved x (A .regions .now) (A .entries .now) (A .saved .now) (A .mem .now) (A .packet .now) (A .out .now)) q ∙ second _ _ _ r, (c14 .inbound .ensures .1 .0 ∙ ap (λ x. inboundMemory x (A .regions .now) (A .entries .now) (A .saved .now) (A .mem .now) (A .packet .now) (A .out .now)) q ∙ second _ _ _ r, (c14 .inbound .ensures .1 .1 .1 ∙ ap (λ x. inboundOut x (A .regions .now) (A .entries .now) (A .saved .now) (A .mem .now) (A .packet .now) (A .out .now)) q ∙ second _ _ _ r, (c8 .report-words .ensures ∙ ap (λ x. reportWords (x .outgoing) (x .completion)) o ∙ second _ _ _ r, s))))))
+    let o = c14 .inbound .ensures .0 ∙ ap (λ x. inbound x (A .regions .now) (A .entries .now) (A .saved .now) (A .mem .now) (A .packet .now) (A .out .now)) q in (
+      c .number .ensures ∙ ap (λ x. statusNumber (x .status)) o
+          ∙ second _ 34 _ r,
+      (
+        l ∙ ap (λ x. pairWords (x .pair)) o
+            ∙ second _ _ _ r,
+        (
+          c14 .inbound .ensures .1 .1 .0 ∙ ap (λ x. inboundSaved x (A .regions .now) (A .entries .now) (A .saved .now) (A .mem .now) (A .packet .now) (A .out .now)) q
+              ∙ second _ _ _ r,
+          (
+            c14 .inbound .ensures .1 .0 ∙ ap (λ x. inboundMemory x (A .regions .now) (A .entries .now) (A .saved .now) (A .mem .now) (A .packet .now) (A .out .now)) q
+                ∙ second _ _ _ r,
+            (
+              c14 .inbound .ensures .1 .1 .1 ∙ ap (λ x. inboundOut x (A .regions .now) (A .entries .now) (A .saved .now) (A .mem .now) (A .packet .now) (A .out .now)) q
+                  ∙ second _ _ _ r,
+              (c8 .report-words .ensures ∙ ap (λ x. reportWords (x .outgoing) (x .completion)) o ∙ second _ _ _ r, s),
+            ),
+          ),
+        ),
+      ),
+    )
 
 pub udalopek-inbound-spec : {M : Type 1} → statement M
 udalopek-inbound-spec =

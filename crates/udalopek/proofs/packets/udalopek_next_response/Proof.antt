@@ -70,8 +70,19 @@ returns-2 c =
     let p : malformed (A .pair .now) ≡ false = malformed-by (A .pair .now) _ _ _ q (c18 .pair-words .ensures .0) (c15 .same .ensures) ∙ c14 .if1 .left in
     let l = left-words (A .pair .now) _ _ _ p (c6 .pair-words2 .ensures .0) (c3 .overwrite-words .ensures) in
     let s = ap malformed l ∙ sym (ap malformed (c6 .pair-words2 .ensures .0)) ∙ c6 .pair-words2 .ensures .1 ∙ sym p in
-    let o = c12 .next-response .ensures .0 ∙ ap (λ x. nextResponse x (A .mem .now) (A .out .now)) q in
-    (c .number .ensures ∙ ap (λ x. statusNumber (x .status)) o ∙ second _ 34 _ p, (l ∙ ap (λ x. pairWords (x .pair)) o ∙ second _ _ _ p, (c12 .next-response .ensures .1 ∙ ap (λ x. nextOut x (A .mem .now) (A .out .now)) q ∙ second _ _ _ p, (ap (λ n. n ∷ []) (c9 .usize-to-u64 .ensures ∙ ap (λ x. x .outgoing) o) ∙ second _ _ _ p, s))))
+    let o = c12 .next-response .ensures .0 ∙ ap (λ x. nextResponse x (A .mem .now) (A .out .now)) q in (
+      c .number .ensures ∙ ap (λ x. statusNumber (x .status)) o
+          ∙ second _ 34 _ p,
+      (
+        l ∙ ap (λ x. pairWords (x .pair)) o
+            ∙ second _ _ _ p,
+        (
+          c12 .next-response .ensures .1 ∙ ap (λ x. nextOut x (A .mem .now) (A .out .now)) q
+              ∙ second _ _ _ p,
+          (ap (λ n. n ∷ []) (c9 .usize-to-u64 .ensures ∙ ap (λ x. x .outgoing) o) ∙ second _ _ _ p, s),
+        ),
+      ),
+    )
 
 pub udalopek-next-response-spec : {M : Type 1} → statement M
 udalopek-next-response-spec =
