@@ -34,7 +34,10 @@ unfolding setup
 sound = (record { pmtu = inl refl; service = inr refl; ours = omega arith; theirs = omega arith; start = omega arith; pkey = λ e. absurd (omega arith); timer = omega arith }, omega arith)
 
 is-standing : Standing made
-unfolding made setup calls region calledAll called begun setUp setUpStatus setUpRegions addStatus addRegions postStatus posted postEntries readyStatus madeReady executed statusNumber freshPair setupUnfit setupUnsound countersUnsound ringUnsound messageUnsound readUnsound pairUnsound pmtuFits otherService outside pastTop regionOutside firstFrom sought regionRow entryRow slotAt
+unfolding made setup calls region calledAll called begun setUp setUpStatus setUpRegions addStatus addRegions
+    postStatus posted postEntries readyStatus madeReady executed statusNumber freshPair setupUnfit setupUnsound
+    countersUnsound ringUnsound messageUnsound readUnsound pairUnsound pmtuFits otherService outside pastTop
+    regionOutside firstFrom sought regionRow entryRow slotAt
 is-standing = stands-made setup [] (replicate 16 (replicate 3 0)) (replicate 16 (replicate 2 0)) calls sound refl refl refl (tt, (tt, (tt, tt))) refl .0
 
 room : (i : ℕ) → 24 ≤ length (replicate {A = ℕ} 24 0)
@@ -42,7 +45,10 @@ room i = omega arith
 
 -- a message of the example comes to its pair
 comes-by : (r : Request) (n : ℕ) → InLimit r (length (replicate {A = ℕ} n 9)) → RequestWidths r → Carrier r → Comes out (message r n) first fresh
-unfolding fresh made setup calls region message calledAll called begun setUp setUpStatus setUpRegions addStatus addRegions postStatus posted postEntries readyStatus madeReady executed statusNumber freshPair setupUnfit setupUnsound countersUnsound ringUnsound messageUnsound readUnsound pairUnsound pmtuFits otherService outside pastTop regionOutside firstFrom sought regionRow entryRow slotAt regionOf pkeysMatch fullMember
+unfolding fresh made setup calls region message calledAll called begun setUp setUpStatus setUpRegions addStatus
+    addRegions postStatus posted postEntries readyStatus madeReady executed statusNumber freshPair setupUnfit
+    setupUnsound countersUnsound ringUnsound messageUnsound readUnsound pairUnsound pmtuFits otherService outside
+    pastTop regionOutside firstFrom sought regionRow entryRow slotAt regionOf pkeysMatch fullMember
 comes-by r n limit widths carries =
     record {
       standing = is-standing;
@@ -54,7 +60,10 @@ comes-by r n limit widths carries =
     }
 
 pub all-met : AllFulfilled
-unfolding fresh made setup calls region message calledAll called begun setUp setUpStatus setUpRegions addStatus addRegions postStatus posted postEntries readyStatus madeReady executed statusNumber freshPair setupUnfit setupUnsound countersUnsound ringUnsound messageUnsound readUnsound pairUnsound pmtuFits otherService outside pastTop regionOutside firstFrom sought regionRow entryRow slotAt regionOf pkeysMatch fullMember
+unfolding fresh made setup calls region message calledAll called begun setUp setUpStatus setUpRegions addStatus
+    addRegions postStatus posted postEntries readyStatus madeReady executed statusNumber freshPair setupUnfit
+    setupUnsound countersUnsound ringUnsound messageUnsound readUnsound pairUnsound pmtuFits otherService outside
+    pastTop regionOutside firstFrom sought regionRow entryRow slotAt regionOf pkeysMatch fullMember
 all-met =
     record {
       send =

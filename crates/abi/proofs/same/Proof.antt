@@ -55,7 +55,8 @@ loop-again c = let C = c .before .before .before .before in let A = C .before .b
 )
 
 returns-2 : tie.Need-returns-2 Inv-loop μ-loop
-returns-2 c = let C = c .before in let A = C .before .before .before .before .args in sym (C .loop .inv .1 .0 ∙ so-far-end (C .loop .ok) (A .a .now) (A .b .now) (C .loop .i) (omega arith) (C .loop .inv .1 .1))
+returns-2 c = let C = c .before in let A = C .before .before .before .before .args in
+    sym (C .loop .inv .1 .0 ∙ so-far-end (C .loop .ok) (A .a .now) (A .b .now) (C .loop .i) (omega arith) (C .loop .inv .1 .1))
 
 pub same-spec : {M : Type 1} → statement M
 same-spec =
