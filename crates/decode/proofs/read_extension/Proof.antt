@@ -2,6 +2,7 @@ use native.Mathlib.Omega.{arith}
 use Rattle.opcode.specs.Opcode.{lengthOf}
 use Rattle.decode.proofs.Room.{room}
 use borrow.Author.Tests.{eq-eqb, ne-eqb}
+use Rattle.lemmas.proofs.Auto.{tested}
 use Rattle.header.specs.Read.{extensionOf}
 use Rattle.decode.proofs.read_extension.Statement.{statement}
 use Rattle.decode.proofs.read_extension.Tie as tie
