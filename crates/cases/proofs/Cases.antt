@@ -8,7 +8,7 @@ use Rattle.header.specs.Read.{bthOf, extensionOf, headerOf, badLength, otherSer
 use Rattle.header.specs.Write.{bthBytes, aethBytes, extensionBytes, headerBytes, headerLength, answerBy}
 use Rattle.header.specs.Check.{fullMember, pkeysMatch, wrongService, isResponse, beyondService, headerReason, admitted}
 use Rattle.memory.specs.Memory.{overwrite, store}
-use Rattle.memory.specs.Word.{lowBytes, lowNumber, wordAt, overwriteWord, fetchAdded}
+use Rattle.memory.specs.Word.{lowBytes, lowNumber, wordAt, storeWord, fetchAdded}
 use Rattle.packet.specs.Packet.{padOf, packetBytes}
 use Rattle.opcode.specs.Place.{ends, starts}
 use Rattle.pmtu.specs.Pieces.{pmtuFits, pieces, placeAt, pieceAt, partAt}
@@ -74,7 +74,7 @@ unfolding answerBy pmtuFits pieces carries carriedLength messageLength packetsOf
 w9 = refl
 
 w10 : found W10 ≡ said W10
-unfolding overwrite store lowBytes lowNumber wordAt overwriteWord fetchAdded found said
+unfolding overwrite store lowBytes lowNumber wordAt storeWord fetchAdded found said
 w10 = refl
 
 w11 : found W11 ≡ said W11

@@ -33,7 +33,7 @@ use Rattle.delivery.proofs.Entries.{entries-by, count-is, head-is, entr
 use Rattle.delivery.proofs.Effects.{Does, opened-next}
 use Rattle.delivery.proofs.Requests.{Carries, Sends}
 use Rattle.delivery.proofs.InMemory.{send-memory-is, send-completes, send-long}
-use Rattle.delivery.proofs.Storing.{storing-completes, storing-answers, storing-reads, grown-last, grown-more}
+use Rattle.delivery.proofs.Storing.{storing-completes, storing-answers, storing-reads, message-after-last, message-after-more}
 
 -- the first of the entries that wait, where some do
 first-waiting : (ms : List Message) (es : List Entry) → none es ≡ false → AllLongEnough ms es
@@ -163,9 +163,9 @@ module _ (ms : List Message) (S : List Slot) (p : Plain) (x : Run) (L : Link ms 
             ∙ ring-is (slotNeedsEntry t) (isLast t && takesEntry (t .message .request)) refl refl (sym (and-true (isLast t)) ∙ ap (λ b. isLast t && b) (sym (Z .takesEntry)));
         opened =
             opened-next S (p .k) (messageAfter (placeFor t) M (payloadSize (cutPacket t))) (cond (isLast t) [] (heldNow p t)) (G .turn (p .k) lt) (H .outgoing .inside)
-            (λ e. (grown-last (x .whole .pair .setup) (x .whole .regions) fits t H (x .whole .pair .message) (p .held) (L .opened) C entry region e, ap (λ b. cond b [] (heldNow p t)) e))
+            (λ e. (message-after-last (x .whole .pair .setup) (x .whole .regions) fits t H (x .whole .pair .message) (p .held) (L .opened) C entry region e, ap (λ b. cond b [] (heldNow p t)) e))
             (λ e. (
-              grown-more (x .whole .pair .setup) (x .whole .regions) fits t H (x .whole .pair .message) (p .held) (L .opened) C entry region e,
+              message-after-more (x .whole .pair .setup) (x .whole .regions) fits t H (x .whole .pair .message) (p .held) (L .opened) C entry region e,
               Z .holding (length (t .message .bytes)) (cond (isLast t) [] (heldNow p t)) (entryOf entry) (ap (λ b. cond b [] (heldNow p t)) e ∙ entered .is) (entered .large),
             ));
       }

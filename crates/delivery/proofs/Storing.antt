@@ -78,13 +78,13 @@ module _ (s : Setup) (regions : List (List ℕ)) (f : SetupFit s) (t : Slot) (h 
   length-piece = sym (ap length (C .payload (t .message .connection) (t .message .bytes) (t .index)))
 
   -- the message that stays open
-  pub grown-last : isLast t ≡ true → messageAfter (placeFor t) M (payloadSize (cutPacket t)) .kind ≡ 255
+  pub message-after-last : isLast t ≡ true → messageAfter (placeFor t) M (payloadSize (cutPacket t)) .kind ≡ 255
   unfolding messageAfter
-  grown-last e = rw (ends-is s regions f t h opened held U ∙ e)
+  message-after-last e = rw (ends-is s regions f t h opened held U ∙ e)
 
-  pub grown-more : isLast t ≡ false → IsOf (further t) (messageAfter (placeFor t) M (payloadSize (cutPacket t)))
+  pub message-after-more : isLast t ≡ false → IsOf (further t) (messageAfter (placeFor t) M (payloadSize (cutPacket t)))
   unfolding messageAfter
-  grown-more e =
+  message-after-more e =
       let N = now s regions f t h opened held U in
       let z = sizes s f t (h .outgoing) (C .carrier) .more (omega (arith, tests, h .outgoing .inside)) in
       rw (ends-is s regions f t h opened held U ∙ e)

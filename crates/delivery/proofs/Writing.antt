@@ -31,7 +31,7 @@ use Rattle.delivery.proofs.Entries.{entries-by, count-is, head-is}
 use Rattle.delivery.proofs.Effects.{Does, opened-next}
 use Rattle.delivery.proofs.Requests.{Carries, Writes}
 use Rattle.delivery.proofs.InMemory.{write-memory-is, write-completes, write-long}
-use Rattle.delivery.proofs.Storing.{storing-completes, storing-answers, storing-reads, grown-last, grown-more}
+use Rattle.delivery.proofs.Storing.{storing-completes, storing-answers, storing-reads, message-after-last, message-after-more}
 
 -- a message that took the entry at the head
 head-taken : (es : List Entry) → none es ≡ false → (firstOf (take 1 es) ≡ firstOf es) × (1 ≤ length es)
@@ -129,9 +129,9 @@ module _ (ms : List Message) (S : List Slot) (p : Plain) (x : Run) (L : Link ms 
         entries = ap (λ b. map entryOf (inRing (x .whole .entries) (entriesBy b (x .whole .pair .entries)))) (completionWith .1) ∙ ring-is;
         opened =
             opened-next S (p .k) (messageAfter (placeFor t) M (payloadSize (cutPacket t))) (cond (isLast t) [] (heldNow p t)) (G .turn (p .k) lt) (H .outgoing .inside)
-            (λ e. (grown-last (x .whole .pair .setup) (x .whole .regions) fits t H (x .whole .pair .message) (p .held) (L .opened) C entry region e, ap (λ b. cond b [] (heldNow p t)) e))
+            (λ e. (message-after-last (x .whole .pair .setup) (x .whole .regions) fits t H (x .whole .pair .message) (p .held) (L .opened) C entry region e, ap (λ b. cond b [] (heldNow p t)) e))
             (λ e. (
-              grown-more (x .whole .pair .setup) (x .whole .regions) fits t H (x .whole .pair .message) (p .held) (L .opened) C entry region e,
+              message-after-more (x .whole .pair .setup) (x .whole .regions) fits t H (x .whole .pair .message) (p .held) (L .opened) C entry region e,
               Z .holding (length (t .message .bytes)) (cond (isLast t) [] (heldNow p t)) (more-held e),
             ));
       }

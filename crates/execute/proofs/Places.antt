@@ -9,11 +9,12 @@ use lib.ListN.{getD}
 use borrow.Author.Tests.{eqb-true, eq-eqb, ne-eqb, ltb-false, leb-false}
 use Rattle.lemmas.proofs.Tests.{or-left, or-right}
 use Rattle.table.specs.Table.{outside, pastTop, addresses, memoryOffset}
+use Rattle.pair.specs.Sound.{timerLimit}
 use Rattle.pair.specs.declared.OpenMessage.{OpenMessage}
 use Rattle.pair.specs.declared.Setup.{Setup}
 use Rattle.request_spec.specs.Verdict.{carrying, single, fragment, notEnabled, bytesToCome, keyFails, keyLacking, lacks, payloadSize, current}
 use Rattle.request_spec.specs.declared.Packet.{Packet}
-use Rattle.request_checks.proofs.Keys.{begun}
+use Rattle.request_checks.proofs.Keys.{none-stored-yet}
 use Rattle.responder_spec.specs.Decide.{targetOffset}
 use Rattle.responder_spec.proofs.Codes.{Passed}
 use Rattle.responder_spec.proofs.Inside.{key-inside, own-inside, total, write-total, place-inside}
@@ -120,16 +121,16 @@ module _ (s : Setup) (opened : OpenMessage) (p : Packet) (entry region : List �
 
   -- READs and atomics begin their message
   alone : fragment p ≡ false → carrying (p .kind) ≡ false → OffsetFits region (m .address) (m .length)
-  alone F c = omega (arith, own-inside (p .kind) (s .memory) m region (bare-kind (p .kind) c) (P .key) (begun opened p F (served s (p .kind) (P .enabled) c)))
+  alone F c = omega (arith, own-inside (p .kind) (s .memory) m region (bare-kind (p .kind) c) (P .key) (none-stored-yet opened p F (served s (p .kind) (P .enabled) c)))
 
   pub executable : fragment p ≡ false → Executable p m entry region
   executable F = record { stores = storable; own = alone F }
 
--- a packet and a pair that are formed: no fragment, and a timer code of 5 bits
+-- a packet and a pair that are formed: no fragment, and a timer code within the limit
 pub whole : (p : Packet) (timer : ℕ) (t : Bool) → t ≡ unformed p timer → t ≡ false → fragment p ≡ false
 unfolding unformed
 whole p timer t e f = or-left (fragment p) _ (sym e ∙ f)
 
-pub timed : (p : Packet) (timer : ℕ) (t : Bool) → t ≡ unformed p timer → t ≡ false → timer ≤ 31
+pub timed : (p : Packet) (timer : ℕ) (t : Bool) → t ≡ unformed p timer → t ≡ false → timer ≤ timerLimit
 unfolding unformed
-timed p timer t e f = ltb-false 31 timer (or-right (fragment p) _ (sym e ∙ f))
+timed p timer t e f = ltb-false timerLimit timer (or-right (fragment p) _ (sym e ∙ f))

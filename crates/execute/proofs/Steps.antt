@@ -99,25 +99,25 @@ module _ (p : Packet) (s : Setup) (expected : Psn) (opened : OpenMessage) (count
     passed y = passes s (met uc) p count entry region (sym code ∙ eqb-true (statusNumber b) 0 y)
 
   -- by what the checks answered
-  abbrev settledBy : Bool → ℕ → Bool → Decision
-  settledBy uc n t =
+  abbrev checkedBy : Bool → ℕ → Bool → Decision
+  checkedBy uc n t =
       cond uc (cond t (ucExecute p expected (current opened p) entry region) (abandoning n (opened .kind)))
       (cond t (execute p (current opened p) opened entry region (s .pmtu)) (failed n (p .psn) (s .timer)))
 
-  settled : (uc : Bool) (a : Status) → a ≡ lostTo uc → eqb (statusNumber a) 0 ≡ true → (b : Status)
+  checks-settled : (uc : Bool) (a : Status) → a ≡ lostTo uc → eqb (statusNumber a) 0 ≡ true → (b : Status)
       → statusNumber b ≡ expectedCode s (met uc) p count entry region
-      → settledBy uc (statusNumber b) (eqb (statusNumber b) 0) ≡ either uc p s expected opened count entry region
+      → checkedBy uc (statusNumber b) (eqb (statusNumber b) 0) ≡ either uc p s expected opened count entry region
   unfolding either ucDecision ucCheckedDecision expectedDecision checkedDecision
-  settled true a f z b c =
+  checks-settled true a f z b c =
       let F = founds a f z in
       let d = c ∙ same-code s opened p expected count entry region (F .1) in
-      rw (F .0, F .1) (ap (λ n. settledBy true n (eqb n 0)) d)
-  settled false a f z b c = ap (λ n. settledBy false n (eqb n 0)) c
+      rw (F .0, F .1) (ap (λ n. checkedBy true n (eqb n 0)) d)
+  checks-settled false a f z b c = ap (λ n. checkedBy false n (eqb n 0)) c
 
   module _ (uc : Bool) (a : Status) (f : a ≡ lostTo uc) (z : eqb (statusNumber a) 0 ≡ true) (m : OpenMessage) (e : m ≡ current opened p) (k : ℕ)
       (g : k ≡ cond uc (closedBy (p .place) opened .kind) (opened .kind)) (b : Status) (c : statusNumber b ≡ expectedCodeOf s k m p count entry region) where
-    is : (t : Bool) → eqb (statusNumber b) 0 ≡ t → settledBy uc (statusNumber b) t ≡ either uc p s expected opened count entry region
-    is t y = ap (settledBy uc (statusNumber b)) (sym y) ∙ settled uc a f z b (code uc a f z m e k g b c)
+    is : (t : Bool) → eqb (statusNumber b) 0 ≡ t → checkedBy uc (statusNumber b) t ≡ either uc p s expected opened count entry region
+    is t y = ap (checkedBy uc (statusNumber b)) (sym y) ∙ checks-settled uc a f z b (code uc a f z m e k g b c)
 
     pub refuses : eqb (statusNumber b) 0 ≡ false
         → cond uc (abandoning (statusNumber b) (opened .kind)) (failed (statusNumber b) (p .psn) (s .timer)) ≡ either uc p s expected opened count entry region

@@ -32,6 +32,6 @@ pub record Executable (p : Packet) (m : OpenMessage) (entry region : List ℕ) :
   pub stores : Storable p m entry region
   pub own : carrying (p .kind) ≡ false → OffsetFits region (m .address) (m .length)
 
--- a fragment, or a timer code over the greatest
+-- a fragment, or a timer code over the limit
 unfoldable pub unformed : Packet → ℕ → Bool
 unformed p timer = fragment p || ltb timerLimit timer

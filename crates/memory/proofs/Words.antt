@@ -10,7 +10,7 @@ use lib.ListN.{length, take, drop, getD, length-take, length-drop, take-append-d
 use lib.Seq.{drop-drop, take-add, getD-drop, getD-take}
 use borrow.Author.Tests.{le-leb, lt-leb, leb-true, leb-false, eq-eqb, ne-eqb}
 use Rattle.memory.specs.Memory.{overwrite, store}
-use Rattle.memory.specs.Word.{lowBytes, lowNumber, wordAt, overwriteWord, fetchAdded, swapped}
+use Rattle.memory.specs.Word.{lowBytes, lowNumber, wordAt, storeWord, fetchAdded, swapped}
 use Rattle.memory.specs.Claims.{Bytes, LowLength, BytesNumber, NumberBytes, WordBelow, LowFirst, WordBack}
 use Rattle.memory.specs.Claims.{WordKept, WordOver, OnlyWord, WordWithin, FetchWithin, SwapWithin, Fetched}
 use Rattle.memory.specs.Claims.{FetchWraps, SwapEqual, SwapUnequal}
@@ -85,30 +85,30 @@ unfolding wordAt
 word-out m at h = rw (lt-leb (at + 8) (length m) h)
 
 -- where they do not, nothing is stored
-pub word-past : (m : List ℕ) (at x : ℕ) → length m < at + 8 → overwriteWord m at x ≡ m
-unfolding overwriteWord lowBytes
+pub word-past : (m : List ℕ) (at x : ℕ) → length m < at + 8 → storeWord m at x ≡ m
+unfolding storeWord lowBytes
 word-past m at x h = store-past m at (lowBytes 8 x) h
 
-pub length-word : (m : List ℕ) (at x : ℕ) → length (overwriteWord m at x) ≡ length m
-unfolding overwriteWord
+pub length-word : (m : List ℕ) (at x : ℕ) → length (storeWord m at x) ≡ length m
+unfolding storeWord
 length-word m at x = length-store m at (lowBytes 8 x)
 
 -- what was stored is read
-word-stored : (m : List ℕ) (at x : ℕ) → at + 8 ≤ length m → wordAt (overwriteWord m at x) at ≡ x % 2 ^ 64
-unfolding overwriteWord lowBytes
+word-stored : (m : List ℕ) (at x : ℕ) → at + 8 ≤ length m → wordAt (storeWord m at x) at ≡ x % 2 ^ 64
+unfolding storeWord lowBytes
 word-stored m at x h =
-    let l : at + 8 ≤ length (overwriteWord m at x) = omega (arith, length-word m at x) in
-    word-in (overwriteWord m at x) at l ∙ (ap lowNumber (store-found m at (lowBytes 8 x) h) ∙ bytes-number 8 x)
+    let l : at + 8 ≤ length (storeWord m at x) = omega (arith, length-word m at x) in
+    word-in (storeWord m at x) at l ∙ (ap lowNumber (store-found m at (lowBytes 8 x) h) ∙ bytes-number 8 x)
 
 pub word-back : WordBack
 word-back m at x h small = word-stored m at x h ∙ mod-eq-of-lt small
 
 -- byte by byte
 pub low-first : LowFirst
-unfolding overwriteWord lowBytes
+unfolding storeWord lowBytes
 low-first m at x i h below =
-    sym (getD-drop at (overwriteWord m at x) i 0)
-    ∙ (sym (getD-take 8 (drop at (overwriteWord m at x)) i 0 below)
+    sym (getD-drop at (storeWord m at x) i 0)
+    ∙ (sym (getD-take 8 (drop at (storeWord m at x)) i 0 below)
     ∙ (ap (λ l. getD l i 0) (store-found m at (lowBytes 8 x) h) ∙ low-at 8 x i below))
 
 -- bytes of memory are bytes
@@ -129,7 +129,7 @@ bytes-back m at b h =
     (number-bytes (take 8 (drop at m)) (word-bytes m at b)))
 
 pub word-kept : WordKept
-unfolding overwriteWord overwrite
+unfolding storeWord overwrite
 word-kept m at b h =
     let d = take 8 (drop at m) in
     let l : length d ≡ 8 = part-length m at 8 h in
@@ -169,10 +169,10 @@ unchanged : (m : List ℕ) (at : ℕ) → OnlyWord m m at
 unchanged m at = record { kept = refl; before = refl; after = refl }
 
 pub word-within : WordWithin
-unfolding overwriteWord lowBytes
+unfolding storeWord lowBytes
 word-within m at x = go (leb (at + 8) (length m)) refl
   where
-    go : (b : Bool) → leb (at + 8) (length m) ≡ b → OnlyWord m (overwriteWord m at x) at
+    go : (b : Bool) → leb (at + 8) (length m) ≡ b → OnlyWord m (storeWord m at x) at
     go true e =
         let h : at + 8 ≤ length m = leb-true (at + 8) (length m) e in
         record {
@@ -187,7 +187,7 @@ unfolding fetchAdded
 fetch-within m at x = word-within m at _
 
 -- nor does a store that a test may leave out
-word-or-not : (b : Bool) (m : List ℕ) (at x : ℕ) → OnlyWord m (cond b (overwriteWord m at x) m) at
+word-or-not : (b : Bool) (m : List ℕ) (at x : ℕ) → OnlyWord m (cond b (storeWord m at x) m) at
 word-or-not true m at x = word-within m at x
 word-or-not false m at x = unchanged m at
 

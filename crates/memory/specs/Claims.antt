@@ -5,7 +5,7 @@ use mathlib.Core.Path.{_≡_}
 use mathlib.Core.List.{List}
 use lib.ListN.{length, take, drop, getD}
 use Rattle.memory.specs.Memory.{store}
-use Rattle.memory.specs.Word.{lowBytes, lowNumber, wordAt, overwriteWord, fetchAdded, swapped}
+use Rattle.memory.specs.Word.{lowBytes, lowNumber, wordAt, storeWord, fetchAdded, swapped}
 
 -- Memory keeps its length.
 abbrev pub LengthKept : Type 0
@@ -49,20 +49,20 @@ WordBelow = (m : List ℕ) (at : ℕ) → Bytes m → wordAt m at < 2 ^ 64
 abbrev pub LowFirst : Type 0
 LowFirst =
     (m : List ℕ) (at x i : ℕ) → at + 8 ≤ length m → i < 8
-    → getD (overwriteWord m at x) (at + i) 0 ≡ x / 256 ^ i % 256
+    → getD (storeWord m at x) (at + i) 0 ≡ x / 256 ^ i % 256
 
 -- What was stored is read, and storing what was read changes nothing.
 abbrev pub WordBack : Type 0
-WordBack = (m : List ℕ) (at x : ℕ) → at + 8 ≤ length m → x < 2 ^ 64 → wordAt (overwriteWord m at x) at ≡ x
+WordBack = (m : List ℕ) (at x : ℕ) → at + 8 ≤ length m → x < 2 ^ 64 → wordAt (storeWord m at x) at ≡ x
 
 abbrev pub WordKept : Type 0
-WordKept = (m : List ℕ) (at : ℕ) → Bytes m → at + 8 ≤ length m → overwriteWord m at (wordAt m at) ≡ m
+WordKept = (m : List ℕ) (at : ℕ) → Bytes m → at + 8 ≤ length m → storeWord m at (wordAt m at) ≡ m
 
 -- A word that does not lie in memory is 0, and nothing is stored.
 abbrev pub WordOver : Type 0
 WordOver =
     (m : List ℕ) (at x y : ℕ) → length m < at + 8
-    → (wordAt m at ≡ 0) × (overwriteWord m at x ≡ m) × (fetchAdded m at x ≡ m) × (swapped m at x y ≡ m)
+    → (wordAt m at ≡ 0) × (storeWord m at x ≡ m) × (fetchAdded m at x ≡ m) × (swapped m at x y ≡ m)
 
 -- Of two states of memory, only the word at index at may differ.
 pub record OnlyWord (m new : List ℕ) (at : ℕ) : Type 0 where
@@ -72,7 +72,7 @@ pub record OnlyWord (m new : List ℕ) (at : ℕ) : Type 0 where
 
 -- Wherever the word lies, nothing else changes.
 abbrev pub WordWithin : Type 0
-WordWithin = (m : List ℕ) (at x : ℕ) → OnlyWord m (overwriteWord m at x) at
+WordWithin = (m : List ℕ) (at x : ℕ) → OnlyWord m (storeWord m at x) at
 
 abbrev pub FetchWithin : Type 0
 FetchWithin = (m : List ℕ) (at x : ℕ) → OnlyWord m (fetchAdded m at x) at

@@ -21,13 +21,13 @@ unfoldable pub wordAt : List ℕ → ℕ → ℕ
 wordAt m at = cond (leb (at + 8) (length m)) (lowNumber (take 8 (drop at m))) 0
 
 -- memory with x in those 8 bytes; unchanged where they do not lie in it
-unfoldable pub overwriteWord : List ℕ → ℕ → ℕ → List ℕ
-overwriteWord m at x = store m at (lowBytes 8 x)
+unfoldable pub storeWord : List ℕ → ℕ → ℕ → List ℕ
+storeWord m at x = store m at (lowBytes 8 x)
 
 -- memory after FetchAdd of x: the sum starts again from 0 at 2^64
 unfoldable pub fetchAdded : List ℕ → ℕ → ℕ → List ℕ
-fetchAdded m at x = overwriteWord m at ((wordAt m at + x) % 2 ^ 64)
+fetchAdded m at x = storeWord m at ((wordAt m at + x) % 2 ^ 64)
 
 -- memory after CmpSwap: swap is stored where the number is compare
 unfoldable pub swapped : List ℕ → ℕ → ℕ → ℕ → List ℕ
-swapped m at compare swap = cond (eqb (wordAt m at) compare) (overwriteWord m at swap) m
+swapped m at compare swap = cond (eqb (wordAt m at) compare) (storeWord m at swap) m

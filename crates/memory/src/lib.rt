@@ -3,7 +3,7 @@ ghost use mathlib.Core.Path.{_≡_};
 ghost use Prim.Native.Nat.{_+_, _≤_, _<_};
 ghost use lib.ListN.{length, take, drop};
 ghost use Rattle.memory.specs.Memory.{store};
-ghost use Rattle.memory.specs.Word.{lowBytes, lowNumber, wordAt, overwriteWord, fetchAdded, swapped};
+ghost use Rattle.memory.specs.Word.{lowBytes, lowNumber, wordAt, storeWord, fetchAdded, swapped};
 
 // Copies payload into mem from index at on, where it fits; else nothing changes.
 pub fn store(mem: &mut [u8], at: usize, payload: &[u8])
@@ -72,7 +72,7 @@ pub fn read_word(mem: &[u8], at: usize) -> u64
 
 // Stores x in the 8 bytes from index at on, low byte first, where they lie in mem; else nothing changes.
 pub fn write_word(mem: &mut [u8], at: usize, x: u64)
-    ensures { λ _. ⌜ now (mem .exit) ≡ overwriteWord (now (mem .entry)) at x ⌝ }
+    ensures { λ _. ⌜ now (mem .exit) ≡ storeWord (now (mem .entry)) at x ⌝ }
 {
     let word = low_bytes(x);
     store(mem, at, &word);

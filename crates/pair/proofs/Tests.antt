@@ -15,7 +15,7 @@ use Rattle.pmtu.proofs.Counting.{pmtus}
 use Rattle.table.specs.Table.{addresses, outside, pastTop}
 use Rattle.pair.specs.declared.Setup.{Setup}
 use Rattle.pair.specs.declared.Pair.{Pair}
-use Rattle.pair.specs.Sound.{memoryLimit, setupUnfit, setupUnsound, countersUnsound, ringUnsound, noEntry, sendUnsound, writeUnsound, messageUnsound, readUnsound, pairUnsound}
+use Rattle.pair.specs.Sound.{memoryLimit, setupUnfit, setupUnsound, countersUnsound, ringUnsound, noEntry, sendUnsound, writeUnsound, messageUnsound, readUnsound, pairUnsound, timerLimit}
 use Rattle.pair.specs.Claims.{SetupFit, SetupSound, MessageSound, Sound, SetupTested, Tested}
 
 -- a flag that names a failing test, and the test
@@ -70,7 +70,7 @@ setup-tested s = (fits, passes)
         (neither (lt-leb space (s .ours) (f .ours))
         (neither (lt-leb space (s .theirs) (f .theirs))
         (neither (lt-leb space (s .start .0) (f .start))
-        (neither (ne-eqb (s .pkey % 32768) 0 (f .pkey)) (le-ltb 31 (s .timer) (f .timer)))))))
+        (neither (ne-eqb (s .pkey % 32768) 0 (f .pkey)) (le-ltb timerLimit (s .timer) (f .timer)))))))
 
 pub setup-sound : (s : Setup) → setupUnsound s ≡ false → SetupSound s
 unfolding setupUnsound

@@ -23,7 +23,7 @@ abbrev pub timerLimit : ℕ
 timerLimit = 31
 
 -- a bad number: no such PMTU or service, a number over 24 bits, a P_Key whose low 15 bits are zero, a timer code over
--- the greatest
+-- the limit
 unfoldable pub setupUnfit : Setup → Bool
 setupUnfit s =
     not (pmtuFits (s .pmtu))

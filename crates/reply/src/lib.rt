@@ -19,9 +19,9 @@ pub const INVALID_REQUEST: u8 = 0x61;
 pub const ACCESS: u8 = 0x62;
 
 // The lengths of an Acknowledge and of an Atomic Acknowledge.
-pub const ACK_LENGTH: usize = 16;
+pub const ACK_LENGTH: usize = opcode::WITH_AETH;
 
-pub const ATOMIC_ACK_LENGTH: usize = 24;
+pub const ATOMIC_ACK_LENGTH: usize = opcode::WITH_AETH_ATOMIC_ACK;
 
 // Nothing completes.
 pub fn no_completion() -> Completion

@@ -1,4 +1,5 @@
--- The key check step by step: from what each leaf answered to what the definition says; and which message a packet is of.
+-- The key check step by step: from what each leaf answered to what the definition says; and when nothing of a message
+-- is stored yet.
 use Prim.Native.Nat.{ℕ, _+_, _-_, _<_}
 use mathlib.Core.Path.{_≡_, refl, sym, ap, _∙_}
 use mathlib.Core.Bool.{Bool, true, false, cond, not, true≢false}
@@ -39,10 +40,10 @@ module _ (memory kind : ℕ) (m : OpenMessage) (region : List ℕ) (k : kind ≡
       → r ≡ lacks region right memory (m .address + stored) n → r ≡ keyFails memory kind m region
   judged stored p right q n e r l = l ∙ ((λ i. lacks region (q i) memory (m .address + p i) (e i)) ∙ sym keyed)
 
--- what is no fragment of a single packet's message begins it
-pub begun : (opened : OpenMessage) (p : Packet) → fragment p ≡ false → single (p .kind) ≡ true → current opened p .stored ≡ 0
+-- a READ or atomic that is no fragment begins its message: nothing of it is stored yet
+pub none-stored-yet : (opened : OpenMessage) (p : Packet) → fragment p ≡ false → single (p .kind) ≡ true → current opened p .stored ≡ 0
 unfolding fragment current
-begun opened p h c = go (starts (p .place)) (rw c at h)
+none-stored-yet opened p h c = go (starts (p .place)) (rw c at h)
   where
     go : (b : Bool) → not b ≡ false
         → cond b (record { kind = p .kind; stored = 0; address = p .operands .address; key = p .operands .key; length = p .operands .length }) opened .stored ≡ 0

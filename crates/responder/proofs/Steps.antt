@@ -17,6 +17,7 @@ use Rattle.header.specs.declared.HeaderRead.the-variants as read
 use Rattle.memory.specs.Word.{wordAt}
 use Rattle.table.specs.View.{savedRows}
 use Rattle.table.specs.declared.Ring.{Ring}
+use Rattle.pair.specs.Sound.{timerLimit}
 use Rattle.pair.specs.Answer.{statusNumber, executed}
 use Rattle.pair.specs.declared.Pair.{Pair}
 use Rattle.pair.specs.declared.Status.{Status}
@@ -86,7 +87,7 @@ refused q regions entries saved m p out t is n number some o a =
 record Willing (q : Pair) (m out : List ℕ) : Type 0 where
   taken : executed (inboundRefusal q (length m) (length out)) ≡ true
   room : 24 ≤ length out
-  timer : q .setup .timer ≤ 31
+  timer : q .setup .timer ≤ timerLimit
 
 willing : (q : Pair) (m out : List ℕ) (t : Status) → t ≡ inboundRefusal q (length m) (length out) → (n : ℕ) → n ≡ statusNumber t → n ≡ 0 → Willing q m out
 unfolding executed
@@ -157,9 +158,9 @@ class-packet : (h : Header) (class : OpcodeClass) (n : ℕ) (k : Packet) → k �
 unfolding packetOf
 class-packet h class n k e c = e ∙ ap (λ x. packetBy x h n) c
 
-formed-packet : (h : Header) (n timer : ℕ) → timer ≤ 31 → unformed (packetOf h n) timer ≡ false
+formed-packet : (h : Header) (n timer : ℕ) → timer ≤ timerLimit → unformed (packetOf h n) timer ≡ false
 unfolding unformed
-formed-packet h n timer t = rw (whole-packet h n, le-ltb 31 timer t)
+formed-packet h n timer t = rw (whole-packet h n, le-ltb timerLimit timer t)
 
 -- the header checks of the pair
 abbrev headerBy : Pair → List ℕ → HeaderRead

@@ -18,7 +18,7 @@ fn reads_full(pair: Pair) -> bool
 }
 
 // The tests of host_calls::sound::unsound, by numbers: a call with the pair would write it to memory for every packet,
-// and a SEND takes some 8 ns longer (docs/PERFORMANCE.md).
+// and a SEND would take some 8 ns longer (docs/PERFORMANCE.md).
 fn unsound(pair: Pair) -> bool
     ensures { λ r. ⌜ r ≡ pairUnsound pair ⌝ }
 {

@@ -310,11 +310,11 @@ duplicate-by q regions rows k t K e =
     plain n = not-atomic (k .kind) (λ a. n (inr (inr a)))
 
 -- by the class of the PSN
-classed-by : (q : Pair) (regions entries rows : List (List ℕ)) (k : Packet) (c : Class) → q .setup .service ≡ 0 → psnClass (k .psn .0) (q .expected .0) ≡ c
+by-class : (q : Pair) (regions entries rows : List (List ℕ)) (k : Packet) (c : Class) → q .setup .service ≡ 0 → psnClass (k .psn .0) (q .expected .0) ≡ c
     → packetDecision q regions entries rows k
     ≡ decisionByClass c q k (headEntry q entries) (regionFor (k .kind) (current (q .message) k .key) regions) (newestSaved (k .psn .0) rows (q .saved))
 unfolding packetDecision rcDecision
-classed-by q regions entries rows k c r e =
+by-class q regions entries rows k c r e =
     rw (ne-eqb (q .setup .service) 1 (λ z. absurd (omega arith)))
     (ap (λ x. decisionByClass x q k (headEntry q entries) (regionFor (k .kind) (current (q .message) k .key) regions) (newestSaved (k .psn .0) rows (q .saved))) e)
 
@@ -325,13 +325,13 @@ packet-by : (q : Pair) (regions entries rows : List (List ℕ)) (k : Packet) (t 
 packet-by q regions entries rows k t r S P K C =
     record {
       expected =
-          λ e. subst (λ d. Expects q regions entries k t (statusNumber (d .status))) (sym (classed-by q regions entries rows k class.Expected r e))
+          λ e. subst (λ d. Expects q regions entries k t (statusNumber (d .status))) (sym (by-class q regions entries rows k class.Expected r e))
           (expected-by q regions entries k t S P C);
       ahead =
-          λ e. subst (λ d. Aheads (q .nakmark) (statusNumber (d .status))) (sym (classed-by q regions entries rows k class.Ahead r e))
+          λ e. subst (λ d. Aheads (q .nakmark) (statusNumber (d .status))) (sym (by-class q regions entries rows k class.Ahead r e))
           (ahead-by (q .nakmark) (q .expected));
       duplicate =
-          λ e. subst (λ d. DuplicateAnswers q regions rows k t (statusNumber (d .status))) (sym (classed-by q regions entries rows k class.Duplicate r e))
+          λ e. subst (λ d. DuplicateAnswers q regions rows k t (statusNumber (d .status))) (sym (by-class q regions entries rows k class.Duplicate r e))
           (duplicate-by q regions rows k t K (sym (current-one (q .message) k t P C)));
     }
 
@@ -362,7 +362,7 @@ pub duplicate-sent : DuplicateSent
 unfolding inbound outcomeBy decision decided
 duplicate-sent q regions entries saved m p out W r h e c =
     rw (goes q m out W, e)
-    (subst (λ d. DuplicateReplies q saved (packetOf h (length p)) (d .outgoing)) (sym (classed-by q regions entries saved (packetOf h (length p)) class.Duplicate r c))
+    (subst (λ d. DuplicateReplies q saved (packetOf h (length p)) (d .outgoing)) (sym (by-class q regions entries saved (packetOf h (length p)) class.Duplicate r c))
     (sent-by q saved (packetOf h (length p)) (current (q .message) (packetOf h (length p))) _))
 
 pub header-passed : HeaderPassed

@@ -40,7 +40,7 @@ use Rattle.responder_spec.specs.Decide.{readsFull, inboundRefusal, decid
 use Rattle.responder_spec.specs.Kept.{Steady}
 use Rattle.responder_spec.proofs.Checked.{Checked, checked, begins}
 use Rattle.responder_spec.proofs.Leads.{beside, Leads, branch, Does, does-leads, reply-only-leads, quiet-leads, ack-leads, duplicate-read-leads}
-use Rattle.responder_spec.proofs.Executes.{whole-in, storing-does, executing-leads}
+use Rattle.responder_spec.proofs.Executes.{whole-in, storing-does, execute-leads}
 use Rattle.responder_spec.proofs.Views.{viewed, viewed-sound, current-closed, same-code}
 
 -- a READ begins a message
@@ -141,7 +141,7 @@ module _ (w : Whole) (W : Steady w) where
     expected-leads =
         let code = expectedCode (w .pair .setup) (w .pair .message) p (w .pair .entries .count) (headEntry (w .pair) (w .entries)) region in
         branch w (eqb code 0) _ _
-        (λ e. executing-leads w W p (checked (w .pair .setup) (w .pair .message) p (w .pair .entries .count) (headEntry (w .pair) (w .entries)) region (eqb-true code 0 e)) n)
+        (λ e. execute-leads w W p (checked (w .pair .setup) (w .pair .message) p (w .pair .entries .count) (headEntry (w .pair) (w .entries)) region (eqb-true code 0 e)) n)
         (λ e. failed-leads code (p .psn) (w .pair .setup .timer))
 
     again : p .kind ≡ 12 → Leads w (duplicateRead p (w .pair .setup) message (w .pair .expected) region)

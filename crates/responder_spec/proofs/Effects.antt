@@ -43,12 +43,12 @@ use Rattle.responder_spec.specs.Apply.{memoryBy, actsAtomic, savedBy, sa
 use Rattle.responder_spec.specs.Reply.{answerBytes, valueBy, over, outBy}
 use Rattle.responder_spec.specs.Inbound.{outcomeBy, decision, inbound, inboundMemory, inboundSaved, inboundOut}
 use Rattle.responder_spec.specs.Effects.{Left, leaving, Silent, Unexecuted, Unchanged, Fixed, NakMarkAlone}
-use Rattle.responder_spec.specs.Effects.{ErrorAlone, Begun, DuplicateLeaves, Abandons, Executes, Places, Accepts}
+use Rattle.responder_spec.specs.Effects.{ErrorAlone, Begun, DuplicateLeaves, Abandons, Executes, StoresPacket, Accepts}
 use Rattle.responder_spec.specs.Effects.{OnWord, Swaps, Table, InboundTable}
 use Rattle.responder_spec.proofs.Codes.Bare.{reads, swaps, adds}
 use Rattle.responder_spec.proofs.Codes.{Bare, class-is}
 use Rattle.responder_spec.proofs.Rows.Quiet.{dropped, short, range, unfinished}
-use Rattle.responder_spec.proofs.Rows.Row.{quiet, ahead, invalid, access, unready, again, reread, reswap, place, begin, swap}
+use Rattle.responder_spec.proofs.Rows.Row.{quiet, ahead, invalid, access, unready, ackDuplicate, readDuplicate, atomicDuplicate, place, begin, swap}
 use Rattle.responder_spec.proofs.Rows.UcRow.{unheard, abandon, deliver}
 use Rattle.responder_spec.proofs.Rows.AnyRow.{reliable, unreliable}
 use Rattle.responder_spec.proofs.Rows.{Quiet, Asks, Row, UcRow, AnyRow, either, numbersOf, decided-row}
@@ -76,8 +76,8 @@ module _ (q : Pair) (regions saved : List (List ℕ)) (m p out : List ℕ) where
 
   -- the row of each answer; those that do not come have none
   abbrev Effect : Status → Left → Type 0
-  Effect status.Executed l = Places q saved m p l × (l .outgoing ≡ 0) × (l .out ≡ out)
-  Effect status.Acknowledged l = Places q saved m p l × (l .outgoing ≡ 16)
+  Effect status.Executed l = StoresPacket q saved m p l × (l .outgoing ≡ 0) × (l .out ≡ out)
+  Effect status.Acknowledged l = StoresPacket q saved m p l × (l .outgoing ≡ 16)
   Effect status.ReadAccepted l = Accepts q regions saved m p out l
   Effect status.AtomicExecuted l = Swaps q saved m p l
   Effect status.DuplicateAnswered l = DuplicateLeaves q regions saved m p out l
@@ -180,7 +180,7 @@ module _ (q : Pair) (regions saved : List (List ℕ)) (m p out : List ℕ) where
         value = d .value;
       }
 
-  status-of : (ackreq : Bool) (l : Left) → Places q saved m p l → l .outgoing ≡ cond ackreq 16 0 → (ackreq ≡ false → l .out ≡ out)
+  status-of : (ackreq : Bool) (l : Left) → StoresPacket q saved m p l → l .outgoing ≡ cond ackreq 16 0 → (ackreq ≡ false → l .out ≡ out)
       → Effect (cond ackreq status.Acknowledged status.Executed) l
   status-of true l P s o = (P, s)
   status-of false l P s o = (P, s, o refl)
@@ -234,7 +234,7 @@ module _ (q : Pair) (regions saved : List (List ℕ)) (m p out : List ℕ) where
       → ((q .setup .service ≡ 1 → ⊥) → psnAfter (q .expected) n ≡ psnAfter (q .expected) 1)
       → (q .setup .service ≡ 1 → psnAfter (q .expected) n ≡ psnAfter (bthOf p .psn) 1)
       → targetOffset (numbersOf p .kind) t entry region + payloadSize (numbersOf p) ≤ q .setup .memory
-      → Places q saved m p (L (answering a n outgoing (storePayload (numbersOf p) t entry region)))
+      → StoresPacket q saved m p (L (answering a n outgoing (storePayload (numbersOf p) t entry region)))
   unfolding leftBy outcomeBy storePayload executedPair readBy savedRingBy savedBy actsAtomic memoryBy ringTaken slotAt packetOf headerOf
   places-by a n outgoing t entry region few rc uc w =
       let k = numbersOf p in
@@ -381,7 +381,7 @@ module _ (q : Pair) (regions saved : List (List ℕ)) (m p out : List ℕ) where
         unexecuted = unexecuted-by status.NotReadyNak 16 (bthOf p .psn) (32 + q .setup .timer) 0;
         outgoing = refl;
       }
-  effect c d again =
+  effect c d ackDuplicate =
       record {
         fixed = fixed-by d (omega arith) (λ e. absurd (omega arith));
         state = refl;
@@ -389,7 +389,7 @@ module _ (q : Pair) (regions saved : List (List ℕ)) (m p out : List ℕ) where
         unexecuted = unexecuted-by status.DuplicateAnswered 16 (psnBefore (q .expected)) 31 0;
         answer = inl (inl refl, refl);
       }
-  effect c d (reread at n a s) =
+  effect c d (readDuplicate at n a s) =
       record {
         fixed = fixed-by d (omega arith) (λ e. absurd (omega arith));
         state = refl;
@@ -397,7 +397,7 @@ module _ (q : Pair) (regions saved : List (List ℕ)) (m p out : List ℕ) where
         unexecuted = record { memory = refl; saved = refl; completion = silent };
         answer = inr (refl, refl, begun-by d (q .read) (q .msn) s refl refl a);
       }
-  effect c d (reswap v e) =
+  effect c d (atomicDuplicate v e) =
       record {
         fixed = fixed-by d (omega arith) (λ e. absurd (omega arith));
         state = refl;

@@ -22,7 +22,7 @@ use Rattle.pair.proofs.Posting.{held-waiting, held-some, held-first}
 use Rattle.request_spec.specs.Packet.{packetOf}
 use Rattle.request_spec.specs.Claims.{Begins, GoesOn}
 use Rattle.responder_spec.specs.Inbound.{inbound}
-use Rattle.responder_spec.specs.Effects.{Left, inboundLeft, Unchanged, Abandons, Places, Table, OneOf}
+use Rattle.responder_spec.specs.Effects.{Left, inboundLeft, Unchanged, Abandons, StoresPacket, Table, OneOf}
 use Rattle.responder_spec.specs.Answers.{entryAtHead, packetIn, Completes, StoresPayload}
 use Rattle.responder_spec.specs.Unreliable.{UcKeeps, UcLeaves, EntryBack, HeldEntryTaken}
 use Rattle.responder_spec.proofs.Effects.{inbound-table}
@@ -59,7 +59,7 @@ module _ (q : Pair) (rows : List (List ℕ)) (bytes p output : List ℕ) (l : Le
         out = A .out;
       }
 
-  places-keeps : Places q rows bytes p l → l .outgoing ≡ 0 → l .out ≡ output → UcKeeps q rows output l
+  places-keeps : StoresPacket q rows bytes p l → l .outgoing ≡ 0 → l .out ≡ output → UcKeeps q rows output l
   places-keeps X s o =
       record {
         setup = X .executed .setup;
@@ -141,13 +141,13 @@ module _ (q : Pair) (regions entries saved : List (List ℕ)) (m p out : List �
         length = packetIn p .operands .length;
       }
 
-  puts : StoresPayload q regions entries m p (packetIn p) own l
-  puts =
+  stores-payload : StoresPayload q regions entries m p (packetIn p) own l
+  stores-payload =
       inbound-stores q regions entries saved m p out own
       (record { own = λ g. refl; old = λ g. absurd (apart (packetIn p .place) b g) }) (inl e)
 
-  storePayload : Places q saved m p l
-  storePayload = inbound-table q regions entries saved m p out .executes e .0
+  stores-packet : StoresPacket q saved m p l
+  stores-packet = inbound-table q regions entries saved m p out .executes e .0
 
   sound : Sound q
   sound = inbound-meant q regions entries saved m p out (omega (arith, e)) .2
@@ -155,22 +155,22 @@ module _ (q : Pair) (regions entries saved : List (List ℕ)) (m p out : List �
   -- a First: the ring is as before, and the SEND is open again
   first-kept : packetIn p .place ≡ 0 → (heldOf (l .pair) entries ≡ heldOf q entries) × (waitingOf (l .pair) entries ≡ waitingOf q entries)
   first-kept z =
-      let H = one-held (l .pair) entries (ap (λ x. x .kind) (puts .opens (inl z)) ∙ send) in
+      let H = one-held (l .pair) entries (ap (λ x. x .kind) (stores-payload .opens (inl z)) ∙ send) in
       let G = one-held q entries open-send in
-      let s = ap (inRing entries) (storePayload .silent (puts .onward (inl z) .some)) in
+      let s = ap (inRing entries) (stores-packet .silent (stores-payload .onward (inl z) .some)) in
       (H .0 ∙ (ap (take 1) s ∙ sym (G .0)), H .1 ∙ (ap (drop 1) s ∙ sym (G .1)))
 
   -- an Only: the first of the ring is done with, and no message open
   completed : packetIn p .place ≡ 4 → Completes (packetIn p) (getD (entryAtHead q entries) 0 0) (length (payloadOf p)) (l .completion)
   completed z =
       let n : 0 + length (payloadOf p) ≡ length (payloadOf p) = omega arith in
-      subst (λ x. Completes (packetIn p) (getD (entryAtHead q entries) 0 0) x (l .completion)) n (puts .sent-whole send (inr z))
+      subst (λ x. Completes (packetIn p) (getD (entryAtHead q entries) 0 0) x (l .completion)) n (stores-payload .sent-whole send (inr z))
 
   only-taken : packetIn p .place ≡ 4 → (heldOf (l .pair) entries ≡ []) × (waitingOf (l .pair) entries ≡ waitingOf q entries)
   unfolding packetOf headerOf
   only-taken z =
-      let N = none-held (l .pair) entries (storePayload .ends (omega (arith, z)) .1) in
-      let s = ap (inRing entries) (storePayload .completes (completed z .some)) in
+      let N = none-held (l .pair) entries (stores-packet .ends (omega (arith, z)) .1) in
+      let s = ap (inRing entries) (stores-packet .completes (completed z .some)) in
       (N .0, N .1 ∙ (s ∙ (rest-ring entries (q .entries) (held-some q sound open-send) ∙ sym (one-held q entries open-send .1))))
 
 pub held-entry-taken : HeldEntryTaken
@@ -178,7 +178,7 @@ held-entry-taken q regions entries saved m p out o k b e =
     let S = sound q regions entries saved m p out o k b e in
     record {
       held = held-first q entries S o ∙ ap (λ x. x ∷ []) (head-first q entries S);
-      stands = puts q regions entries saved m p out o k b e .sends k;
+      stands = stores-payload q regions entries saved m p out o k b e .sends k;
       waiting = go b;
       first = λ z. first-kept q regions entries saved m p out o k b e z .0;
       only = λ z. (only-taken q regions entries saved m p out o k b e z .0, completed q regions entries saved m p out o k b e z);

@@ -229,9 +229,9 @@ module _ (w : Whole) (W : Steady w) where
           same false number = refl
 
       module _ (n : p .psn .0 < 2 ^ 24) where
-        accepting-does : p .kind ≡ 12 → Does w (acceptRead p message (w .pair .message) region (w .pair .setup .pmtu))
+        read-does : p .kind ≡ 12 → Does w (acceptRead p message (w .pair .message) region (w .pair .setup .pmtu))
         unfolding acceptRead actsAtomic statusNumber
-        accepting-does k =
+        read-does k =
             record {
               number = refl;
               entry = λ e. absurd (true≢false (sym e));
@@ -244,13 +244,13 @@ module _ (w : Whole) (W : Steady w) where
             go (inl (a, e, x)) = ap (λ y. y .stored) e
             go (inr (a, e, x)) = absurd (no-read (x ∙ k))
 
-        swapping-does : Does w (runAtomic p message (w .pair .message) region)
+        atomic-does : Does w (runAtomic p message (w .pair .message) region)
         unfolding runAtomic statusNumber
-        swapping-does =
+        atomic-does =
             record { number = refl; entry = λ e. absurd (true≢false (sym e)); message = opened-opens; read = inl refl; psn = λ e. n }
 
-        pub executing-leads : Leads w (execute p message (w .pair .message) entry region (w .pair .setup .pmtu))
+        pub execute-leads : Leads w (execute p message (w .pair .message) entry region (w .pair .setup .pmtu))
         unfolding execute
-        executing-leads =
+        execute-leads =
             branch w (carrying (p .kind)) _ _ (λ c. does-leads w W _ (storing-does c))
-            (λ c. branch w (eqb (p .kind) 12) _ _ (λ e. does-leads w W _ (accepting-does (eqb-true (p .kind) 12 e))) (λ e. does-leads w W _ swapping-does))
+            (λ c. branch w (eqb (p .kind) 12) _ _ (λ e. does-leads w W _ (read-does (eqb-true (p .kind) 12 e))) (λ e. does-leads w W _ atomic-does))

@@ -16,7 +16,7 @@ use Rattle.responder_spec.specs.Decide.{noReply, acknowledging, storePay
 use Rattle.responder_spec.specs.Inbound.{outcomeBy, decision, inbound}
 use Rattle.responder_spec.specs.Effects.{OneOf, InboundNumbers, UcNumbers}
 use Rattle.responder_spec.proofs.Rows.Quiet.{dropped, short, range, unfinished}
-use Rattle.responder_spec.proofs.Rows.Row.{quiet, ahead, invalid, access, unready, again, reread, reswap, place, begin, swap}
+use Rattle.responder_spec.proofs.Rows.Row.{quiet, ahead, invalid, access, unready, ackDuplicate, readDuplicate, atomicDuplicate, place, begin, swap}
 use Rattle.responder_spec.proofs.Rows.UcRow.{unheard, abandon, deliver}
 use Rattle.responder_spec.proofs.Rows.AnyRow.{reliable, unreliable}
 use Rattle.responder_spec.proofs.Rows.{Quiet, Row, UcRow, AnyRow, numbersOf, decided-row}
@@ -48,9 +48,9 @@ module _ (q : Pair) (regions saved : List (List ℕ)) (k : Packet) where
   psns d invalid = inr (inr (inr (inr (inr (inr (inr (inl refl)))))))
   psns d access = inr (inr (inr (inr (inr (inr (inr (inr (inl refl))))))))
   psns d unready = inr (inr (inr (inr (inr (inr (inr (inr (inr (inl refl)))))))))
-  psns d again = inr (inr (inr (inr (inl refl))))
-  psns d (reread at n a s) = inr (inr (inr (inr (inl refl))))
-  psns d (reswap v e) = inr (inr (inr (inr (inl refl))))
+  psns d ackDuplicate = inr (inr (inr (inr (inl refl))))
+  psns d (readDuplicate at n a s) = inr (inr (inr (inr (inl refl))))
+  psns d (atomicDuplicate v e) = inr (inr (inr (inr (inl refl))))
   psns d (place t entry region w) = place-numbers (k .ackreq)
   psns d (begin at n a s) = inr (inr (inl refl))
   psns d (swap t region w) = inr (inr (inr (inl refl)))

@@ -48,7 +48,7 @@ use Rattle.responder_spec.specs.Effects.{Left}
 use Rattle.responder_spec.specs.Replies.{AckSent, ValueSent, Replies, InboundReplies}
 use Rattle.responder_spec.proofs.Rows.Quiet.{dropped, short, range, unfinished}
 use Rattle.responder_spec.proofs.Rows.Late.{unread, outside}
-use Rattle.responder_spec.proofs.Rows.Row.{quiet, ahead, invalid, access, unready, again, reread, reswap, place, begin, swap}
+use Rattle.responder_spec.proofs.Rows.Row.{quiet, ahead, invalid, access, unready, ackDuplicate, readDuplicate, atomicDuplicate, place, begin, swap}
 use Rattle.responder_spec.proofs.Rows.UcRow.{unheard, abandon, deliver}
 use Rattle.responder_spec.proofs.Rows.AnyRow.{reliable, unreliable}
 use Rattle.responder_spec.proofs.Rows.{UcRow, AnyRow, Quiet, Late, Row, either, numbersOf, passed, refusal-quiet, taken-row}
@@ -256,10 +256,10 @@ module _ (q : Pair) (saved : List (List ℕ)) (m p out : List ℕ) where
     reply regions d unready =
         ack-sent q saved m p out S P (acknowledging status.NotReadyNak (bthOf p .psn) (32 + q .setup .timer)) refl (psn-small p B)
         (omega (arith, S .setup .0 .timer))
-    reply regions d again =
+    reply regions d ackDuplicate =
         inl (ack-sent q saved m p out S P (acknowledging status.DuplicateAnswered (psnBefore (q .expected)) 31) refl (after-below (q .expected) _) (omega arith))
-    reply regions d (reread at n a s) = inr (inr refl)
-    reply regions d (reswap v e) =
+    reply regions d (readDuplicate at n a s) = inr (inr refl)
+    reply regions d (atomicDuplicate v e) =
         inr (inl (
           v,
           e,

@@ -77,10 +77,10 @@ pub data Row (Q : Status → Type 0) (q : Pair) (regions saved : List (List ℕ)
   invalid : Row Q q regions saved p (acknowledging status.InvalidRequestNak (p .psn) 97)
   access : Row Q q regions saved p (acknowledging status.AccessNak (p .psn) 98)
   unready : Row Q q regions saved p (acknowledging status.NotReadyNak (p .psn) (32 + q .setup .timer))
-  again : Row Q q regions saved p (acknowledging status.DuplicateAnswered (psnBefore (q .expected)) 31)
-  reread : (at n : ℕ) → Asks (q .setup .memory) regions p at n → 0 < pieces n (q .setup .pmtu)
+  ackDuplicate : Row Q q regions saved p (acknowledging status.DuplicateAnswered (psnBefore (q .expected)) 31)
+  readDuplicate : (at n : ℕ) → Asks (q .setup .memory) regions p at n → 0 < pieces n (q .setup .pmtu)
       → Row Q q regions saved p (beginRead status.DuplicateAnswered noMessage at n 0 false (pieces n (q .setup .pmtu)) (p .psn))
-  reswap : (v : ℕ) → newestSaved (p .psn .0) saved (q .saved) ≡ Value v → Row Q q regions saved p (replyOnly status.DuplicateAnswered 24 (p .psn) 31 v)
+  atomicDuplicate : (v : ℕ) → newestSaved (p .psn .0) saved (q .saved) ≡ Value v → Row Q q regions saved p (replyOnly status.DuplicateAnswered 24 (p .psn) 31 v)
   place : (m : OpenMessage) (entry region : List ℕ) → targetOffset (p .kind) m entry region + payloadSize p ≤ q .setup .memory
       → Row Q q regions saved p (storePayload p m entry region)
   begin : (at n : ℕ) → Asks (q .setup .memory) regions p at n → 0 < pieces n (q .setup .pmtu)
@@ -178,10 +178,10 @@ module _ (Q : Status → Type 0) (shut : Q status.Dropped) (q : Pair) (regions e
       not-send (inl x) = ne-eqb (p .kind) 0 (λ z. omega arith)
       not-send (inr x) = ne-eqb (p .kind) 0 (λ z. omega arith)
 
-  executing-row : (entry : List ℕ) → Passed (q .setup) (q .message) p entry (regionBy q regions p)
+  execute-row : (entry : List ℕ) → Passed (q .setup) (q .message) p entry (regionBy q regions p)
       → R (execute p M (q .message) entry (regionBy q regions p) (q .setup .pmtu))
   unfolding execute acceptRead
-  executing-row entry P =
+  execute-row entry P =
       branch R (carrying (p .kind))
       (λ c. place M entry (regionBy q regions p) (place-inside (q .setup) (q .message) p entry (regionBy q regions p) P c))
       (λ c. branch R (eqb (p .kind) 12)
@@ -191,21 +191,21 @@ module _ (Q : Status → Type 0) (shut : Q status.Dropped) (q : Pair) (regions e
       not-send : eqb (p .kind) 12 ≡ true → eqb (p .kind) 0 ≡ false
       not-send e = let k : p .kind ≡ 12 = eqb-true (p .kind) 12 e in ne-eqb (p .kind) 0 (λ z. omega arith)
 
-  settled-row : (entry : List ℕ) (code : ℕ) → Codes code → (code ≡ 0 → Passed (q .setup) (q .message) p entry (regionBy q regions p))
+  checked-row : (entry : List ℕ) (code : ℕ) → Codes code → (code ≡ 0 → Passed (q .setup) (q .message) p entry (regionBy q regions p))
       → (code ≡ 34 → Q status.OutOfRange) → R (checkedDecision code p (q .setup) (q .message) entry (regionBy q regions p))
   unfolding checkedDecision failed
-  settled-row entry code (inl e) P o =
-      subst (λ c. R (checkedDecision c p (q .setup) (q .message) entry (regionBy q regions p))) (sym e) (executing-row entry (P e))
-  settled-row entry code (inr (inl e)) P o = subst (λ c. R (checkedDecision c p (q .setup) (q .message) entry (regionBy q regions p))) (sym e) invalid
-  settled-row entry code (inr (inr (inl e))) P o = subst (λ c. R (checkedDecision c p (q .setup) (q .message) entry (regionBy q regions p))) (sym e) access
-  settled-row entry code (inr (inr (inr (inl e)))) P o = subst (λ c. R (checkedDecision c p (q .setup) (q .message) entry (regionBy q regions p))) (sym e) unready
-  settled-row entry code (inr (inr (inr (inr (inl e))))) P o =
+  checked-row entry code (inl e) P o =
+      subst (λ c. R (checkedDecision c p (q .setup) (q .message) entry (regionBy q regions p))) (sym e) (execute-row entry (P e))
+  checked-row entry code (inr (inl e)) P o = subst (λ c. R (checkedDecision c p (q .setup) (q .message) entry (regionBy q regions p))) (sym e) invalid
+  checked-row entry code (inr (inr (inl e))) P o = subst (λ c. R (checkedDecision c p (q .setup) (q .message) entry (regionBy q regions p))) (sym e) access
+  checked-row entry code (inr (inr (inr (inl e)))) P o = subst (λ c. R (checkedDecision c p (q .setup) (q .message) entry (regionBy q regions p))) (sym e) unready
+  checked-row entry code (inr (inr (inr (inr (inl e))))) P o =
       subst (λ c. R (checkedDecision c p (q .setup) (q .message) entry (regionBy q regions p))) (sym e) (quiet status.OutOfRange (o e))
 
   expected-row : R (expectedDecision p (q .setup) (q .message) (q .entries .count) (headEntry q entries) (regionBy q regions p))
   unfolding expectedDecision
   expected-row =
-      settled-row (headEntry q entries) (expectedCode (q .setup) (q .message) p (q .entries .count) (headEntry q entries) (regionBy q regions p))
+      checked-row (headEntry q entries) (expectedCode (q .setup) (q .message) p (q .entries .count) (headEntry q entries) (regionBy q regions p))
       (codes (q .setup) (q .message) p (q .entries .count) (headEntry q entries) (regionBy q regions p))
       (passes (q .setup) (q .message) p (q .entries .count) (headEntry q entries) (regionBy q regions p)) (off (regionBy q regions p))
 
@@ -214,7 +214,7 @@ module _ (Q : Status → Type 0) (shut : Q status.Dropped) (q : Pair) (regions e
   ahead-row = either R (q .nakmark) (quiet status.Dropped shut) ahead
 
   atomic-row : (s : Saved) → newestSaved (p .psn .0) saved (q .saved) ≡ s → R (duplicateAtomic s (p .psn))
-  atomic-row (Value v) e = reswap v e
+  atomic-row (Value v) e = atomicDuplicate v e
   atomic-row Nothing e = quiet status.Dropped shut
 
   duplicate-key : duplicateReadFails p (q .setup) M (q .expected) (regionBy q regions p) ≡ false → keyFails (q .setup .memory) 12 M (regionBy q regions p) ≡ false
@@ -226,20 +226,20 @@ module _ (Q : Status → Type 0) (shut : Q status.Dropped) (q : Pair) (regions e
   duplicate-row : R (duplicateDecision p (q .setup) (q .expected) M (regionBy q regions p) (newestSaved (p .psn .0) saved (q .saved)))
   unfolding duplicateDecision duplicateRead
   duplicate-row =
-      either R (carrying (p .kind)) again
+      either R (carrying (p .kind)) ackDuplicate
       (branch R (eqb (p .kind) 12)
       (λ e. branch R (duplicateReadFails p (q .setup) M (q .expected) (regionBy q regions p)) (λ f. quiet status.Dropped shut)
-      (λ f. reread (memoryOffset (regionBy q regions p) (M .address) (M .length)) (M .length) (asks (eqb-true (p .kind) 12 e) 12 refl (duplicate-key f)) (count-some q S (M .length))))
+      (λ f. readDuplicate (memoryOffset (regionBy q regions p) (M .address) (M .length)) (M .length) (asks (eqb-true (p .kind) 12 e) 12 refl (duplicate-key f)) (count-some q S (M .length))))
       (λ e. either R (isAtomic (p .kind)) (atomic-row (newestSaved (p .psn .0) saved (q .saved)) refl) (quiet status.Dropped shut)))
 
-  classed-row : (c : Class) → R (decisionByClass c q p (headEntry q entries) (regionBy q regions p) (newestSaved (p .psn .0) saved (q .saved)))
-  classed-row class.Expected = expected-row
-  classed-row class.Ahead = ahead-row
-  classed-row class.Duplicate = duplicate-row
+  by-class-row : (c : Class) → R (decisionByClass c q p (headEntry q entries) (regionBy q regions p) (newestSaved (p .psn .0) saved (q .saved)))
+  by-class-row class.Expected = expected-row
+  by-class-row class.Ahead = ahead-row
+  by-class-row class.Duplicate = duplicate-row
 
   rc-row : R (rcDecision q regions entries saved p)
   unfolding rcDecision
-  rc-row = classed-row (psnClass (p .psn .0) (q .expected .0))
+  rc-row = by-class-row (psnClass (p .psn .0) (q .expected .0))
 
 -- on the unreliable connection: quiet, abandoned, or stored
 pub data UcRow (Q : Status → Type 0) (q : Pair) (p : Packet) : Decision → Type 0 where
@@ -253,11 +253,11 @@ module _ (Q : Status → Type 0) (shut : Q status.Dropped) (q : Pair) (regions e
   abbrev U : Decision → Type 0
   U = UcRow Q q p
 
-  uc-settled : (entry region : List ℕ) (code : ℕ) → (code ≡ 0 → Passed (q .setup) (closedBy (p .place) (q .message)) p entry region)
+  uc-checked : (entry region : List ℕ) (code : ℕ) → (code ≡ 0 → Passed (q .setup) (closedBy (p .place) (q .message)) p entry region)
       → (code ≡ 34 → Q status.OutOfRange)
       → U (ucCheckedDecision code p (q .expected) (q .message) entry region)
   unfolding ucCheckedDecision ucExecute abandoning
-  uc-settled entry region code P o =
+  uc-checked entry region code P o =
       branch U (eqb code 0)
       (λ z. branch U (carrying (p .kind))
       (λ c. deliver (current (q .message) p) entry region
@@ -278,7 +278,7 @@ module _ (Q : Status → Type 0) (shut : Q status.Dropped) (q : Pair) (regions e
       (λ h. branch U (strays p (q .expected) (q .message .kind)) (λ t. abandon (stray-open p (q .expected) (q .message .kind) h t))
       (λ t.
       let e = same-code (q .setup) (q .message) p (q .expected) (q .entries .count) entry region t in
-      uc-settled entry region code (λ z. passes (q .setup) opened p (q .entries .count) entry region (e ∙ z)) (λ z. off region (e ∙ z))))
+      uc-checked entry region code (λ z. passes (q .setup) opened p (q .entries .count) entry region (e ∙ z)) (λ z. off region (e ∙ z))))
 
 -- by the service
 pub data AnyRow (Q : Status → Type 0) (q : Pair) (regions saved : List (List ℕ)) (p : Packet) (d : Decision) : Type 0 where

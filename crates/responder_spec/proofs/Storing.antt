@@ -153,9 +153,9 @@ module _ (q : Pair) (regions entries saved : List (List ℕ)) (m p : List ℕ) (
   unfolding payloadSize
   payload-size-is = sym (payload-size p)
 
-  puts-by : (out : List ℕ) → carrying (k .kind) ≡ true → StoresPayload q regions entries m p k M (leftBy q saved m p out D)
+  stores-by : (out : List ℕ) → carrying (k .kind) ≡ true → StoresPayload q regions entries m p k M (leftBy q saved m p out D)
   unfolding leftBy outcomeBy storePayload
-  puts-by out c =
+  stores-by out c =
       let T = judged .only refl in
       let L = T .7 in
       let size = payload-size p in
@@ -296,15 +296,15 @@ module _ (q : Pair) (regions entries saved : List (List ℕ)) (m p out : List �
   abbrev v : Pair
   v = viewed (packetIn p .place) q
 
-  abbrev placedAt : OpenMessage → Decision
-  placedAt t = storePayload (packetIn p) t (headEntry q entries) (regionFor (packetIn p .kind) (t .key) regions)
+  abbrev storedAt : OpenMessage → Decision
+  storedAt t = storePayload (packetIn p) t (headEntry q entries) (regionFor (packetIn p .kind) (t .key) regions)
 
-  same-message : (t : OpenMessage) → pairBy q (unanswered n (placedAt t)) .message ≡ pairBy v (placedAt t) .message
+  same-message : (t : OpenMessage) → pairBy q (unanswered n (storedAt t)) .message ≡ pairBy v (storedAt t) .message
   unfolding pairBy after storePayload executedPair statusNumber
   same-message t = sym (rw (few (packetIn p .ackreq)))
 
-  unseen : (t : OpenMessage) → StoresPayload v regions entries m p (packetIn p) t (leftBy v saved m p out (placedAt t))
-      → StoresPayload q regions entries m p (packetIn p) t (leftBy q saved m p out (unanswered n (placedAt t)))
+  unseen : (t : OpenMessage) → StoresPayload v regions entries m p (packetIn p) t (leftBy v saved m p out (storedAt t))
+      → StoresPayload q regions entries m p (packetIn p) t (leftBy q saved m p out (unanswered n (storedAt t)))
   unfolding leftBy outcomeBy memoryBy
   unseen t P =
       record {
@@ -321,24 +321,24 @@ module _ (q : Pair) (regions entries saved : List (List ℕ)) (m p out : List �
       }
 
   ucExecuted : Sound q → length m ≡ q .setup .memory → codeBy v regions entries (packetIn p) ≡ 0 → carrying (packetIn p .kind) ≡ true
-      → StoresPayload q regions entries m p (packetIn p) (current (q .message) (packetIn p)) (leftBy q saved m p out (unanswered n (placedAt (current (q .message) (packetIn p)))))
+      → StoresPayload q regions entries m p (packetIn p) (current (q .message) (packetIn p)) (leftBy q saved m p out (unanswered n (storedAt (current (q .message) (packetIn p)))))
   ucExecuted S w z c =
-      subst (λ t. StoresPayload q regions entries m p (packetIn p) t (leftBy q saved m p out (unanswered n (placedAt t)))) (current-closed (q .message) (packetIn p))
-      (unseen (current (v .message) (packetIn p)) (puts-by v regions entries saved m p (viewed-sound (packetIn p .place) q S) w z out c))
+      subst (λ t. StoresPayload q regions entries m p (packetIn p) t (leftBy q saved m p out (unanswered n (storedAt t)))) (current-closed (q .message) (packetIn p))
+      (unseen (current (v .message) (packetIn p)) (stores-by v regions entries saved m p (viewed-sound (packetIn p .place) q S) w z out c))
 
 -- the two claims: any other decision has another answer
 module _ (q : Pair) (regions entries saved : List (List ℕ)) (m p out : List ℕ) (w : length m ≡ q .setup .memory) where
-  puts-way : (d : Decision) → Way q regions entries (packetIn p) d → (statusNumber (d .status) ≡ 0) ⊎ (statusNumber (d .status) ≡ 1)
+  stores-way : (d : Decision) → Way q regions entries (packetIn p) d → (statusNumber (d .status) ≡ 0) ⊎ (statusNumber (d .status) ≡ 1)
       → StoresPayload q regions entries m p (packetIn p) (current (q .message) (packetIn p)) (leftBy q saved m p out d)
   unfolding runAtomic statusNumber
-  puts-way d (away e (inl x)) (inl y) = absurd (omega arith)
-  puts-way d (away e (inl x)) (inr y) = absurd (omega arith)
-  puts-way d (away e (inr x)) (inl y) = absurd (omega arith)
-  puts-way d (away e (inr x)) (inr y) = absurd (omega arith)
-  puts-way d (places S z c) h = puts-by q regions entries saved m p S w z out c
-  puts-way d (exchanges S z c r) (inl y) = absurd (omega arith)
-  puts-way d (exchanges S z c r) (inr y) = absurd (omega arith)
-  puts-way d (delivers S n z c) h = ucExecuted q regions entries saved m p out n S w z c
+  stores-way d (away e (inl x)) (inl y) = absurd (omega arith)
+  stores-way d (away e (inl x)) (inr y) = absurd (omega arith)
+  stores-way d (away e (inr x)) (inl y) = absurd (omega arith)
+  stores-way d (away e (inr x)) (inr y) = absurd (omega arith)
+  stores-way d (places S z c) h = stores-by q regions entries saved m p S w z out c
+  stores-way d (exchanges S z c r) (inl y) = absurd (omega arith)
+  stores-way d (exchanges S z c r) (inr y) = absurd (omega arith)
+  stores-way d (delivers S n z c) h = ucExecuted q regions entries saved m p out n S w z c
 
   low-number : (b : Bool) → statusNumber (cond b status.Acknowledged status.Executed) ≡ 3 → ⊥
   unfolding statusNumber
@@ -364,7 +364,7 @@ inbound-stores q regions entries saved m p out t C h =
     let d = decided q regions entries saved (length m) p (length out) in
     let w = inbound-meant q regions entries saved m p out (small (statusNumber (d .status)) h) .1 in
     subst (λ x. StoresPayload q regions entries m p (packetIn p) x (leftBy q saved m p out d)) (sym (current-one (q .message) (packetIn p) t (any-place (bthOf p .opcode)) C))
-    (puts-way q regions entries saved m p out w d (decided-way q regions entries saved (length m) p (length out)) h)
+    (stores-way q regions entries saved m p out w d (decided-way q regions entries saved (length m) p (length out)) h)
 
 pub inbound-swaps : InboundSwaps
 unfolding inbound inboundMemory inboundSaved decision outcomeBy

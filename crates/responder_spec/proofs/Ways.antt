@@ -113,14 +113,14 @@ module _ (q : Pair) (regions entries saved : List (List ℕ)) (S : Sound q) (k :
       (λ r. branch W (duplicateReadFails k (q .setup) (current (q .message) k) (q .expected) (regionBy q regions k)) (λ f. away _ (inr (omega arith))) (λ f. away _ (inr (omega arith))))
       (λ r. branch W (isAtomic (k .kind)) (λ f. atomic-way (newestSaved (k .psn .0) saved (q .saved))) (λ f. away _ (inr (omega arith)))))
 
-  pub classed-way : (c : Class) → W (decisionByClass c q k (headEntry q entries) (regionBy q regions k) (newestSaved (k .psn .0) saved (q .saved)))
-  classed-way class.Expected = expected-way
-  classed-way class.Ahead = ahead-way
-  classed-way class.Duplicate = duplicate-way
+  pub by-class-way : (c : Class) → W (decisionByClass c q k (headEntry q entries) (regionBy q regions k) (newestSaved (k .psn .0) saved (q .saved)))
+  by-class-way class.Expected = expected-way
+  by-class-way class.Ahead = ahead-way
+  by-class-way class.Duplicate = duplicate-way
 
   pub rc-way : W (rcDecision q regions entries saved k)
   unfolding rcDecision
-  rc-way = classed-way (psnClass (k .psn .0) (q .expected .0))
+  rc-way = by-class-way (psnClass (k .psn .0) (q .expected .0))
 
   abbrev opened : OpenMessage
   opened = closedBy (k .place) (q .message)

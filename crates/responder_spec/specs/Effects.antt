@@ -154,7 +154,7 @@ pub record Executes (old new : Pair) : Type 0 where
 -- The packet's payload was stored, where memory has room for it; atomics and READs are as before. The expected PSN
 -- moves on by 1 on RC; on UC, service 1, it is the packet's plus 1, whatever it was. A Last or Only, place 2 or 4,
 -- raises the MSN and leaves no message open; what completes has used up the first entry.
-pub record Places (q : Pair) (rows : List (List ℕ)) (bytes p : List ℕ) (l : Left) : Type 0 where
+pub record StoresPacket (q : Pair) (rows : List (List ℕ)) (bytes p : List ℕ) (l : Left) : Type 0 where
   pub executed : Executes q (l .pair)
   pub expected : (q .setup .service ≡ 1 → ⊥) → l .pair .expected ≡ psnAfter (q .expected) 1
   pub taken : q .setup .service ≡ 1 → l .pair .expected ≡ psnAfter (bthOf p .psn) 1
@@ -210,8 +210,8 @@ pub record Table (q : Pair) (regions rows : List (List ℕ)) (bytes p output : L
   pub duplicates : l .number ≡ 4 → DuplicateLeaves q regions rows bytes p output l
   pub swaps : l .number ≡ 3 → Swaps q rows bytes p l
   pub accepts : l .number ≡ 2 → Accepts q regions rows bytes p output l
-  pub acknowledges : l .number ≡ 1 → Places q rows bytes p l × (l .outgoing ≡ 16)
-  pub executes : l .number ≡ 0 → Places q rows bytes p l × (l .outgoing ≡ 0) × (l .out ≡ output)
+  pub acknowledges : l .number ≡ 1 → StoresPacket q rows bytes p l × (l .outgoing ≡ 16)
+  pub executes : l .number ≡ 0 → StoresPacket q rows bytes p l × (l .outgoing ≡ 0) × (l .out ≡ output)
 
 abbrev pub InboundTable : Type 0
 InboundTable =

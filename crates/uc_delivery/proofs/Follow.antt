@@ -46,7 +46,7 @@ use Rattle.delivery.proofs.Fitting.{Suits, and-false}
 use Rattle.delivery.proofs.Checks.{ends-is, says, before, behind, waiting-is}
 use Rattle.delivery.proofs.Entries.{entry-fits}
 use Rattle.delivery.proofs.Requests.{Carries, Sends, Writes, send-carries, send-imm-carries, write-carries, write-imm-carries, send-sends, send-imm-sends, write-writes, write-imm-writes}
-use Rattle.delivery.proofs.Storing.{storing-completes, grown-more}
+use Rattle.delivery.proofs.Storing.{storing-completes, message-after-more}
 use Rattle.delivery.proofs.InMemory.{in-place, send-memory-is, send-completes, send-long, write-memory-is, write-completes, write-long}
 use Rattle.uc_delivery.specs.Message.{firstWaiting, Supplied, target}
 use Rattle.uc_delivery.proofs.Steps.{decided-is, taken-is, at, stored-out, delivers}
@@ -312,7 +312,7 @@ module _ (w : Whole) (m : Message) (first : Psn) (P : Permitted (w .pair .setup)
 
     -- more packets to come: the next one's message is open
     pub more : isLast t ≡ false → IsOf (slot (suc i)) (messageAfter (placeFor t) M (payloadSize (cutPacket t)))
-    more e = grown-more (w .pair .setup) (w .regions) f t H v (held i) (F .opened) C entry region e
+    more e = message-after-more (w .pair .setup) (w .regions) f t H v (held i) (F .opened) C entry region e
 
     -- none: the message is done with
     pub done : isLast t ≡ true → messageAfter (placeFor t) M (payloadSize (cutPacket t)) ≡ noMessage

@@ -182,12 +182,12 @@ module _ (w : Whole) (m : Message) (first : Psn) (P : Permitted (w .pair .setup)
         (cs ++ cond (more-come j && takesEntry (m .request)) (completionFor (m .request) (firstWaiting w) (length (m .bytes)) ∷ []) []))
         ∙ λ j. at w (psnAfter first (suc i)) (w .pair .msn) false v (w .pair .entries) mem2 (append-nil cs j)) in
         let I = more w m first P Cr small (S .unreliable) (S .ready) (S .idle) sup i h E (w .pair .msn) b u mem cs G Y l more-come in
-        let grown-memory : mem2 ≡ memoryAt (suc i) = ap (λ y. overwrite y (base + i * pmtu) (pieceAt (m .bytes) pmtu i)) e ∙ grows x0 base (m .bytes) pmtu i B (within i h) in
+        let message-after-memory : mem2 ≡ memoryAt (suc i) = ap (λ y. overwrite y (base + i * pmtu) (pieceAt (m .bytes) pmtu i)) e ∙ grows x0 base (m .bytes) pmtu i B (within i h) in
         let Z : Steady (y .whole) = subst (λ z. Steady (z .whole)) s (steady w m first P Cr small (S .unreliable) (S .ready) (S .idle) sup i h E (w .pair .msn) b u mem cs G Y l (outs i)) in
         let L : length mem2 ≡ w .pair .setup .memory =
         ap (λ z. length (z .memory)) (sym s) ∙ kept w m first P Cr small (S .unreliable) (S .ready) (S .idle) sup i h E (w .pair .msn) b u mem cs G Y l (outs i) in
         ap (λ z. handed outs m first z (suc i) (replicate (suc k) true)) s
-        ∙ rest k (suc i) (omega arith) (psnAfter first (suc i)) false v mem2 (goes-on i (omega arith) v I) grown-memory Z L
+        ∙ rest k (suc i) (omega arith) (psnAfter first (suc i)) false v mem2 (goes-on i (omega arith) v I) message-after-memory Z L
 
 pub handed-whole : HandedWhole
 handed-whole outs m first x K allowed sup =

@@ -1,4 +1,4 @@
-use borrow.Author.Tests.{lt-leb, lt-ltb}
+use borrow.Author.Tests.{lt-ltb}
 use Rattle.abi_spec.specs.Pair.{pairOf}
 use Rattle.lemmas.proofs.Auto.{tested}
 use borrow.Author.Needs.{needs}
@@ -10,7 +10,7 @@ blank-requires c κs = search needs
 
 returns : tie.Need-returns
 unfolding pairOf
-returns c = simp (lt-leb _ _ (c .before .if1 .taken), lt-ltb _ _ (c .before .if1 .taken), ← c .blank .ensures)
+returns c = simp (lt-ltb _ _ (c .before .if1 .taken), ← c .blank .ensures)
 
 setup-of-requires : tie.Need-setup-of-requires
 setup-of-requires c κs = search needs

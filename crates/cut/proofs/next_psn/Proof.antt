@@ -1,6 +1,6 @@
 use Rattle.cut_spec.proofs.Steps.{count-passed}
 use native.Mathlib.Omega.{arith}
-use borrow.Author.Tests.{eq-eqb, le-leb, le-ltb, lt-leb, lt-ltb, ne-eqb}
+use borrow.Author.Tests.{eq-eqb, le-leb, lt-leb, ne-eqb}
 use Rattle.cut_spec.specs.Next.{nextAnswer, nextRefusal, followingBy, nextPsn, psnsOf}
 use borrow.Author.Needs.{needs}
 use Rattle.cut.proofs.next_psn.Statement.{statement}
@@ -8,7 +8,7 @@ use Rattle.cut.proofs.next_psn.Tie as tie
 
 returns : tie.Need-returns
 unfolding nextAnswer nextRefusal followingBy nextPsn psnsOf
-returns c = simp (le-ltb _ _ (c .if1 .taken), le-leb _ _ (c .if1 .taken))
+returns c = simp (le-leb _ _ (c .if1 .taken))
 
 message-length-requires : tie.Need-message-length-requires
 message-length-requires c κs = search needs
@@ -20,7 +20,7 @@ returns-2 : tie.Need-returns-2
 unfolding nextAnswer nextRefusal followingBy nextPsn psnsOf
 returns-2 c =
     let c1 = c .before in let c2 = c1 .before in let c3 = c2 .before in
-    simp (lt-leb _ _ (c3 .if1 .left), lt-ltb _ _ (c3 .if1 .left), ← c2 .message-length .ensures, ← c1 .length-refusal .ensures, ne-eqb _ _ (c .if2 .taken))
+    simp (lt-leb _ _ (c3 .if1 .left), ← c2 .message-length .ensures, ← c1 .length-refusal .ensures, ne-eqb _ _ (c .if2 .taken))
 
 count-requires : tie.Need-count-requires
 count-requires c κs = search needs
@@ -40,7 +40,7 @@ returns-3 : tie.Need-returns-3
 unfolding nextAnswer nextRefusal followingBy nextPsn psnsOf
 returns-3 c =
     let c1 = c .before in let c2 = c1 .before in let c3 = c2 .before in let c4 = c3 .before in let c5 = c4 .before in
-    simp (lt-leb _ _ (c5 .if1 .left), lt-ltb _ _ (c5 .if1 .left), ← c4 .message-length .ensures, ← c3 .length-refusal .ensures, eq-eqb _ _ (c2 .if2 .left), ← c1 .count .ensures, ← c .after .ensures)
+    simp (lt-leb _ _ (c5 .if1 .left), ← c4 .message-length .ensures, ← c3 .length-refusal .ensures, eq-eqb _ _ (c2 .if2 .left), ← c1 .count .ensures, ← c .after .ensures)
 
 pub next-psn-spec : {M : Type 1} → statement M
 next-psn-spec =

@@ -1,6 +1,6 @@
 use mathlib.Core.Path.{_≡_, sym, ap, subst}
 use lib.Dec.{eqb}
-use Rattle.request_checks.proofs.Keys.{begun}
+use Rattle.request_checks.proofs.Keys.{none-stored-yet}
 use Rattle.request_spec.specs.Verdict.{single}
 use Rattle.responder_spec.specs.Decide.{regionFor}
 use borrow.Author.Needs.{needs}
@@ -21,7 +21,7 @@ unfolding single
 duplicate-read-requires c κs =
     let S = c .before .before .before .before in
     subst (λ x. x .stored ≡ 0) (sym (c .before .before .current .ensures))
-    (begun (S .args .pair .message) (S .args .p) (S .pre .0) (ap single (S .pre .1)))
+    (none-stored-yet (S .args .pair .message) (S .args .p) (S .pre .0) (ap single (S .pre .1)))
 
 returns : tie.Need-returns
 unfolding regionFor

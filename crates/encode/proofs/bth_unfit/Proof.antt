@@ -1,6 +1,6 @@
 use Prim.Native.Nat.{_^_}
 use native.Mathlib.Omega.{arith}
-use borrow.Author.Tests.{lt-ltb, le-ltb, lt-leb, le-leb, eq-eqb, ne-eqb}
+use borrow.Author.Tests.{lt-ltb, le-ltb, eq-eqb, ne-eqb}
 use Rattle.lemmas.proofs.Tests.{not-ltb}
 use Rattle.header.specs.Write.{bthFits}
 use Rattle.lemmas.proofs.Auto.{tested}
@@ -25,7 +25,7 @@ returns-2 c =
     let pkey = lt-ltb (A .b .pkey) (2 ^ 16) (omega arith) in
     let reserved8 = lt-ltb (A .b .reserved8) (2 ^ 8) (omega arith) in
     let c2 = c .before .before in let c3 = c2 .before in
-    simp (opcode, pkey, reserved8, ← c3 .other-service .ensures, c2 .if1 .left, le-ltb _ _ (c .if2 .taken), le-leb _ _ (c .if2 .taken))
+    simp (opcode, pkey, reserved8, ← c3 .other-service .ensures, c2 .if1 .left, le-ltb _ _ (c .if2 .taken))
 
 returns-3 : tie.Need-returns-3
 unfolding bthFits
@@ -35,7 +35,7 @@ returns-3 c =
     let pkey = lt-ltb (A .b .pkey) (2 ^ 16) (omega arith) in
     let reserved8 = lt-ltb (A .b .reserved8) (2 ^ 8) (omega arith) in
     let c2 = c .before .before in let c4 = c2 .before .before in let c5 = c4 .before in
-    simp (opcode, pkey, reserved8, ← c5 .other-service .ensures, c4 .if1 .left, lt-leb _ _ (c2 .if2 .left), lt-ltb _ _ (c2 .if2 .left), ne-eqb _ _ (c .if3 .taken))
+    simp (opcode, pkey, reserved8, ← c5 .other-service .ensures, c4 .if1 .left, lt-ltb _ _ (c2 .if2 .left), ne-eqb _ _ (c .if3 .taken))
 
 returns-4 : tie.Need-returns-4
 unfolding bthFits

@@ -1,5 +1,5 @@
 use mathlib.Core.Path.{refl}
-use borrow.Author.Tests.{le-leb, le-ltb, lt-leb, lt-ltb}
+use borrow.Author.Tests.{le-leb, lt-leb}
 use Rattle.pair.specs.Host.{removeStatus, removeRegions}
 use Rattle.pair.specs.Answer.{executed, statusNumber}
 use borrow.Author.Needs.{needs}
@@ -14,7 +14,7 @@ find-requires c κs = search needs
 
 returns : tie.Need-returns
 unfolding removeStatus removeRegions executed statusNumber
-returns c = simp (← c .before .before .u32-to-u64 .ensures .0, ← c .before .find .ensures .0, le-ltb _ _ (c .if1 .taken), le-leb _ _ (c .if1 .taken)) (refl, refl)
+returns c = simp (← c .before .before .u32-to-u64 .ensures .0, ← c .before .find .ensures .0, le-leb _ _ (c .if1 .taken)) (refl, refl)
 
 mul-row : tie.Need-mul-row
 mul-row c = search needs
@@ -24,7 +24,7 @@ element-set-from-row c = search needs
 
 returns-2 : tie.Need-returns-2
 unfolding removeStatus removeRegions executed statusNumber
-returns-2 c = simp (← c .before .before .u32-to-u64 .ensures .0, ← c .before .find .ensures .0, lt-leb _ _ (c .if1 .left), lt-ltb _ _ (c .if1 .left)) (refl, refl)
+returns-2 c = simp (← c .before .before .u32-to-u64 .ensures .0, ← c .before .find .ensures .0, lt-leb _ _ (c .if1 .left)) (refl, refl)
 
 pub remove-region-spec : {M : Type 1} → statement M
 remove-region-spec =

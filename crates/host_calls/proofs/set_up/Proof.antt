@@ -1,5 +1,5 @@
 use mathlib.Core.Path.{refl}
-use borrow.Author.Tests.{le-leb, le-ltb, lt-leb, lt-ltb}
+use borrow.Author.Tests.{le-ltb, lt-ltb}
 use Rattle.pair.specs.Host.{setUp, setUpRegions, setUpStatus}
 use Rattle.pair.specs.Answer.{executed, statusNumber}
 use borrow.Author.Needs.{needs}
@@ -31,7 +31,7 @@ returns-2 : tie.Need-returns-2
 unfolding setUp setUpRegions setUpStatus executed statusNumber
 returns-2 c =
     let c1 = c .before in let c2 = c1 .before in let c4 = c2 .before .before in let c5 = c4 .before in
-    simp (← c5 .setup-unfit .ensures, c4 .if1 .left, lt-leb _ _ (c2 .if2 .taken), lt-ltb _ _ (c2 .if2 .taken), ← c1 .blank2 .ensures, ← c .outcome2 .ensures) (refl, refl)
+    simp (← c5 .setup-unfit .ensures, c4 .if1 .left, lt-ltb _ _ (c2 .if2 .taken), ← c1 .blank2 .ensures, ← c .outcome2 .ensures) (refl, refl)
 
 fresh-requires : tie.Need-fresh-requires
 fresh-requires c κs = search needs
@@ -43,7 +43,7 @@ returns-3 : tie.Need-returns-3
 unfolding setUp setUpRegions setUpStatus executed statusNumber
 returns-3 c =
     let c1 = c .before in let c3 = c1 .before .before in let c5 = c3 .before .before in let c6 = c5 .before in
-    simp (← c6 .setup-unfit .ensures, c5 .if1 .left, le-ltb _ _ (c3 .if2 .left), le-leb _ _ (c3 .if2 .left), ← c1 .fresh .ensures, ← c .outcome3 .ensures) (refl, refl)
+    simp (← c6 .setup-unfit .ensures, c5 .if1 .left, le-ltb _ _ (c3 .if2 .left), ← c1 .fresh .ensures, ← c .outcome3 .ensures) (refl, refl)
 
 pub set-up-spec : {M : Type 1} → statement M
 set-up-spec =

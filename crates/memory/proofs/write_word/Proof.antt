@@ -1,4 +1,4 @@
-use Rattle.memory.specs.Word.{overwriteWord}
+use Rattle.memory.specs.Word.{storeWord}
 use borrow.Author.Needs.{needs}
 use Rattle.memory.proofs.write_word.Statement.{statement}
 use Rattle.memory.proofs.write_word.Tie as tie
@@ -16,7 +16,7 @@ same-length : tie.Need-same-length
 same-length c = search needs
 
 returns : tie.Need-returns
-unfolding overwriteWord
+unfolding storeWord
 returns c =
     let c2 = c .before .before in let c5 = c2 .before .before .before in
     simp (← c5 .low-bytes .ensures, ← c2 .store .ensures)

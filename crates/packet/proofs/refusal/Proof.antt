@@ -47,21 +47,21 @@ returns-5 : tie.Need-returns-5
 unfolding refusalBy
 returns-5 c =
     let c1 = c .before in let c2 = c1 .before in let c3 = c2 .before in let c4 = c3 .before in let c5 = c4 .before in
-    simp (tested, c5 .if1 .left, ← c4 .pad .ensures, eq-eqb _ _ (c3 .if2 .left), c2 .if3 .left, c1 .if4 .left, c .if5 .taken)
+    simp (tested, c5 .if1 .left, ← c4 .pad .ensures, eq-eqb _ _ (c3 .if2 .left), c .if5 .taken)
 
 returns-6 : tie.Need-returns-6
 unfolding refusalBy
 returns-6 c =
     let c1 = c .before in let c2 = c1 .before in let c3 = c2 .before in let c4 = c3 .before in let c5 = c4 .before in
     let c6 = c5 .before in
-    simp (c6 .if1 .left, ← c5 .pad .ensures, eq-eqb _ _ (c4 .if2 .left), le-ltb _ _ (c3 .if3 .left), le-ltb _ _ (c2 .if4 .left), le-ltb _ _ (c1 .if5 .left), lt-ltb _ _ (c .if6 .taken))
+    simp (c6 .if1 .left, ← c5 .pad .ensures, eq-eqb _ _ (c4 .if2 .left), le-ltb _ _ (c1 .if5 .left), lt-ltb _ _ (c .if6 .taken))
 
 returns-7 : tie.Need-returns-7
 unfolding refusalBy
 returns-7 c =
     let c1 = c .before in let c2 = c1 .before in let c3 = c2 .before in let c4 = c3 .before in let c5 = c4 .before in
     let c6 = c5 .before in
-    simp (c6 .if1 .left, ← c5 .pad .ensures, eq-eqb _ _ (c4 .if2 .left), le-ltb _ _ (c3 .if3 .left), le-ltb _ _ (c2 .if4 .left), le-ltb _ _ (c1 .if5 .left), le-ltb _ _ (c .if6 .left))
+    simp (c6 .if1 .left, ← c5 .pad .ensures, eq-eqb _ _ (c4 .if2 .left), le-ltb _ _ (c1 .if5 .left), le-ltb _ _ (c .if6 .left))
 
 pub refusal-spec : {M : Type 1} → statement M
 refusal-spec =

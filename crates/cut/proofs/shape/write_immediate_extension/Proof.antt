@@ -1,4 +1,4 @@
-use borrow.Author.Tests.{le-leb, le-ltb, lt-leb, lt-ltb}
+use borrow.Author.Tests.{le-leb, lt-leb}
 use Rattle.opcode.specs.Place.{ends}
 use Rattle.cut_spec.specs.Cut.{writeImmediateExtension}
 use borrow.Author.Needs.{needs}
@@ -13,14 +13,14 @@ write-end-requires c κs = search needs
 
 returns : tie.Need-returns
 unfolding writeImmediateExtension ends
-returns c = simp (le-ltb _ _ (c .before .before .if1 .taken), le-leb _ _ (c .before .before .if1 .taken), ← c .before .starts .ensures, ← c .write-end .ensures)
+returns c = simp (le-leb _ _ (c .before .before .if1 .taken), ← c .before .starts .ensures, ← c .write-end .ensures)
 
 write-extension-requires : tie.Need-write-extension-requires
 write-extension-requires c κs = search needs
 
 returns-2 : tie.Need-returns-2
 unfolding writeImmediateExtension ends
-returns-2 c = simp (lt-leb _ _ (c .before .if1 .left), lt-ltb _ _ (c .before .if1 .left), ← c .write-extension .ensures)
+returns-2 c = simp (lt-leb _ _ (c .before .if1 .left), ← c .write-extension .ensures)
 
 pub write-immediate-extension-spec : {M : Type 1} → statement M
 write-immediate-extension-spec =

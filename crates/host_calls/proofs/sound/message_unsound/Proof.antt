@@ -1,4 +1,4 @@
-use borrow.Author.Tests.{eq-eqb, le-leb, le-ltb, ne-eqb}
+use borrow.Author.Tests.{eq-eqb, le-leb, ne-eqb}
 use Rattle.pair.specs.Sound.{messageUnsound, writeUnsound}
 use Rattle.lemmas.proofs.Auto.{tested}
 use borrow.Author.Needs.{needs}
@@ -24,7 +24,7 @@ returns-4 : tie.Need-returns-4
 unfolding messageUnsound writeUnsound
 returns-4 c =
     let c1 = c .before in let c2 = c1 .before in let c3 = c2 .before in
-    simp (ne-eqb _ _ (c3 .if1 .left), ne-eqb _ _ (c2 .if2 .left), eq-eqb _ _ (c1 .if3 .left), le-ltb _ _ (c .if4 .taken), le-leb _ _ (c .if4 .taken))
+    simp (ne-eqb _ _ (c3 .if1 .left), ne-eqb _ _ (c2 .if2 .left), eq-eqb _ _ (c1 .if3 .left), le-leb _ _ (c .if4 .taken))
 
 returns-5 : tie.Need-returns-5
 unfolding messageUnsound writeUnsound

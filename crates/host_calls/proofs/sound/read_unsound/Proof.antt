@@ -1,4 +1,4 @@
-use borrow.Author.Tests.{eq-eqb, le-leb, le-ltb, lt-leb, lt-ltb, ne-eqb}
+use borrow.Author.Tests.{eq-eqb, le-ltb, lt-ltb, ne-eqb}
 use Rattle.pair.specs.Sound.{readUnsound}
 use Rattle.lemmas.proofs.Auto.{tested}
 use borrow.Author.Needs.{needs}
@@ -14,7 +14,7 @@ count-requires c κs = search needs
 
 returns-2 : tie.Need-returns-2
 unfolding readUnsound
-returns-2 c = simp (ne-eqb _ _ (c .before .before .if1 .left), ← c .before .count .ensures, lt-leb _ _ (c .if2 .taken), lt-ltb _ _ (c .if2 .taken))
+returns-2 c = simp (ne-eqb _ _ (c .before .before .if1 .left), ← c .before .count .ensures, lt-ltb _ _ (c .if2 .taken))
 
 outside-requires : tie.Need-outside-requires
 outside-requires c κs = search needs
@@ -23,7 +23,7 @@ returns-3 : tie.Need-returns-3
 unfolding readUnsound
 returns-3 c =
     let c1 = c .before in let c2 = c1 .before in let c3 = c2 .before in let c4 = c3 .before in
-    simp (ne-eqb _ _ (c4 .if1 .left), ← c3 .count .ensures, le-ltb _ _ (c2 .if2 .left), le-leb _ _ (c2 .if2 .left), ← c1 .outside .ensures, c .if3 .taken)
+    simp (ne-eqb _ _ (c4 .if1 .left), ← c3 .count .ensures, le-ltb _ _ (c2 .if2 .left), ← c1 .outside .ensures, c .if3 .taken)
 
 returns-4 : tie.Need-returns-4
 unfolding readUnsound
