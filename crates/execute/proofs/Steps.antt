@@ -75,28 +75,28 @@ module _ (p : Packet) (s : Setup) (expected : Psn) (opened : OpenMessage) (count
       go false false i = (refl, refl)
 
   -- the message that is open when the packet is checked, and the packet's own
-  abbrev pub met : Bool → OpenMessage
-  met uc = cond uc (closedBy (p .place) opened) opened
+  abbrev pub openAtCheck : Bool → OpenMessage
+  openAtCheck uc = cond uc (closedBy (p .place) opened) opened
 
-  pub current-met : (uc : Bool) → current (met uc) p ≡ current opened p
-  current-met true = current-closed opened p
-  current-met false = refl
+  pub current-at-check : (uc : Bool) → current (openAtCheck uc) p ≡ current opened p
+  current-at-check true = current-closed opened p
+  current-at-check false = refl
 
-  met-kind : (uc : Bool) → cond uc (closedBy (p .place) opened .kind) (opened .kind) ≡ met uc .kind
-  met-kind true = refl
-  met-kind false = refl
+  kind-at-check : (uc : Bool) → cond uc (closedBy (p .place) opened .kind) (opened .kind) ≡ openAtCheck uc .kind
+  kind-at-check true = refl
+  kind-at-check false = refl
 
   module _ (uc : Bool) (a : Status) (f : a ≡ lostTo uc) (z : eqb (statusNumber a) 0 ≡ true) (m : OpenMessage) (e : m ≡ current opened p) (k : ℕ)
       (g : k ≡ cond uc (closedBy (p .place) opened .kind) (opened .kind)) (b : Status) (c : statusNumber b ≡ expectedCodeOf s k m p count entry region) where
-    code : statusNumber b ≡ expectedCode s (met uc) p count entry region
+    code : statusNumber b ≡ expectedCode s (openAtCheck uc) p count entry region
     unfolding expectedCode requestCode
     code =
         c
-        ∙ (ap (λ x. expectedCodeOf s x m p count entry region) (g ∙ met-kind uc)
-        ∙ ap (λ x. expectedCodeOf s (met uc .kind) x p count entry region) (e ∙ sym (current-met uc)))
+        ∙ (ap (λ x. expectedCodeOf s x m p count entry region) (g ∙ kind-at-check uc)
+        ∙ ap (λ x. expectedCodeOf s (openAtCheck uc .kind) x p count entry region) (e ∙ sym (current-at-check uc)))
 
-    pub passed : eqb (statusNumber b) 0 ≡ true → Passed s (met uc) p entry region
-    passed y = passes s (met uc) p count entry region (sym code ∙ eqb-true (statusNumber b) 0 y)
+    pub passed : eqb (statusNumber b) 0 ≡ true → Passed s (openAtCheck uc) p entry region
+    passed y = passes s (openAtCheck uc) p count entry region (sym code ∙ eqb-true (statusNumber b) 0 y)
 
   -- by what the checks answered
   abbrev checkedBy : Bool → ℕ → Bool → Decision
@@ -105,7 +105,7 @@ module _ (p : Packet) (s : Setup) (expected : Psn) (opened : OpenMessage) (count
       (cond t (execute p (current opened p) opened entry region (s .pmtu)) (failed n (p .psn) (s .timer)))
 
   checks-settled : (uc : Bool) (a : Status) → a ≡ lostTo uc → eqb (statusNumber a) 0 ≡ true → (b : Status)
-      → statusNumber b ≡ expectedCode s (met uc) p count entry region
+      → statusNumber b ≡ expectedCode s (openAtCheck uc) p count entry region
       → checkedBy uc (statusNumber b) (eqb (statusNumber b) 0) ≡ either uc p s expected opened count entry region
   unfolding either ucDecision ucCheckedDecision expectedDecision checkedDecision
   checks-settled true a f z b c =

@@ -107,7 +107,7 @@ impl Subject for Proved {
             expected: self.0.expected(),
             msn: self.0.msn(),
             state: self.0.state().number(),
-            marked: self.0.marked(),
+            marked: self.0.nak_mark(),
             pending: self.0.responses_pending(),
             waiting: self.0.waiting(),
             held: self.0.held(),

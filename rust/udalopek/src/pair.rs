@@ -300,7 +300,7 @@ impl QueuePair {
 
     /// Whether the NAK mark is set: the other side was told what is missing, and packets ahead are dropped without
     /// another NAK until the expected one is executed.
-    pub fn marked(&self) -> bool {
+    pub fn nak_mark(&self) -> bool {
         self.words[NAK_MARK] != 0
     }
 
@@ -383,7 +383,7 @@ impl fmt::Debug for QueuePair {
             .field("state", &self.state())
             .field("expected", &self.expected())
             .field("msn", &self.msn())
-            .field("marked", &self.marked())
+            .field("nak_mark", &self.nak_mark())
             .field("open_message", &self.open_message())
             .field("responses_pending", &self.responses_pending())
             .field("waiting", &self.waiting())

@@ -219,7 +219,7 @@ fn naks_say_what_is_wrong() {
     let (got, outgoing) = host.take(&ahead);
     assert_eq!(got.answer, Answer::SequenceNak);
     assert_eq!(syndrome_of(&outgoing), (0x60, 7));
-    assert!(host.pair.marked());
+    assert!(host.pair.nak_mark());
     assert_eq!(host.take(&ahead).0.answer, Answer::Dropped);
 
     // No entry waits.
@@ -228,7 +228,7 @@ fn naks_say_what_is_wrong() {
     assert_eq!(syndrome_of(&outgoing), (0x20 + 19, 7));
     host.pair.post_entry(entry(0)).unwrap();
     assert_eq!(host.take(&W12).0.answer, Answer::Acknowledged);
-    assert!(!host.pair.marked());
+    assert!(!host.pair.nak_mark());
 
     let unknown = Request::Write {
         address: ADDRESS,
@@ -512,7 +512,7 @@ fn set_up_refuses_bad_numbers() {
     for memory in [0, 1, 1_048_576] {
         let pair = QueuePair::set_up(Setup { memory, ..setup() }).unwrap();
         assert_eq!(pair.state(), State::Init);
-        assert_eq!((pair.expected(), pair.msn(), pair.marked()), (7, 0, false));
+        assert_eq!((pair.expected(), pair.msn(), pair.nak_mark()), (7, 0, false));
         assert_eq!((pair.open_message(), pair.held()), (None, false));
     }
 }

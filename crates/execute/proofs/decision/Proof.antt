@@ -7,7 +7,7 @@ use Rattle.responder_spec.specs.Decide.{closedBy, regionFor}
 use Rattle.execute.specs.Fits.{Executable}
 use Rattle.execute.specs.Either.{either}
 use Rattle.execute.proofs.Places.{executable, whole, timed}
-use Rattle.execute.proofs.Steps.{loses, passed, current-met, refuses, executes}
+use Rattle.execute.proofs.Steps.{loses, passed, current-at-check, refuses, executes}
 use borrow.Author.Needs.{needs}
 use Rattle.execute.proofs.decision.Statement.{statement}
 use Rattle.execute.proofs.decision.Tie as tie
@@ -73,7 +73,7 @@ execute-requires c κs =
     let memory : s .memory < 2 ^ 64 = omega (arith, S .good .1 .0) in
     let stored : c7 .current .result .stored < 2 ^ 64 = omega (arith, c7 .current .ok) in
     let length : c7 .current .result .length < 2 ^ 64 = omega (arith, c7 .current .ok) in
-    let same = c7 .current .ensures ∙ sym (current-met (A .p) s (A .pair .expected) opened (A .pair .entries .count) (entry .result) (region .result) (A .uc)) in
+    let same = c7 .current .ensures ∙ sym (current-at-check (A .p) s (A .pair .expected) opened (A .pair .entries .count) (entry .result) (region .result) (A .uc)) in
     let full = whole (A .p) (s .timer) (c12 .before .unformed .result) (c12 .before .unformed .ensures) (c12 .if1 .left) in
     subst (λ x. Executable (A .p) x (entry .result) (region .result)) (sym same)
     (executable s (cond (A .uc) (closedBy (A .p .place) opened) opened) (A .p) (entry .result) (region .result) P memory
