@@ -11,7 +11,8 @@ use borrow.Author.Tests.{eqb-true, eq-eqb}
 use Rattle.lemmas.proofs.Tests.{not-false}
 use Rattle.pair.specs.Pair.{freshPair, blankPair}
 use Rattle.pair.specs.declared.Pair.{Pair}
-use Rattle.abi_spec.specs.Words.{eqWords, overwriteWords, flag, bit}
+use Rattle.header.specs.Bytes.{bit}
+use Rattle.abi_spec.specs.Words.{eqWords, overwriteWords, flag}
 use Rattle.abi_spec.specs.Pair.{narrowed, pairOf, pairWords, malformed, setupOf, messageOf, readOf}
 use Rattle.abi_spec.specs.Claims.{SameIs, WordsAccepted, PairBack, SaidFits, OthersMalformed, SetupFields, PairFields}
 

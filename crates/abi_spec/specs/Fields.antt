@@ -11,7 +11,8 @@ use Rattle.header.specs.declared.Bth.{Bth}
 use Rattle.header.specs.declared.Reth.{Reth}
 use Rattle.header.specs.declared.Extension.{Extension}
 use Rattle.header.specs.declared.Extension.the-variants.{Bare, Remote, RemoteImmediate, Immediate, Atomic, Acknowledge, AtomicAcknowledge}
-use Rattle.abi_spec.specs.Words.{word, low, flag, bit}
+use Rattle.header.specs.Bytes.{bit}
+use Rattle.abi_spec.specs.Words.{word, low, flag}
 
 unfoldable pub bthFrom : List ℕ → Bth
 bthFrom w =

@@ -9,7 +9,8 @@ use Rattle.pair.specs.declared.Setup.{Setup}
 use Rattle.pair.specs.declared.OpenMessage.{OpenMessage}
 use Rattle.pair.specs.declared.ReadAnswer.{ReadAnswer}
 use Rattle.pair.specs.declared.Pair.{Pair}
-use Rattle.abi_spec.specs.Words.{word, low, flag, bit, eqWords}
+use Rattle.header.specs.Bytes.{bit}
+use Rattle.abi_spec.specs.Words.{word, low, flag, eqWords}
 
 -- how many words a pair has
 abbrev pub pairLength : ℕ

@@ -16,10 +16,6 @@ low bits w i = word w i % 2 ^ bits
 unfoldable pub flag : ℕ → Bool
 flag x = not (eqb x 0)
 
-abbrev pub bit : Bool → ℕ
-bit false = 0
-bit true = 1
-
 -- two lists are the same, their lengths too
 unfoldable pub eqWords : List ℕ → List ℕ → Bool
 eqWords [] [] = true

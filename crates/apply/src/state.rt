@@ -10,7 +10,7 @@ use table::Ring;
 ghost use mathlib.Core.Path.{_≡_};
 ghost use lib.Dec.{leb};
 ghost use Rattle.sequence.specs.Sequence.{psnAfter};
-ghost use Rattle.responder_spec.specs.Apply.{entriesBy, savedRingBy, msnBy, readBy, executedPair, closing, pairBy};
+ghost use Rattle.responder_spec.specs.Apply.{entriesBy, savedRingBy, msnBy, readAnswerBy, executedPair, closing, pairBy};
 ghost use Rattle.pair.specs.Answer.{statusNumber};
 
 // The ring without its first entry, where a message completes.
@@ -45,8 +45,8 @@ fn msn_by(ends: bool, msn: Msn) -> Msn
 }
 
 // The READ that is being answered afterwards.
-fn read_by(d: Decision, old: ReadAnswer, msn: Msn) -> ReadAnswer
-    ensures { λ r. ⌜ r ≡ readBy d old msn ⌝ }
+fn read_answer_by(d: Decision, old: ReadAnswer, msn: Msn) -> ReadAnswer
+    ensures { λ r. ⌜ r ≡ readAnswerBy d old msn ⌝ }
 {
     if d.responses == 0 {
         return old;
@@ -76,7 +76,7 @@ fn executed_pair(pair: Pair, d: Decision) -> Pair
     let held = pair.entries;
     let entries = entries_by(d.completion.some, held);
     let old = pair.read;
-    let read = read_by(d, old, msn);
+    let read = read_answer_by(d, old, msn);
     let kept = pair.saved;
     let saved = saved_ring_by(kept, d.act);
     let message = d.message;
@@ -137,7 +137,7 @@ pub fn pair_after(pair: Pair, d: Decision) -> Pair
     let duplicate = status.is(Status::DuplicateAnswered);
     if duplicate {
         let old = pair.read;
-        let read = read_by(d, old, pair.msn);
+        let read = read_answer_by(d, old, pair.msn);
         next.read = read;
         return next;
     }

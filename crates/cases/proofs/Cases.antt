@@ -30,7 +30,7 @@ use Rattle.responder_spec.specs.Decide.{acknowledging, completes, completionOf,
 use Rattle.responder_spec.specs.Decide.{storePayload, execute, checkedDecision, expectedDecision, psnBefore}
 use Rattle.responder_spec.specs.Decide.{duplicateDecision, rcDecision, packetDecision, readsFull, inboundRefusal}
 use Rattle.responder_spec.specs.Decide.{decided}
-use Rattle.responder_spec.specs.Apply.{memoryBy, actsAtomic, savedRingBy, ringTaken, entriesBy, msnBy, readBy, executedPair, after, pairBy}
+use Rattle.responder_spec.specs.Apply.{memoryBy, actsAtomic, savedRingBy, ringTaken, entriesBy, msnBy, readAnswerBy, executedPair, pairByNumber, pairBy}
 use Rattle.responder_spec.specs.Reply.{replyHeader, ackHeader, answerBytes, over, outBy}
 use Rattle.responder_spec.specs.Inbound.{outcomeBy, decision, inbound, inboundMemory, inboundOut}
 use Rattle.responder_spec.specs.Calls.{received}
@@ -93,7 +93,7 @@ unfolding classAt psnClass opcode.placeOf kindOf placeIn sendWriteFollows follow
     needsEntry entriesWaiting noneWaiting usesEntry entryOutside keyLacking keyFails sizeOff totalOff payloadSize
     lengthsOff current requestCode expectedCode acknowledging completes completionOf messageAfter targetOffset
     storePayload execute checkedDecision expectedDecision psnBefore duplicateDecision rcDecision packetDecision
-    readsFull inboundRefusal decided memoryBy actsAtomic savedRingBy ringTaken entriesBy msnBy readBy executedPair after
+    readsFull inboundRefusal decided memoryBy actsAtomic savedRingBy ringTaken entriesBy msnBy readAnswerBy executedPair pairByNumber
     pairBy replyHeader ackHeader answerBytes over outBy outcomeBy decision inbound inboundMemory inboundOut received
     posts ready standing zeros completionNumbers outcomeNumbers left given found said
 w12 = refl

@@ -23,8 +23,7 @@ use Rattle.pair.proofs.Known.{sound}
 use Rattle.request_spec.specs.Packet.{packetOf}
 use Rattle.responder_spec.specs.Kept.{Steady}
 use Rattle.responder_spec.specs.Decide.{noReply, readsFull, inboundRefusal, orDrop, packetDecision, decided}
-use Rattle.responder_spec.specs.Apply.{memoryBy, actsAtomic, savedBy, pairBy, with}
-use Rattle.responder_spec.specs.Apply as apply
+use Rattle.responder_spec.specs.Apply.{memoryBy, actsAtomic, savedBy, pairBy, with, pairByNumber}
 use Rattle.responder_spec.specs.Inbound.{decision, outcomeBy, inbound, inboundMemory, inboundSaved}
 use Rattle.responder_spec.specs.Response.{nextStatus, oneFewer, nextResponse}
 use Rattle.responder_spec.specs.Calls.{received, drained}
@@ -63,15 +62,15 @@ module _ (ms : List Message) (S : List Slot) (p : Plain) (x : Run) (L : Link ms 
 
   -- a refusal changes nothing
   short : (b : List ℕ) → Link ms S p (stepBy x (noReply status.OutputShort) b)
-  unfolding noReply statusNumber pairBy apply.after savedBy memoryBy actsAtomic
+  unfolding noReply statusNumber pairBy pairByNumber savedBy memoryBy actsAtomic
   short b = eases L (x .whole .pair .nakmark) (x .whole .pair .read) (p .r) (L .reads)
 
   astray : (b : List ℕ) → Link ms S p (stepBy x (noReply status.OutOfRange) b)
-  unfolding noReply statusNumber pairBy apply.after savedBy memoryBy actsAtomic
+  unfolding noReply statusNumber pairBy pairByNumber savedBy memoryBy actsAtomic
   astray b = eases L (x .whole .pair .nakmark) (x .whole .pair .read) (p .r) (L .reads)
 
   busy : (b : List ℕ) → Link ms S p (stepBy x (noReply status.ReadUnfinished) b)
-  unfolding noReply statusNumber pairBy apply.after savedBy memoryBy actsAtomic
+  unfolding noReply statusNumber pairBy pairByNumber savedBy memoryBy actsAtomic
   busy b = eases L (x .whole .pair .nakmark) (x .whole .pair .read) (p .r) (L .reads)
 
   -- the refusals are those of the plain run

@@ -36,8 +36,7 @@ use Rattle.responder_spec.specs.Decide.{noReply, acknowledging, beginRead, psnB
 use Rattle.responder_spec.specs.Decide.{duplicateReadFails, duplicateRead, duplicateAtomic, isAtomic}
 use Rattle.responder_spec.specs.Decide.{duplicateDecision, headEntry, regionFor, expectedDecision, decisionByClass}
 use Rattle.responder_spec.specs.Decide.{rcDecision, packetDecision}
-use Rattle.responder_spec.specs.Apply.{memoryBy, actsAtomic, savedBy, pairBy, readBy}
-use Rattle.responder_spec.specs.Apply as apply
+use Rattle.responder_spec.specs.Apply.{memoryBy, actsAtomic, savedBy, pairBy, readAnswerBy, pairByNumber}
 use Rattle.responder_spec.specs.declared.Decision.{Decision}
 use Rattle.delivery.specs.Stream.{Message, Slot, slot, psnCount, numberAlong, packetAt}
 use Rattle.delivery.specs.Plain.{Plain, isRead, withResponses, executeNext, deliver}
@@ -69,19 +68,19 @@ module _ (ms : List Message) (S : List Slot) (p : Plain) (x : Run) (L : Link ms 
 
   -- nothing is sent, an ACK or NAK is sent, a saved value is sent: no more than the NAK mark changes
   pub dropped : (b : List ℕ) → Link ms S p (stepBy x (noReply status.Dropped) b)
-  unfolding noReply statusNumber pairBy apply.after savedBy memoryBy actsAtomic
+  unfolding noReply statusNumber pairBy pairByNumber savedBy memoryBy actsAtomic
   dropped b = eases L (x .whole .pair .nakmark) (x .whole .pair .read) (p .r) (L .reads)
 
   nak : (b : List ℕ) → Link ms S p (stepBy x (acknowledging status.SequenceNak (x .whole .pair .expected) 96) b)
-  unfolding acknowledging statusNumber pairBy apply.after savedBy memoryBy actsAtomic
+  unfolding acknowledging statusNumber pairBy pairByNumber savedBy memoryBy actsAtomic
   nak b = eases L true (x .whole .pair .read) (p .r) (L .reads)
 
   acked : (psn : Psn) (n : ℕ) (b : List ℕ) → Link ms S p (stepBy x (acknowledging status.DuplicateAnswered psn n) b)
-  unfolding acknowledging statusNumber pairBy apply.after savedBy memoryBy actsAtomic readBy
+  unfolding acknowledging statusNumber pairBy pairByNumber savedBy memoryBy actsAtomic readAnswerBy
   acked psn n b = eases L (x .whole .pair .nakmark) (x .whole .pair .read) (p .r) (L .reads)
 
   saved : (v : Saved) (psn : Psn) (b : List ℕ) → Link ms S p (stepBy x (duplicateAtomic v psn) b)
-  unfolding statusNumber pairBy apply.after savedBy memoryBy actsAtomic readBy
+  unfolding statusNumber pairBy pairByNumber savedBy memoryBy actsAtomic readAnswerBy
   saved (Value v) psn b = eases L (x .whole .pair .nakmark) (x .whole .pair .read) (p .r) (L .reads)
   saved Nothing psn b = dropped b
 
@@ -96,15 +95,17 @@ module _ (ms : List Message) (S : List Slot) (p : Plain) (x : Run) (L : Link ms 
 
   -- a READ's answer begins
   remaining-is : (at n r : ℕ) (psn : Psn) (len : ℕ) → 1 ≤ r → r ≡ n
-      → readBy (beginRead status.DuplicateAnswered noMessage at len 0 false r psn) (x .whole .pair .read) (x .whole .pair .msn) .remaining ≡ n
-  unfolding readBy
+      → readAnswerBy (beginRead status.DuplicateAnswered noMessage at len 0 false r psn) (x .whole .pair .read) (x .whole .pair .msn) .remaining ≡ n
+  unfolding readAnswerBy
   remaining-is at n r psn len h e = rw (ne-eqb r 0 (λ z. absurd (omega arith))) e
 
   begins : (at n r : ℕ) (psn : Psn) (len : ℕ) (b : List ℕ) → 1 ≤ r → r ≡ n
       → Link ms S (withResponses p n) (stepBy x (beginRead status.DuplicateAnswered noMessage at len 0 false r psn) b)
-  unfolding statusNumber pairBy apply.after savedBy memoryBy actsAtomic
+  unfolding statusNumber pairBy pairByNumber savedBy memoryBy actsAtomic
   begins at n r psn len b h e =
-      eases L (x .whole .pair .nakmark) (readBy (beginRead status.DuplicateAnswered noMessage at len 0 false r psn) (x .whole .pair .read) (x .whole .pair .msn)) n (remaining-is at n r psn len h e)
+      eases L (x .whole .pair .nakmark)
+      (readAnswerBy (beginRead status.DuplicateAnswered noMessage at len 0 false r psn) (x .whole .pair .read) (x .whole .pair .msn)) n
+      (remaining-is at n r psn len h e)
 
   module _ (j : ℕ) (i : j < length S) where
     abbrev t : Slot

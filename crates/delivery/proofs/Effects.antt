@@ -14,8 +14,7 @@ use Rattle.table.specs.declared.Entry.{Entry}
 use Rattle.pair.specs.Answer.{statusNumber}
 use Rattle.pair.specs.declared.OpenMessage.{OpenMessage}
 use Rattle.pair.specs.declared.Pair.{Pair}
-use Rattle.responder_spec.specs.Apply.{pairBy, executedPair, memoryBy, msnBy, readBy, entriesBy}
-use Rattle.responder_spec.specs.Apply as apply
+use Rattle.responder_spec.specs.Apply.{pairBy, executedPair, memoryBy, msnBy, readAnswerBy, entriesBy, pairByNumber}
 use Rattle.responder_spec.specs.Calls.{reports}
 use Rattle.responder_spec.specs.declared.Decision.{Decision}
 use Rattle.delivery.specs.Stream.{Message, packetCount, Slot, slot, psnCount, numberAlong}
@@ -26,7 +25,7 @@ use Rattle.delivery.proofs.Rel.{IsOf, Holding, OpenedFor, Link, stepBy}
 
 -- an answer from 0 to 3 is that of an executed packet
 pub executed-by : (q : Pair) (d : Decision) → statusNumber (d .status) ≤ 3 → pairBy q d ≡ executedPair q d
-unfolding pairBy apply.after
+unfolding pairBy pairByNumber
 executed-by q d h = rw (le-leb (statusNumber (d .status)) 3 h)
 
 -- what stands open after packet k of S
@@ -55,7 +54,7 @@ module _ (ms : List Message) (S : List Slot) (p : Plain) (x : Run) (d : Decision
     pub status : statusNumber (d .status) ≤ 3
     pub psns : d .psns ≡ psnCount (slot S (p .k))
     pub ends : d .ends ≡ isLast (slot S (p .k))
-    pub reads : readBy d (x .whole .pair .read) (msnBy (d .ends) (x .whole .pair .msn)) .remaining ≡ cond (isRead (slot S (p .k) .message .request)) (psnCount (slot S (p .k))) (p .r)
+    pub reads : readAnswerBy d (x .whole .pair .read) (msnBy (d .ends) (x .whole .pair .msn)) .remaining ≡ cond (isRead (slot S (p .k) .message .request)) (psnCount (slot S (p .k))) (p .r)
     pub memory :
         memoryBy d (x .memory) b
         ≡ memoryAfter (slot S (p .k) .message .request) (x .whole .regions) (slot S (p .k) .message .connection .pmtu)

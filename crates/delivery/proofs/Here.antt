@@ -16,8 +16,7 @@ use Rattle.cut_spec.specs.declared.Request.the-variants.{Send, SendImmediate, W
 use Rattle.request_spec.specs.Verdict.{carrying, noneWaiting, usesEntry, current, expectedCode}
 use Rattle.responder_spec.specs.Kept.{Steady}
 use Rattle.responder_spec.specs.Decide.{acknowledging, failed, headEntry, regionFor, storePayload, acceptRead, runAtomic, execute, checkedDecision, expectedDecision}
-use Rattle.responder_spec.specs.Apply.{memoryBy, actsAtomic, savedBy, pairBy}
-use Rattle.responder_spec.specs.Apply as apply
+use Rattle.responder_spec.specs.Apply.{memoryBy, actsAtomic, savedBy, pairBy, pairByNumber}
 use Rattle.responder_spec.specs.declared.Decision.{Decision}
 use Rattle.delivery.specs.Stream.{Message, Slot, slot, packetAt}
 use Rattle.delivery.specs.Plain.{Plain, none, firstOf, slotNeedsEntry, isLast, heldNow, executeWith, executeNext}
@@ -78,7 +77,7 @@ module _ (ms : List Message) (S : List Slot) (p : Plain) (x : Run) (L : Link ms 
 
   -- no entry: 19, and the NAK mark
   waits : (slotNeedsEntry t && none (p .waiting)) ≡ true → Link ms S p (stepBy x decides (packetAt t))
-  unfolding expectedDecision checkedDecision failed acknowledging statusNumber pairBy apply.after savedBy memoryBy actsAtomic
+  unfolding expectedDecision checkedDecision failed acknowledging statusNumber pairBy pairByNumber savedBy memoryBy actsAtomic
   waits e =
       subst
       (λ c. Link ms S p (stepBy x (checkedDecision c (cutPacket t) (x .whole .pair .setup) (x .whole .pair .message) entry region) (packetAt t)))

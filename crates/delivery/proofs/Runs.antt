@@ -13,8 +13,7 @@ use Rattle.pair.specs.Calls.{Whole, called}
 use Rattle.pair.specs.Claims.{WholeSound}
 use Rattle.pair.specs.declared.Setup.{Setup}
 use Rattle.pair.specs.declared.Pair.{Pair}
-use Rattle.responder_spec.specs.Apply.{pairBy, executedPair}
-use Rattle.responder_spec.specs.Apply as apply
+use Rattle.responder_spec.specs.Apply.{pairBy, executedPair, pairByNumber}
 use Rattle.responder_spec.specs.Inbound.{outcomeBy, inbound}
 use Rattle.responder_spec.specs.Response.{nextStatus, nextResponse}
 use Rattle.responder_spec.specs.Calls.{received, drained}
@@ -37,8 +36,8 @@ either : {s : Setup} {q r : Pair} (b : Bool) → Same s q → Same s r → Same 
 either true e f = e
 either false e f = f
 
-after-setup : (q : Pair) (d : Decision) (n : ℕ) → Same (q .setup) (apply.after q d n)
-unfolding apply.after executedPair
+after-setup : (q : Pair) (d : Decision) (n : ℕ) → Same (q .setup) (pairByNumber q d n)
+unfolding pairByNumber executedPair
 after-setup q d n =
     either (leb n 3) (record { is = refl })
     (either (eqb n 4) (record { is = refl })

@@ -19,7 +19,7 @@ use Rattle.cut_spec.proofs.Shapes.{cut-one}
 use Rattle.request_spec.specs.Verdict.{bytesToCome, current}
 use Rattle.responder_spec.specs.Kept.{Steady}
 use Rattle.responder_spec.specs.Decide.{noCompletion, regionFor, acceptRead, runAtomic}
-use Rattle.responder_spec.specs.Apply.{memoryBy, readBy, entriesBy}
+use Rattle.responder_spec.specs.Apply.{memoryBy, readAnswerBy, entriesBy}
 use Rattle.responder_spec.specs.Calls.{reports}
 use Rattle.delivery.specs.Stream.{Message, packetCount, Slot, slot, psnCount, packetAt}
 use Rattle.delivery.specs.Plain.{Plain, regionOffset, takesEntry, completionFor, firstOf, slotNeedsEntry, isLast, heldNow, waitingNow}
@@ -93,7 +93,7 @@ module _ (ms : List Message) (S : List Slot) (p : Plain) (x : Run) (L : Link ms 
 
   pub reads : Reads (t .message .request)
       → Does ms S p x (acceptRead (cutPacket t) M (x .whole .pair .message) region (x .whole .pair .setup .pmtu)) (packetAt t) (firstOf (heldNow p t))
-  unfolding acceptRead statusNumber readBy memoryBy
+  unfolding acceptRead statusNumber readAnswerBy memoryBy
   reads R =
       let n : pieces (M .length) (x .whole .pair .setup .pmtu) ≡ psnCount t =
       (λ i. pieces (N .length i) (sym (H .outgoing .addressed .pmtu) i)) ∙ sym (R .psnCount (length (t .message .bytes)) (t .message .connection .pmtu)) in
@@ -133,7 +133,7 @@ module _ (ms : List Message) (S : List Slot) (p : Plain) (x : Run) (L : Link ms 
 
   pub swaps : (k act : ℕ) (does : List ℕ → ℕ → ℕ → ℕ → List ℕ) → Swaps (t .message .request) k act does → (eqb k 0 ≡ false)
       → Does ms S p x (runAtomic (cutPacket t) M (x .whole .pair .message) region) (packetAt t) (firstOf (heldNow p t))
-  unfolding runAtomic statusNumber readBy
+  unfolding runAtomic statusNumber readAnswerBy
   swaps k act does W z =
       let n = messageLength (t .message .request) (length (t .message .bytes)) in
       let D = runAtomic (cutPacket t) M (x .whole .pair .message) region in

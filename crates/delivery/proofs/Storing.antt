@@ -23,7 +23,7 @@ use Rattle.table.specs.declared.Entry.{Entry}
 use Rattle.cut_spec.specs.Claims.{kindNumber}
 use Rattle.request_spec.specs.Verdict.{payloadSize, current}
 use Rattle.responder_spec.specs.Decide.{noCompletion, completes, completionOf, messageAfter, storePayload, targetOffset}
-use Rattle.responder_spec.specs.Apply.{memoryBy, readBy}
+use Rattle.responder_spec.specs.Apply.{memoryBy, readAnswerBy}
 use Rattle.responder_spec.specs.Calls.{reports}
 use Rattle.responder_spec.specs.declared.Completion.{Completion}
 use Rattle.delivery.specs.Stream.{Slot, psnCount, packetAt}
@@ -57,8 +57,8 @@ module _ (s : Setup) (regions : List (List ℕ)) (f : SetupFit s) (t : Slot) (h 
   storing-ends = ends-is s regions f t h opened held U
 
   pub storing-reads : (a : ReadAnswer) (msn : Msn) (r : ℕ) → a .remaining ≡ r
-      → readBy (storePayload (cutPacket t) M entry region) a msn .remaining ≡ cond (isRead (t .message .request)) (psnCount t) r
-  unfolding storePayload readBy
+      → readAnswerBy (storePayload (cutPacket t) M entry region) a msn .remaining ≡ cond (isRead (t .message .request)) (psnCount t) r
+  unfolding storePayload readAnswerBy
   storing-reads a msn r e = e ∙ ap (λ b. cond b (psnCount t) r) (sym (C .read))
 
   pub slot-payload-is : payloadSize (cutPacket t) ≡ slotSize t

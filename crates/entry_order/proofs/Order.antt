@@ -27,7 +27,7 @@ use Rattle.responder_spec.specs.Calls.{received, drained, reports}
 use Rattle.responder_spec.specs.Entries.{Uses}
 use Rattle.responder_spec.specs.declared.Completion.{Completion}
 use Rattle.responder_spec.proofs.Uses.{inbound-uses, next-uses}
-use Rattle.entry_order.specs.Order.{Call, History, start, goes, hosted, step, ran, PostingOrder, EntriesInOrder, SinceSetUp, SinceReset}
+use Rattle.entry_order.specs.Order.{AnyCall, History, newHistory, goes, hosted, historyAfter, ran, PostingOrder, EntriesInOrder, SinceSetUp, SinceReset}
 use Rattle.entry_order.specs.Order.Call.{Host, Inbound, Next}
 
 -- what is kept: the entries held and waiting are the rows of the ring, and the table has 16 rows
@@ -146,7 +146,7 @@ module _ (x : History) (k : Keeps x) where
   reset-keeps = go (executed (resetStatus q)) refl
     where
       go : (b : Bool) → executed (resetStatus q) ≡ b
-          → Keeps (cond b (start (called (x .whole) Reset)) (goes x (called (x .whole) Reset)))
+          → Keeps (cond b (newHistory (called (x .whole) Reset)) (goes x (called (x .whole) Reset)))
       go true e = empty rows _ (k .rows16) (ap (λ b. cond b (freshPair (q .setup)) q .entries .count) e)
       go false e = same _ _ refl (ap (λ b. cond b (freshPair (q .setup)) q .entries) e)
 
@@ -178,16 +178,16 @@ module _ (x : History) (k : Keeps x) where
   hosted-keeps (RemoveRegion key) = k
   hosted-keeps (PostEntry e) = post-keeps e
 
-  step-keeps : (c : Call) → Keeps (step x c)
-  unfolding step received drained
+  step-keeps : (c : AnyCall) → Keeps (historyAfter x c)
+  unfolding historyAfter received drained
   step-keeps (Host c) = hosted-keeps c
   step-keeps (Inbound m p out) = reported _ _ (inbound-uses q (x .whole .regions) rows (x .whole .saved) m p out)
   step-keeps (Next m out) = reported _ _ (next-uses q rows m out)
 
-all : (calls : List Call) (x : History) → Keeps x → Keeps (ran x calls)
+all : (calls : List AnyCall) (x : History) → Keeps x → Keeps (ran x calls)
 unfolding ran
 all [] x k = k
-all (c ∷ calls) x k = all calls (step x c) (step-keeps x k c)
+all (c ∷ calls) x k = all calls (historyAfter x c) (step-keeps x k c)
 
 in-order : (x : History) → Keeps x → PostingOrder x
 in-order x k =
@@ -198,7 +198,7 @@ in-order x k =
     }
 
 pub entries-in-order : EntriesInOrder
-entries-in-order w calls l z = in-order (ran (start w) calls) (all calls (start w) (empty (w .entries) (w .pair .entries) l z))
+entries-in-order w calls l z = in-order (ran (newHistory w) calls) (all calls (newHistory w) (empty (w .entries) (w .pair .entries) l z))
 
 pub since-set-up : SinceSetUp
 unfolding begun

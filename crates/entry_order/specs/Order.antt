@@ -19,10 +19,10 @@ use Rattle.responder_spec.specs.Calls.{received, drained, reports}
 use Rattle.responder_spec.specs.declared.Completion.{Completion}
 
 -- Every call there is. Memory, packet and output are any lists, anew with each call.
-pub data Call : Type 0 where
-  Host : HostCall → Call
-  Inbound : (memory packet output : List ℕ) → Call
-  Next : (memory output : List ℕ) → Call
+pub data AnyCall : Type 0 where
+  Host : HostCall → AnyCall
+  Inbound : (memory packet output : List ℕ) → AnyCall
+  Next : (memory output : List ℕ) → AnyCall
 
 -- The pair with its tables; since the last set-up or reset, the rows of the entries posted and what was reported to the
 -- host.
@@ -32,8 +32,8 @@ pub record History : Type 0 where
   pub completions : List Completion
 
 -- Nothing posted yet, nothing reported.
-abbrev pub start : Whole → History
-start w = record { whole = w; posted = []; completions = [] }
+abbrev pub newHistory : Whole → History
+newHistory w = record { whole = w; posted = []; completions = [] }
 
 -- A call that posts nothing and reports nothing, and leaves the pair and its tables so.
 abbrev pub goes : History → Whole → History
@@ -42,9 +42,9 @@ goes x w = record { whole = w; posted = x .posted; completions = x .completions 
 -- A call of the host. An entry is posted where post entry accepts it. A set-up gives another pair, a refused one the
 -- blank pair, and an accepted reset a fresh one: nothing was posted since. A refused reset changes nothing.
 unfoldable pub hosted : History → HostCall → History
-hosted x (SetUp s) = start (called (x .whole) (SetUp s))
+hosted x (SetUp s) = newHistory (called (x .whole) (SetUp s))
 hosted x Reset =
-    cond (executed (resetStatus (x .whole .pair))) (start (called (x .whole) Reset)) (goes x (called (x .whole) Reset))
+    cond (executed (resetStatus (x .whole .pair))) (newHistory (called (x .whole) Reset)) (goes x (called (x .whole) Reset))
 hosted x MakeReady = goes x (called (x .whole) MakeReady)
 hosted x (AddRegion r) = goes x (called (x .whole) (AddRegion r))
 hosted x (RemoveRegion key) = goes x (called (x .whole) (RemoveRegion key))
@@ -60,17 +60,17 @@ abbrev pub tells : History → Whole → Completion → History
 tells x w c = record { whole = w; posted = x .posted; completions = x .completions ++ reports c }
 
 -- One call;
-unfoldable pub step : History → Call → History
-step x (Host c) = hosted x c
-step x (Inbound m p out) =
+unfoldable pub historyAfter : History → AnyCall → History
+historyAfter x (Host c) = hosted x c
+historyAfter x (Inbound m p out) =
     tells x (received (x .whole) m p out)
     (inbound (x .whole .pair) (x .whole .regions) (x .whole .entries) (x .whole .saved) m p out .completion)
-step x (Next m out) = tells x (drained (x .whole) m out) (nextResponse (x .whole .pair) m out .completion)
+historyAfter x (Next m out) = tells x (drained (x .whole) m out) (nextResponse (x .whole .pair) m out .completion)
 
 -- and a list of them, one after the other.
-unfoldable pub ran : History → List Call → History
+unfoldable pub ran : History → List AnyCall → History
 ran x [] = x
-ran x (c ∷ cs) = ran (step x c) cs
+ran x (c ∷ cs) = ran (historyAfter x c) cs
 
 -- The entry that an open message holds, and those that wait.
 abbrev pub held : History → List (List ℕ)
@@ -89,16 +89,16 @@ pub record PostingOrder (x : History) : Type 0 where
 -- bytes.
 abbrev pub EntriesInOrder : Type 0
 EntriesInOrder =
-    (w : Whole) (calls : List Call) → length (w .entries) ≡ 16 → w .pair .entries .count ≡ 0 → PostingOrder (ran (start w) calls)
+    (w : Whole) (calls : List AnyCall) → length (w .entries) ≡ 16 → w .pair .entries .count ≡ 0 → PostingOrder (ran (newHistory w) calls)
 
 -- So it is since a set-up, accepted or refused, whatever the tables held before;
 abbrev pub SinceSetUp : Type 0
 SinceSetUp =
-    (s : Setup) (regions entries saved : List (List ℕ)) (calls : List Call) → length entries ≡ 16
-    → PostingOrder (ran (start (begun s regions entries saved)) calls)
+    (s : Setup) (regions entries saved : List (List ℕ)) (calls : List AnyCall) → length entries ≡ 16
+    → PostingOrder (ran (newHistory (begun s regions entries saved)) calls)
 
 -- and since a reset of a pair that was set up, whatever it has received and its tables hold.
 abbrev pub SinceReset : Type 0
 SinceReset =
-    (w : Whole) (calls : List Call) → SetupSound (w .pair .setup) → length (w .entries) ≡ 16
-    → PostingOrder (ran (start (called w Reset)) calls)
+    (w : Whole) (calls : List AnyCall) → SetupSound (w .pair .setup) → length (w .entries) ≡ 16
+    → PostingOrder (ran (newHistory (called w Reset)) calls)

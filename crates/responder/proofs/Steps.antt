@@ -31,7 +31,7 @@ use Rattle.responder_spec.proofs.Codes.Bare.{reads, swaps, adds}
 use Rattle.responder_spec.specs.declared.Decision.{Decision}
 use Rattle.responder_spec.specs.declared.Outcome.{Outcome}
 use Rattle.responder_spec.specs.Decide.{noReply, packetDecision, orDrop, inboundRefusal, decided}
-use Rattle.responder_spec.specs.Apply.{memoryBy, actsAtomic, savedBy, after, pairBy}
+use Rattle.responder_spec.specs.Apply.{memoryBy, actsAtomic, savedBy, pairByNumber, pairBy}
 use Rattle.responder_spec.specs.Reply.{answerBytes, valueBy, over, outBy}
 use Rattle.responder_spec.specs.Inbound.{outcomeBy, decision, inbound, inboundMemory, inboundSaved, inboundOut}
 use Rattle.responder_spec.proofs.Rows.Quiet.{dropped, short, range, unfinished}
@@ -61,7 +61,7 @@ by q regions entries saved m p out d e o a m' b saved' c out' f = (
 
 -- a quiet decision changes nothing
 quiet-outcome : (q : Pair) (t : Status) → Quiet t → unchanged t q ≡ outcomeBy q (noReply t)
-unfolding outcomeBy noReply pairBy after statusNumber
+unfolding outcomeBy noReply pairBy pairByNumber statusNumber
 quiet-outcome q t dropped = refl
 quiet-outcome q t short = refl
 quiet-outcome q t range = refl

@@ -39,7 +39,7 @@ use Rattle.responder_spec.specs.declared.Decision.{Decision}
 use Rattle.responder_spec.specs.Decide.{noCompletion, noPsn, replyOnly, noReply, acknowledging, psnBefore}
 use Rattle.responder_spec.specs.Decide.{completes, completionOf, messageAfter, targetOffset, beginRead}
 use Rattle.responder_spec.specs.Decide.{storePayload, runAtomic, unanswered, decided}
-use Rattle.responder_spec.specs.Apply.{memoryBy, actsAtomic, savedBy, savedRingBy, ringTaken, entriesBy, msnBy, readBy, executedPair, with, after, pairBy}
+use Rattle.responder_spec.specs.Apply.{memoryBy, actsAtomic, savedBy, savedRingBy, ringTaken, entriesBy, msnBy, readAnswerBy, executedPair, with, pairByNumber, pairBy}
 use Rattle.responder_spec.specs.Reply.{answerBytes, valueBy, over, outBy}
 use Rattle.responder_spec.specs.Inbound.{outcomeBy, decision, inbound, inboundMemory, inboundSaved, inboundOut}
 use Rattle.responder_spec.specs.Effects.{Left, leaving, Silent, Unexecuted, Unchanged, Fixed, NakMarkAlone}
@@ -101,7 +101,7 @@ module _ (q : Pair) (regions saved : List (List ℕ)) (m p out : List ℕ) where
   unexecuted-by a outgoing psn syndrome value = record { memory = refl; saved = refl; completion = silent }
 
   quiet-by : (a : Status) → Quiet a → Effect a (L (noReply a))
-  unfolding leftBy memoryBy savedBy actsAtomic outcomeBy pairBy after statusNumber noReply outBy answerBytes over valueBy
+  unfolding leftBy memoryBy savedBy actsAtomic outcomeBy pairBy pairByNumber statusNumber noReply outBy answerBytes over valueBy
   quiet-by status.Dropped dropped = record { pair = refl; unexecuted = unexecuted-by status.Dropped 0 noPsn 0 0; outgoing = refl; out = refl }
   quiet-by status.OutputShort short = record { pair = refl; unexecuted = unexecuted-by status.OutputShort 0 noPsn 0 0; outgoing = refl; out = refl }
   quiet-by status.OutOfRange range = record { pair = refl; unexecuted = unexecuted-by status.OutOfRange 0 noPsn 0 0; outgoing = refl; out = refl }
@@ -111,7 +111,7 @@ module _ (q : Pair) (regions saved : List (List ℕ)) (m p out : List ℕ) where
   fixed-with state nakmark a = record { setup = refl; expected = refl; msn = refl; message = refl; entries = refl; saved = refl }
 
   fixed-by : (d : Decision) → 3 < statusNumber (d .status) → (statusNumber (d .status) ≡ 6 → ⊥) → Fixed q (pairBy q d)
-  unfolding pairBy after
+  unfolding pairBy pairByNumber
   fixed-by d h k =
       let n = statusNumber (d .status) in
       rw (lt-leb n 3 h, ne-eqb n 6 k)
@@ -134,8 +134,8 @@ module _ (q : Pair) (regions saved : List (List ℕ)) (m p out : List ℕ) where
 
   begun-by : (d : Decision) (old : ReadAnswer) (msn : Msn) → 0 < d .responses → d .responses ≡ pieces (d .length) (q .setup .pmtu)
       → d .psn ≡ bthOf p .psn → Asks (q .setup .memory) regions (numbersOf p) (d .at) (d .length)
-      → Begun regions (q .setup) p msn (readBy d old msn)
-  unfolding readBy
+      → Begun regions (q .setup) p msn (readAnswerBy d old msn)
+  unfolding readAnswerBy
   begun-by d old msn h e n A =
       let o = operands-by (A .kind) in
       let l : d .length ≡ rethOf p .length = A .length ∙ ap (λ x. x .length) o in
@@ -153,8 +153,8 @@ module _ (q : Pair) (regions saved : List (List ℕ)) (m p out : List ℕ) where
         within = A .within;
       })
 
-  remaining-by : (d : Decision) (old : ReadAnswer) (msn : Msn) → 0 < d .responses → readBy d old msn .remaining ≡ d .responses
-  unfolding readBy
+  remaining-by : (d : Decision) (old : ReadAnswer) (msn : Msn) → 0 < d .responses → readAnswerBy d old msn .remaining ≡ d .responses
+  unfolding readAnswerBy
   remaining-by d old msn h = rw (ne-eqb (d .responses) 0 (λ z. omega arith))
 
   -- the decision with another answer, another count of PSNs taken and of bytes sent
@@ -187,7 +187,7 @@ module _ (q : Pair) (regions saved : List (List ℕ)) (m p out : List ℕ) where
 
   -- executed: the pair as the decision says
   ran : (d : Decision) → statusNumber (d .status) ≤ 3 → pairBy q d ≡ executedPair q d
-  unfolding pairBy after
+  unfolding pairBy pairByNumber
   ran d h = rw (le-leb (statusNumber (d .status)) 3 h)
 
   executes-by : (d : Decision) → Executes q (executedPair q d)
@@ -235,7 +235,7 @@ module _ (q : Pair) (regions saved : List (List ℕ)) (m p out : List ℕ) where
       → (q .setup .service ≡ 1 → psnAfter (q .expected) n ≡ psnAfter (bthOf p .psn) 1)
       → targetOffset (numbersOf p .kind) t entry region + payloadSize (numbersOf p) ≤ q .setup .memory
       → StoresPacket q saved m p (L (answering a n outgoing (storePayload (numbersOf p) t entry region)))
-  unfolding leftBy outcomeBy storePayload executedPair readBy savedRingBy savedBy actsAtomic memoryBy ringTaken slotAt packetOf headerOf
+  unfolding leftBy outcomeBy storePayload executedPair readAnswerBy savedRingBy savedBy actsAtomic memoryBy ringTaken slotAt packetOf headerOf
   places-by a n outgoing t entry region few rc uc w =
       let k = numbersOf p in
       let d = answering a n outgoing (storePayload k t entry region) in
@@ -308,7 +308,7 @@ module _ (q : Pair) (regions saved : List (List ℕ)) (m p out : List ℕ) where
 
   swap-by : (t : OpenMessage) (region : List ℕ) → memoryOffset region (t .address) (t .length) + 8 ≤ q .setup .memory
       → Swaps q saved m p (L (runAtomic (numbersOf p) t (q .message) region))
-  unfolding leftBy outcomeBy runAtomic pairBy after statusNumber executedPair readBy msnBy entriesBy savedRingBy actsAtomic
+  unfolding leftBy outcomeBy runAtomic pairBy pairByNumber statusNumber executedPair readAnswerBy msnBy entriesBy savedRingBy actsAtomic
   swap-by t region w =
       record {
         executed = executes-by (runAtomic (numbersOf p) t (q .message) region);
@@ -325,7 +325,7 @@ module _ (q : Pair) (regions saved : List (List ℕ)) (m p out : List ℕ) where
 
   begin-by : (at n : ℕ) → Asks (q .setup .memory) regions (numbersOf p) at n → 0 < pieces n (q .setup .pmtu) → Accepts q regions saved m p out
       (L (beginRead status.ReadAccepted (q .message) at n (pieces n (q .setup .pmtu)) true (pieces n (q .setup .pmtu)) (bthOf p .psn)))
-  unfolding leftBy outcomeBy pairBy after statusNumber executedPair msnBy entriesBy savedRingBy actsAtomic memoryBy savedBy outBy over answerBytes
+  unfolding leftBy outcomeBy pairBy pairByNumber statusNumber executedPair msnBy entriesBy savedRingBy actsAtomic memoryBy savedBy outBy over answerBytes
   begin-by at n a s =
       let k = pieces n (q .setup .pmtu) in
       let d = beginRead status.ReadAccepted (q .message) at n k true k (bthOf p .psn) in
@@ -343,7 +343,7 @@ module _ (q : Pair) (regions saved : List (List ℕ)) (m p out : List ℕ) where
       }
 
   effect : eqb (q .setup .service) 1 ≡ false → (d : Decision) → Row Quiet q regions saved (numbersOf p) d → Effect (d .status) (L d)
-  unfolding leftBy outcomeBy acknowledging pairBy after statusNumber memoryBy savedBy actsAtomic noReply storePayload runAtomic outBy over answerBytes readBy packetOf headerOf
+  unfolding leftBy outcomeBy acknowledging pairBy pairByNumber statusNumber memoryBy savedBy actsAtomic noReply storePayload runAtomic outBy over answerBytes readAnswerBy packetOf headerOf
   effect c d (quiet a k) = quiet-by a k
   effect c d ahead =
       record {
@@ -415,7 +415,7 @@ module _ (q : Pair) (regions saved : List (List ℕ)) (m p out : List ℕ) where
   abandoned = unexecuted-by status.Abandoned 0 noPsn 0 0
 
   uc-effect : eqb (q .setup .service) 1 ≡ true → (d : Decision) → UcRow Quiet q (numbersOf p) d → Effect (d .status) (L d)
-  unfolding leftBy outcomeBy pairBy after statusNumber noReply outBy over answerBytes packetOf headerOf
+  unfolding leftBy outcomeBy pairBy pairByNumber statusNumber noReply outBy over answerBytes packetOf headerOf
   uc-effect c d (unheard a k) = quiet-by a k
   uc-effect c d (abandon h) =
       record {

@@ -27,7 +27,7 @@ use Rattle.pair.specs.declared.Status.the-variants as status
 use Rattle.pair.specs.Pair.{noMessage}
 use Rattle.responder_spec.specs.declared.Decision.{Decision}
 use Rattle.responder_spec.specs.Decide.{noPsn, replyOnly, noReply, acknowledging, beginRead, headEntry}
-use Rattle.responder_spec.specs.Apply.{actsAtomic, savedRingBy, ringTaken, entriesBy, msnBy, readBy, executedPair, with, closing, after, pairBy}
+use Rattle.responder_spec.specs.Apply.{actsAtomic, savedRingBy, ringTaken, entriesBy, msnBy, readAnswerBy, executedPair, with, closing, pairByNumber, pairBy}
 use Rattle.responder_spec.specs.Kept.{Steady}
 use Rattle.responder_spec.proofs.Views.{closes, sound-with}
 
@@ -106,7 +106,7 @@ module _ (w : Whole) (W : Steady w) where
 
   pub reply-only-leads : (s : Status) (outgoing : ℕ) (psn : Psn) (syndrome value : ℕ) → leb (statusNumber s) 3 ≡ false
       → Leads w (replyOnly s outgoing psn syndrome value)
-  unfolding pairBy after readBy savedRingBy actsAtomic
+  unfolding pairBy pairByNumber readAnswerBy savedRingBy actsAtomic
   reply-only-leads s outgoing psn syndrome value h =
       record { steady = L .steady; entry = λ e. absurd (true≢false (sym e)); saved = L .saved; psn = λ e. absurd (true≢false (sym e)) }
     where
@@ -130,7 +130,7 @@ module _ (w : Whole) (W : Steady w) where
   pub duplicate-read-leads : (at length responses : ℕ) (psn : Psn)
       → responses ≤ pieces length (w .pair .setup .pmtu) → at + length ≤ w .pair .setup .memory → psn .0 < 2 ^ 24
       → Leads w (beginRead status.DuplicateAnswered noMessage at length 0 false responses psn)
-  unfolding pairBy after readBy savedRingBy actsAtomic statusNumber
+  unfolding pairBy pairByNumber readAnswerBy savedRingBy actsAtomic statusNumber
   duplicate-read-leads at length responses psn a b c =
       record {
         steady = with-steady w (w .pair .state) _ _ W (W .pair .state) (go (eqb responses 0));
@@ -227,7 +227,7 @@ module _ (w : Whole) (W : Steady w) (d : Decision) (D : Does w d) where
       go t (inr (inr (e, x, y, z))) = absurd (omega arith)
 
   done-read : ReadSound done
-  unfolding executedPair readBy
+  unfolding executedPair readAnswerBy
   done-read = go (eqb (d .responses) 0) refl (D .read)
     where
       go : (t : Bool) → eqb (d .responses) 0 ≡ t
@@ -262,7 +262,7 @@ module _ (w : Whole) (W : Steady w) (d : Decision) (D : Does w d) where
       }
 
   pub does-leads : Leads w d
-  unfolding pairBy after executedPair
+  unfolding pairBy pairByNumber executedPair
   does-leads =
       let e : pairBy (w .pair) d ≡ done = first (leb (statusNumber (d .status)) 3) done _ (D .number) in
       record { steady = subst (λ q. Steady (beside w q)) (sym e) done-steady; entry = D .entry; saved = ap (λ q. q .saved) e; psn = D .psn }

@@ -42,7 +42,7 @@ use Rattle.pair.specs.declared.OpenMessage.{OpenMessage}
 use Rattle.pair.specs.declared.Pair.{Pair}
 use Rattle.request_spec.specs.Packet.{packetOf}
 use Rattle.responder_spec.specs.declared.Decision.{Decision}
-use Rattle.responder_spec.specs.Apply.{actsAtomic, savedBy, msnBy, executedPair, after, pairBy}
+use Rattle.responder_spec.specs.Apply.{actsAtomic, savedBy, msnBy, executedPair, pairByNumber, pairBy}
 use Rattle.responder_spec.specs.Inbound.{outcomeBy, decision, inbound, inboundMemory, inboundSaved, inboundOut}
 use Rattle.responder_spec.specs.Effects.{Left}
 use Rattle.responder_spec.specs.Replies.{AckSent, ValueSent, Replies, InboundReplies}
@@ -168,7 +168,7 @@ executed-small q d S = go (d .ends)
     go false = S .msn
 
 msn-small : (q : Pair) (d : Decision) → Sound q → Fine (pairBy q d)
-unfolding pairBy after
+unfolding pairBy pairByNumber
 msn-small q d S =
     let n = statusNumber (d .status) in
     either Fine (leb n 3) (executed-small q d S)

@@ -34,7 +34,7 @@ use Rattle.request_spec.proofs.Taken.{any-place}
 use Rattle.request_spec.specs.declared.Packet.{Packet}
 use Rattle.responder_spec.specs.declared.Decision.{Decision}
 use Rattle.responder_spec.specs.Decide.{completes, completionOf, messageAfter, targetOffset, storePayload, runAtomic, regionFor, headEntry, unanswered, decided}
-use Rattle.responder_spec.specs.Apply.{savedBy, memoryBy, executedPair, after, pairBy}
+use Rattle.responder_spec.specs.Apply.{savedBy, memoryBy, executedPair, pairByNumber, pairBy}
 use Rattle.responder_spec.specs.Inbound.{outcomeBy, decision, inbound, inboundMemory, inboundSaved, inboundOut}
 use Rattle.responder_spec.specs.Effects.{Silent}
 use Rattle.responder_spec.specs.Answers.{entryAtHead, OnlyBytes, Completes, StoresPayload, packetIn, InboundStores, OnRegion, InboundSwaps}
@@ -141,7 +141,7 @@ module _ (q : Pair) (regions entries saved : List (List ℕ)) (m p : List ℕ) (
 
   -- the message that is open afterwards
   ran : pairBy q D .message ≡ messageAfter (k .place) M (payloadSize k)
-  unfolding pairBy after storePayload executedPair
+  unfolding pairBy pairByNumber storePayload executedPair
   ran = rw (few (k .ackreq))
 
   opened : (size : ℕ) → payloadSize k ≡ size → M .kind ≡ k .kind → HasMore (k .place)
@@ -300,7 +300,7 @@ module _ (q : Pair) (regions entries saved : List (List ℕ)) (m p out : List �
   storedAt t = storePayload (packetIn p) t (headEntry q entries) (regionFor (packetIn p .kind) (t .key) regions)
 
   same-message : (t : OpenMessage) → pairBy q (unanswered n (storedAt t)) .message ≡ pairBy v (storedAt t) .message
-  unfolding pairBy after storePayload executedPair statusNumber
+  unfolding pairBy pairByNumber storePayload executedPair statusNumber
   same-message t = sym (rw (few (packetIn p .ackreq)))
 
   unseen : (t : OpenMessage) → StoresPayload v regions entries m p (packetIn p) t (leftBy v saved m p out (storedAt t))

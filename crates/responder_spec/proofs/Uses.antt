@@ -20,7 +20,7 @@ use Rattle.request_spec.specs.declared.Packet.{Packet}
 use Rattle.responder_spec.specs.declared.Completion.{Completion}
 use Rattle.responder_spec.specs.declared.Decision.{Decision}
 use Rattle.responder_spec.specs.Decide.{noCompletion, noReply, acknowledging, completes, completionOf, storePayload, runAtomic, headEntry, decided}
-use Rattle.responder_spec.specs.Apply.{ringTaken, entriesBy, executedPair, with, after, pairBy}
+use Rattle.responder_spec.specs.Apply.{ringTaken, entriesBy, executedPair, with, pairByNumber, pairBy}
 use Rattle.responder_spec.specs.Inbound.{outcomeBy, decision, inbound}
 use Rattle.responder_spec.specs.Response.{nextStatus, oneFewer, nextResponse}
 use Rattle.responder_spec.specs.Answers.{packetIn}
@@ -39,7 +39,7 @@ use Rattle.responder_spec.proofs.Answers.{head-first}
 -- what a decision leaves of the ring: with no completion it stays, and a packet that is executed with one moves it
 module _ (q : Pair) (d : Decision) where
   kept : d .completion .some ≡ false → pairBy q d .entries ≡ q .entries
-  unfolding pairBy after executedPair entriesBy
+  unfolding pairBy pairByNumber executedPair entriesBy
   kept h =
       let n = statusNumber (d .status) in
       let same : Pair → Type 0 = λ x. x .entries ≡ q .entries in
@@ -48,7 +48,7 @@ module _ (q : Pair) (d : Decision) where
       (either same (eqb n 16 || eqb n 19) refl (either same (eqb n 17 || eqb n 18) refl (either same (eqb n 6) refl refl))))
 
   taken : leb (statusNumber (d .status)) 3 ≡ true → d .completion .some ≡ true → pairBy q d .entries ≡ ringTaken (q .entries)
-  unfolding pairBy after executedPair entriesBy
+  unfolding pairBy pairByNumber executedPair entriesBy
   taken s h = rw (s, h)
 
 -- nothing completes

@@ -45,7 +45,7 @@ use Rattle.responder_spec.specs.Decide.{duplicateDecision, regionFor, he
 use Rattle.responder_spec.specs.Decide.{orphaned, strays, closedBy, abandoning, unanswered, ucExecute}
 use Rattle.responder_spec.specs.Decide.{ucCheckedDecision, ucDecision, packetDecision, orDrop, inboundRefusal}
 use Rattle.responder_spec.specs.Decide.{decided}
-use Rattle.responder_spec.specs.Apply.{actsAtomic, after}
+use Rattle.responder_spec.specs.Apply.{actsAtomic, pairByNumber}
 use Rattle.responder_spec.specs.Answers.{OnlyBytes, packetIn}
 use Rattle.responder_spec.proofs.Rows.Quiet.{dropped, short, range, unfinished}
 use Rattle.responder_spec.proofs.Rows.{Quiet, refusal-quiet, passed}
@@ -187,7 +187,7 @@ only-by old new at size offset n k b a lo hi =
     record {
       kept = k;
       before = sym (take-take offset at new lo) ∙ (ap (take offset) b ∙ take-take offset at old lo);
-      after =
+      pairByNumber =
           subst (λ j. drop j new ≡ drop j old) e
           (sym (drop-drop r (at + size) new) ∙ (ap (drop r) a ∙ drop-drop r (at + size) old));
     }

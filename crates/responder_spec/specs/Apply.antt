@@ -49,8 +49,8 @@ unfoldable pub msnBy : Bool → Msn → Msn
 msnBy ends msn = cond ends (msnNext msn) msn
 
 -- a READ that begins to be answered carries the MSN as it is after the packet
-unfoldable pub readBy : Decision → ReadAnswer → Msn → ReadAnswer
-readBy d old msn =
+unfoldable pub readAnswerBy : Decision → ReadAnswer → Msn → ReadAnswer
+readAnswerBy d old msn =
     cond (eqb (d .responses) 0) old
     (record { remaining = d .responses; offset = d .at; length = d .length; psn = d .psn; msn = msn })
 
@@ -65,7 +65,7 @@ executedPair q d =
       nakmark = false;
       message = d .message;
       entries = entriesBy (d .completion .some) (q .entries);
-      read = readBy d (q .read) (msnBy (d .ends) (q .msn));
+      read = readAnswerBy d (q .read) (msnBy (d .ends) (q .msn));
       saved = savedRingBy (q .saved) (d .act);
     }
 
@@ -101,14 +101,14 @@ closing q =
 
 -- What each answer leaves: the first four as executed; a duplicate may begin a READ's answer; two NAKs set the NAK
 -- mark, two are the Error state; abandoning closes the message; all others leave nothing
-unfoldable pub after : Pair → Decision → ℕ → Pair
-after q d number =
+unfoldable pub pairByNumber : Pair → Decision → ℕ → Pair
+pairByNumber q d number =
     cond (leb number Number.atomicExecuted) (executedPair q d)
-    (cond (eqb number Number.duplicateAnswered) (with q (q .state) (q .nakmark) (readBy d (q .read) (q .msn)))
+    (cond (eqb number Number.duplicateAnswered) (with q (q .state) (q .nakmark) (readAnswerBy d (q .read) (q .msn)))
     (cond (eqb number Number.sequenceNak || eqb number Number.notReadyNak) (with q (q .state) true (q .read))
     (cond (eqb number Number.invalidRequestNak || eqb number Number.accessNak)
     (with q State.error (q .nakmark) (q .read))
     (cond (eqb number Number.abandoned) (closing q) q))))
 
 unfoldable pub pairBy : Pair → Decision → Pair
-pairBy q d = after q d (statusNumber (d .status))
+pairBy q d = pairByNumber q d (statusNumber (d .status))

@@ -16,7 +16,7 @@ use Rattle.pair.specs.Calls.{begun}
 use Rattle.pair.proofs.Kept.{begun-sound, calls-sound}
 use Rattle.request_spec.specs.Packet.{packetOf}
 use Rattle.responder_spec.specs.Decide.{decided, noReply, storePayload}
-use Rattle.responder_spec.specs.Apply.{executedPair, pairBy, after, readBy}
+use Rattle.responder_spec.specs.Apply.{executedPair, pairBy, pairByNumber, readAnswerBy}
 use Rattle.responder_spec.specs.declared.Decision.{Decision}
 use Rattle.responder_spec.proofs.Rows.Quiet.{dropped, short, range, unfinished}
 use Rattle.responder_spec.proofs.Rows.UcRow.{unheard, abandon, deliver}
@@ -28,7 +28,7 @@ use Rattle.responder_spec.proofs.Kept.{steady, inbound-steady, psn-below}
 use Rattle.delivery.specs.Stream.{Message}
 use Rattle.delivery.specs.Demand.{Run, taken, Addressed}
 use Rattle.delivery.proofs.Made.{all-idle, accepted, begun-idle}
-use Rattle.uc_delivery.specs.Message.{StandsMade, Apart, Arrival, heard, AllBytes, Foreign, Comes, ComesOn, ApartOn, WholeAfter, PartAfter}
+use Rattle.uc_delivery.specs.Message.{StandsMade, Apart, Arrival, heard, AllBytes, Foreign, MessageArrives, ComesOn, ApartOn, WholeAfter, PartAfter}
 use Rattle.uc_delivery.proofs.Lost.{kind-open, handed-in-part}
 use Rattle.uc_delivery.proofs.Whole.{handed-whole}
 use Rattle.uc_delivery.proofs.Steps.{carriedOut, taken-is}
@@ -61,7 +61,7 @@ module _ (x : Run) (p out : List ℕ) (uc : x .whole .pair .setup .service ≡ 1
         ⊎ ((y .whole .pair .message .kind ≡ 255) ⊎ (y .whole .pair .expected ≡ psnAfter (bthOf p .psn) 1))
 
   leaves-by : (d : Decision) → UcRow Quiet (x .whole .pair) (numbersOf p) d → Leaves (carriedOut x d p)
-  unfolding pairBy after statusNumber executedPair noReply storePayload readBy packetOf headerOf
+  unfolding pairBy pairByNumber statusNumber executedPair noReply storePayload readAnswerBy packetOf headerOf
   leaves-by d (unheard a dropped) = record { setup = refl; state = refl; read = refl; next = inl (refl, refl) }
   leaves-by d (unheard a short) = record { setup = refl; state = refl; read = refl; next = inl (refl, refl) }
   leaves-by d (unheard a range) = record { setup = refl; state = refl; read = refl; next = inl (refl, refl) }
@@ -73,7 +73,7 @@ module _ (x : Run) (p out : List ℕ) (uc : x .whole .pair .setup .service ≡ 1
   pub leaves : Leaves (taken x p out)
   leaves = subst Leaves (sym (taken-is x p out decides refl)) (leaves-by decides row)
 
-comes-one : (outs : ℕ → List ℕ) (m : Message) (first : Psn) (x : Run) (p out : List ℕ) → Bytes p → Comes outs m first x → Comes outs m first (taken x p out)
+comes-one : (outs : ℕ → List ℕ) (m : Message) (first : Psn) (x : Run) (p out : List ℕ) → Bytes p → MessageArrives outs m first x → MessageArrives outs m first (taken x p out)
 comes-one outs m first x p out B K =
     let S = K .standing in
     let l = leaves x p out (S .unreliable) in

@@ -48,7 +48,7 @@ use Rattle.delivery.proofs.Entries.{entry-fits}
 use Rattle.delivery.proofs.Requests.{Carries, Sends, Writes, send-carries, send-imm-carries, write-carries, write-imm-carries, send-sends, send-imm-sends, write-writes, write-imm-writes}
 use Rattle.delivery.proofs.Storing.{storing-completes, message-after-more}
 use Rattle.delivery.proofs.InMemory.{in-place, send-memory-is, send-completes, send-long, write-memory-is, write-completes, write-long}
-use Rattle.uc_delivery.specs.Message.{firstWaiting, Supplied, target}
+use Rattle.uc_delivery.specs.Message.{firstWaiting, HasEntry, target}
 use Rattle.uc_delivery.proofs.Steps.{decided-is, taken-is, at, stored-out, delivers}
 
 -- a SEND or a WRITE
@@ -171,7 +171,7 @@ target-write (FetchAdd t v) Z regions e = absurd (omega (arith, Z .kind))
 
 module _ (w : Whole) (m : Message) (first : Psn) (P : Permitted (w .pair .setup) (w .regions) m) (Cr : Carrier (m .request))
     (small : first .0 < 2 ^ 24) (uc : w .pair .setup .service ≡ 1) (ready : w .pair .state ≡ 1) (idle : w .pair .read .remaining ≡ 0)
-    (sup : Supplied w m) where
+    (sup : HasEntry w m) where
   abbrev pub slot : ℕ → Slot
   slot i = record { message = m; first = first; index = i }
 

@@ -25,7 +25,7 @@ use Rattle.cut_spec.specs.declared.Request.{Request}
 use Rattle.cut_spec.specs.declared.Request.the-variants.{Send, SendImmediate, Write, WriteImmediate, Read, CmpSwap, FetchAdd}
 use Rattle.request_spec.specs.Verdict.{carrying, current, requestCode}
 use Rattle.responder_spec.specs.Decide.{decided, headEntry, regionFor, noReply, orphaned, strays, closedBy, abandoning, completes, completionOf, storePayload, unanswered, ucExecute, ucCheckedDecision, ucDecision}
-use Rattle.responder_spec.specs.Apply.{executedPair, pairBy, after, readBy, entriesBy, msnBy}
+use Rattle.responder_spec.specs.Apply.{executedPair, pairBy, pairByNumber, readAnswerBy, entriesBy, msnBy}
 use Rattle.responder_spec.specs.Inbound.{decision, inbound, outcomeBy}
 use Rattle.responder_spec.specs.declared.Decision.{Decision}
 use Rattle.responder_spec.proofs.Views.{number-taken}
@@ -38,7 +38,7 @@ use Rattle.delivery.specs.Demand.{Run, taken, Addressed}
 use Rattle.delivery.proofs.Chain.{Sent}
 use Rattle.delivery.proofs.Cutting.{placeFor, cutPacket, psn-small}
 use Rattle.delivery.proofs.Places.{starts-at, ends-at}
-use Rattle.uc_delivery.specs.Message.{Comes, Unreported, handed, HandedInPart}
+use Rattle.uc_delivery.specs.Message.{MessageArrives, Unreported, handed, HandedInPart}
 use Rattle.uc_delivery.proofs.Steps.{decided-is, taken-is, carriedOut}
 use Rattle.uc_delivery.proofs.Follow.{carries-bytes}
 use Rattle.uc_delivery.proofs.Whole.{packets-counted}
@@ -53,7 +53,7 @@ pub data Went (q : Pair) (t : Slot) : Decision → Type 0 where
   ran : (u : OpenMessage) (entry region : List ℕ) → Went q t (unanswered (1 + distance (cutPacket t .psn .0) (q .expected .0)) (storePayload (cutPacket t) u entry region))
   outside : Went q t (noReply status.OutOfRange)
 
-module _ (outs : ℕ → List ℕ) (m : Message) (first : Psn) (x : Run) (K : Comes outs m first x) (i : ℕ) (h : i < packetCount m) where
+module _ (outs : ℕ → List ℕ) (m : Message) (first : Psn) (x : Run) (K : MessageArrives outs m first x) (i : ℕ) (h : i < packetCount m) where
   abbrev t : Slot
   t = record { message = m; first = first; index = i }
 
@@ -107,7 +107,7 @@ module _ (outs : ℕ → List ℕ) (m : Message) (first : Psn) (x : Run) (K : Co
     read : y .whole .pair .read ≡ x .whole .pair .read
 
   keeps : (d : Decision) → Went q t d → Keeps (carriedOut x d (packetAt t))
-  unfolding pairBy after statusNumber executedPair noReply storePayload readBy
+  unfolding pairBy pairByNumber statusNumber executedPair noReply storePayload readAnswerBy
   keeps d (nothing e) = record { setup = refl; state = refl; read = refl }
   keeps d shut = record { setup = refl; state = refl; read = refl }
   keeps d (ran u entry region) = record { setup = refl; state = refl; read = refl }
@@ -119,7 +119,7 @@ module _ (outs : ℕ → List ℕ) (m : Message) (first : Psn) (x : Run) (K : Co
   left-is : (d : Decision) → decides ≡ d → left ≡ carriedOut x d (packetAt t)
   left-is d e = taken-is x (packetAt t) (outs i) d e
 
-  pub comes : Comes outs m first left
+  pub comes : MessageArrives outs m first left
   comes =
       let k : Keeps left = subst Keeps (sym (left-is _ is-decided)) (keeps _ went) in
       record {
@@ -140,7 +140,7 @@ module _ (outs : ℕ → List ℕ) (m : Message) (first : Psn) (x : Run) (K : Co
   -- afterwards none is open, or the next packet is expected
   next-is : (d : Decision) → decides ≡ d → Went q t d
       → (carriedOut x d (packetAt t) .whole .pair .message .kind ≡ 255) ⊎ (carriedOut x d (packetAt t) .whole .pair .expected ≡ psnAfter first (suc i))
-  unfolding pairBy after statusNumber executedPair noReply storePayload
+  unfolding pairBy pairByNumber statusNumber executedPair noReply storePayload
   next-is d e (nothing z) = inl z
   next-is d e shut = inl refl
   next-is d e (ran u entry region) =
@@ -154,7 +154,7 @@ module _ (outs : ℕ → List ℕ) (m : Message) (first : Psn) (x : Run) (K : Co
 
   -- and nothing is reported before the last packet
   untold-by : suc i < packetCount m → (d : Decision) → Went q t d → Unreported x (carriedOut x d (packetAt t))
-  unfolding pairBy after statusNumber executedPair noReply storePayload completionOf completes msnBy entriesBy
+  unfolding pairBy pairByNumber statusNumber executedPair noReply storePayload completionOf completes msnBy entriesBy
   untold-by l d (nothing e) = record { completions = append-nil (x .completions); msn = refl; entries = refl }
   untold-by l d shut = record { completions = append-nil (x .completions); msn = refl; entries = refl }
   untold-by l d (ran u entry region) =
@@ -171,11 +171,11 @@ module _ (outs : ℕ → List ℕ) (m : Message) (first : Psn) (x : Run) (K : Co
     pub completionWith : Unreported x y
 
   gone-quiet : q .message .kind ≡ 255 → Gone (carriedOut x (noReply status.Dropped) (packetAt t))
-  unfolding pairBy after statusNumber noReply
+  unfolding pairBy pairByNumber statusNumber noReply
   gone-quiet e = record { closed = e; completionWith = record { completions = append-nil (x .completions); msn = refl; entries = refl } }
 
   gone-shut : Gone (carriedOut x (noReply status.Abandoned) (packetAt t))
-  unfolding pairBy after statusNumber noReply
+  unfolding pairBy pairByNumber statusNumber noReply
   gone-shut = record { closed = refl; completionWith = record { completions = append-nil (x .completions); msn = refl; entries = refl } }
 
   not-first : 0 < i → starts (placeFor t) ≡ false
@@ -244,7 +244,7 @@ module _ (outs : ℕ → List ℕ) (m : Message) (first : Psn) where
   packet i = packetAt (record { message = m; first = first; index = i })
 
   -- none open: all the rest is dropped
-  closed-rest : (bs : List Bool) (j : ℕ) (x : Run) → Comes outs m first x → 0 < j → j + length bs ≡ packetCount m
+  closed-rest : (bs : List Bool) (j : ℕ) (x : Run) → MessageArrives outs m first x → 0 < j → j + length bs ≡ packetCount m
       → x .whole .pair .message .kind ≡ 255
       → Unreported x (handed outs m first x j bs)
   unfolding handed
@@ -255,7 +255,7 @@ module _ (outs : ℕ → List ℕ) (m : Message) (first : Psn) where
       untold-chain x y _ (g .completionWith) (closed-rest bs (suc j) y (comes outs m first x K j (omega arith)) (omega arith) (omega arith) (g .closed))
   closed-rest (false ∷ bs) j x K o n e = closed-rest bs (suc j) x K (omega arith) (omega arith) e
 
-  off-rest : (bs : List Bool) (j : ℕ) (x : Run) → Comes outs m first x → 0 < j → j + length bs ≡ packetCount m
+  off-rest : (bs : List Bool) (j : ℕ) (x : Run) → MessageArrives outs m first x → 0 < j → j + length bs ≡ packetCount m
       → Off m first x j
       → Unreported x (handed outs m first x j bs)
   unfolding handed
@@ -272,7 +272,7 @@ module _ (outs : ℕ → List ℕ) (m : Message) (first : Psn) where
   off-rest (false ∷ bs) j x K o n (inr f) = off-rest bs (suc j) x K (omega arith) (omega arith) (inr (λ i l h. f i (omega arith) h))
 
   -- up to the first that is lost
-  part : (few : packetCount m ≤ 2 ^ 24) (bs : List Bool) (i : ℕ) (x : Run) → Comes outs m first x → i + length bs ≡ packetCount m
+  part : (few : packetCount m ≤ 2 ^ 24) (bs : List Bool) (i : ℕ) (x : Run) → MessageArrives outs m first x → i + length bs ≡ packetCount m
       → ((k : ℕ) × (k < length bs) × (getD bs k true ≡ false))
       → (getD bs 0 false ≡ true) ⊎ Off m first x (suc i)
       → Unreported x (handed outs m first x i bs)

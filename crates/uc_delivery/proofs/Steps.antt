@@ -18,7 +18,7 @@ use Rattle.cut_spec.specs.Claims.{kindNumber}
 use Rattle.request_spec.specs.Verdict.{carrying, current, requestCode}
 use Rattle.request_spec.specs.declared.Packet.{Packet}
 use Rattle.responder_spec.specs.Decide.{decided, packetDecision, headEntry, regionFor, orphaned, strays, closedBy, storePayload, unanswered, ucExecute, ucCheckedDecision, ucDecision}
-use Rattle.responder_spec.specs.Apply.{executedPair, pairBy, memoryBy, savedBy, savedRingBy, entriesBy, msnBy, readBy, actsAtomic, after}
+use Rattle.responder_spec.specs.Apply.{executedPair, pairBy, memoryBy, savedBy, savedRingBy, entriesBy, msnBy, readAnswerBy, actsAtomic, pairByNumber}
 use Rattle.responder_spec.specs.Answers.{Willing}
 use Rattle.responder_spec.specs.Calls.{received, reports}
 use Rattle.responder_spec.specs.Inbound.{decision, inbound, inboundMemory, inboundSaved, outcomeBy}
@@ -99,7 +99,7 @@ pub stored-out : (w : Whole) (e : Psn) (n : Msn) (b : Bool) (u : OpenMessage) (r
     → let d = storePayload k t entry region in
     carriedOut (at w e n b u r m cs) (unanswered (1 + distance (k .psn .0) (e .0)) d) p
     ≡ at w (psnAfter (k .psn) 1) (msnBy (d .ends) n) false (d .message) (entriesBy (d .completion .some) r) (memoryBy d m p) (cs ++ reports (d .completion))
-unfolding pairBy after statusNumber executedPair storePayload readBy savedRingBy savedBy actsAtomic memoryBy
+unfolding pairBy pairByNumber statusNumber executedPair storePayload readAnswerBy savedRingBy savedBy actsAtomic memoryBy
 stored-out w e n b u r m cs p k t entry region =
     ap
     (λ x. at w x (msnBy (storePayload k t entry region .ends) n) false (storePayload k t entry region .message)

@@ -39,7 +39,7 @@ use Rattle.delivery.specs.Demand.{Run, taken, Addressed, Permitted}
 use Rattle.delivery.proofs.Cutting.{placeFor, cutPacket}
 use Rattle.delivery.proofs.Places.{starts-at}
 use Rattle.delivery.proofs.Rel.{IsOf, OpenedFor}
-use Rattle.uc_delivery.specs.Message.{Standing, Supplied, firstWaiting, target, handedAll, handed, HandedWhole}
+use Rattle.uc_delivery.specs.Message.{Standing, HasEntry, firstWaiting, target, handedAll, handed, HandedWhole}
 use Rattle.uc_delivery.proofs.Steps.{at}
 use Rattle.uc_delivery.proofs.Follow.{holding, holds, heldAt, Follows, steps, more, done, bounded, kept, steady}
 
@@ -78,7 +78,7 @@ open-kind (CmpSwap a) c = absurd c
 open-kind (FetchAdd t v) c = absurd c
 
 module _ (w : Whole) (m : Message) (first : Psn) (P : Permitted (w .pair .setup) (w .regions) m) (Cr : Carrier (m .request))
-    (small : first .0 < 2 ^ 24) (S : Standing w) (sup : Supplied w m) where
+    (small : first .0 < 2 ^ 24) (S : Standing w) (sup : HasEntry w m) where
   abbrev uc : w .pair .setup .service ≡ 1
   uc = S .unreliable
 

@@ -47,18 +47,18 @@ StandsMade =
     → Standing w × (w .pair .message .kind ≡ 255)
 
 -- packet i of a message whose first packet has the PSN given; its bytes are those that the cutting call writes
-abbrev pub packetOf : Message → Psn → ℕ → List ℕ
-packetOf m first i = packetAt (record { message = m; first = first; index = i })
+abbrev pub messagePacket : Message → Psn → ℕ → List ℕ
+messagePacket m first i = packetAt (record { message = m; first = first; index = i })
 
 -- Of the packets from packet i on, those marked true are handed in, in their order, and the others are lost. Nothing
 -- else comes between; each call has an output of its own.
 unfoldable pub handed : (ℕ → List ℕ) → Message → Psn → Run → ℕ → List Bool → Run
 handed outs m first x i [] = x
-handed outs m first x i (true ∷ bs) = handed outs m first (taken x (packetOf m first i) (outs i)) (suc i) bs
+handed outs m first x i (true ∷ bs) = handed outs m first (taken x (messagePacket m first i) (outs i)) (suc i) bs
 handed outs m first x i (false ∷ bs) = handed outs m first x (suc i) bs
 
 -- What both claims ask: memory of the length set up, outputs with room for an answer, and a SEND or WRITE to this pair
-pub record Comes (outs : ℕ → List ℕ) (m : Message) (first : Psn) (x : Run) : Type 0 where
+pub record MessageArrives (outs : ℕ → List ℕ) (m : Message) (first : Psn) (x : Run) : Type 0 where
   pub standing : Standing (x .whole)
   pub memory : length (x .memory) ≡ x .whole .pair .setup .memory
   pub outputs : (i : ℕ) → answerRoom ≤ length (outs i)
@@ -71,7 +71,7 @@ abbrev pub firstWaiting : Whole → Entry
 firstWaiting w = entryOf (getD (w .entries) (slotAt (w .pair .entries .head) 0) [])
 
 -- an entry is there if the message takes one, and a SEND fits it
-pub record Supplied (w : Whole) (m : Message) : Type 0 where
+pub record HasEntry (w : Whole) (m : Message) : Type 0 where
   pub some : takesEntry (m .request) ≡ true → 1 ≤ w .pair .entries .count
   pub long : AtLeast (firstWaiting w .length) (m .request) (length (m .bytes))
 
@@ -121,9 +121,9 @@ handedAll x m first =
 -- Its function is enabled, and the bytes that a WRITE names lie in the region of its key.
 abbrev pub HandedWhole : Type 0
 HandedWhole =
-    (outs : ℕ → List ℕ) (m : Message) (first : Psn) (x : Run) → Comes outs m first x
+    (outs : ℕ → List ℕ) (m : Message) (first : Psn) (x : Run) → MessageArrives outs m first x
     → Allowed (x .whole .pair .setup) (x .whole .regions) (m .request) (length (m .bytes))
-    → Supplied (x .whole) m
+    → HasEntry (x .whole) m
     → handed outs m first x 0 (replicate (packetCount m) true) ≡ handedAll x m first
 
 -- The pair does not take a later packet of the message for one of a message that is open already: none of its kind is
@@ -146,7 +146,7 @@ pub record Unreported (x y : Run) : Type 0 where
 -- Whichever packets are lost. Where the first was handed in, nothing is asked of what came before.
 abbrev pub HandedInPart : Type 0
 HandedInPart =
-    (outs : ℕ → List ℕ) (m : Message) (first : Psn) (x : Run) (chosen : List Bool) → Comes outs m first x
+    (outs : ℕ → List ℕ) (m : Message) (first : Psn) (x : Run) (chosen : List Bool) → MessageArrives outs m first x
     → length chosen ≡ packetCount m
     → Lost chosen (packetCount m)
     → (getD chosen 0 false ≡ true) ⊎ Apart (x .whole) m first
@@ -173,13 +173,13 @@ Foreign m first (a ∷ rest) = ((i : ℕ) → suc i < packetCount m → bthOf (a
 -- Whatever a pair hears, it stays as the claims ask, and a pair that is apart stays so if all of it was foreign.
 abbrev pub ComesOn : Type 0
 ComesOn =
-    (outs : ℕ → List ℕ) (m : Message) (first : Psn) (x : Run) (before : List Arrival) → Comes outs m first x
+    (outs : ℕ → List ℕ) (m : Message) (first : Psn) (x : Run) (before : List Arrival) → MessageArrives outs m first x
     → AllBytes before
-    → Comes outs m first (heard x before)
+    → MessageArrives outs m first (heard x before)
 
 abbrev pub ApartOn : Type 0
 ApartOn =
-    (outs : ℕ → List ℕ) (m : Message) (first : Psn) (x : Run) (before : List Arrival) → Comes outs m first x
+    (outs : ℕ → List ℕ) (m : Message) (first : Psn) (x : Run) (before : List Arrival) → MessageArrives outs m first x
     → AllBytes before
     → Apart (x .whole) m first
     → Foreign m first before
@@ -188,16 +188,16 @@ ApartOn =
 -- So both claims hold after any packets.
 abbrev pub WholeAfter : Type 0
 WholeAfter =
-    (outs : ℕ → List ℕ) (m : Message) (first : Psn) (x : Run) (before : List Arrival) → Comes outs m first x
+    (outs : ℕ → List ℕ) (m : Message) (first : Psn) (x : Run) (before : List Arrival) → MessageArrives outs m first x
     → AllBytes before
     → let y = heard x before in
     Allowed (y .whole .pair .setup) (y .whole .regions) (m .request) (length (m .bytes))
-    → Supplied (y .whole) m
+    → HasEntry (y .whole) m
     → handed outs m first y 0 (replicate (packetCount m) true) ≡ handedAll y m first
 
 abbrev pub PartAfter : Type 0
 PartAfter =
-    (outs : ℕ → List ℕ) (m : Message) (first : Psn) (x : Run) (before : List Arrival) (chosen : List Bool) → Comes outs m first x
+    (outs : ℕ → List ℕ) (m : Message) (first : Psn) (x : Run) (before : List Arrival) (chosen : List Bool) → MessageArrives outs m first x
     → AllBytes before
     → length chosen ≡ packetCount m
     → Lost chosen (packetCount m)

@@ -12,8 +12,8 @@ msn-by-requires c κs = search needs
 entries-by-requires : tie.Need-entries-by-requires
 entries-by-requires c κs = search needs
 
-read-by-requires : tie.Need-read-by-requires
-read-by-requires c κs = search needs
+read-answer-by-requires : tie.Need-read-answer-by-requires
+read-answer-by-requires c κs = search needs
 
 saved-ring-by-requires : tie.Need-saved-ring-by-requires
 saved-ring-by-requires c κs = search needs
@@ -23,7 +23,7 @@ unfolding executedPair
 returns c =
     let c1 = c .before in let c3 = c1 .before .before in let c5 = c3 .before .before in let c7 = c5 .before .before in
     let c8 = c7 .before in
-    simp (c8 .psn-after .ensures, ← c7 .msn-by .ensures, ← c5 .entries-by .ensures, ← c3 .read-by .ensures, ← c1 .saved-ring-by .ensures)
+    simp (c8 .psn-after .ensures, ← c7 .msn-by .ensures, ← c5 .entries-by .ensures, ← c3 .read-answer-by .ensures, ← c1 .saved-ring-by .ensures)
 
 pub executed-pair-spec : {M : Type 1} → statement M
 executed-pair-spec =
@@ -32,6 +32,6 @@ executed-pair-spec =
     psn-after-requires
     msn-by-requires
     entries-by-requires
-    read-by-requires
+    read-answer-by-requires
     saved-ring-by-requires
     returns)

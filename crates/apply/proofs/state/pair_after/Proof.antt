@@ -1,12 +1,12 @@
 use Rattle.pair.specs.Answer.{statusNumber}
-use Rattle.responder_spec.specs.Apply.{after, pairBy}
+use Rattle.responder_spec.specs.Apply.{pairByNumber, pairBy}
 use borrow.Author.Needs.{needs}
 use Rattle.apply.proofs.state.pair_after.Statement.{statement}
 use Rattle.apply.proofs.state.pair_after.Tie as tie
 use Rattle.apply.proofs.state.closing.Reads as closing-reads
 use Rattle.apply.proofs.state.executed_pair.Reads as executed-pair-reads
 use Rattle.apply.proofs.state.executes.Reads as executes-reads
-use Rattle.apply.proofs.state.read_by.Reads as read-by-reads
+use Rattle.apply.proofs.state.read_answer_by.Reads as read-answer-by-reads
 use Rattle.pair.proofs.Status.is.Reads as is-reads
 
 executes-requires : tie.Need-executes-requires
@@ -16,26 +16,26 @@ executed-pair-requires : tie.Need-executed-pair-requires
 executed-pair-requires c κs = search needs
 
 returns : tie.Need-returns
-unfolding statusNumber after pairBy
+unfolding statusNumber pairByNumber pairBy
 returns c = simp (← c .before .before .executes .ensures, c .before .if1 .taken, ← c .executed-pair .ensures)
 
 is-requires : tie.Need-is-requires
 is-requires c κs = search needs
 
-read-by-requires : tie.Need-read-by-requires
-read-by-requires c κs = search needs
+read-answer-by-requires : tie.Need-read-answer-by-requires
+read-answer-by-requires c κs = search needs
 
 returns-2 : tie.Need-returns-2
-unfolding statusNumber after pairBy
+unfolding statusNumber pairByNumber pairBy
 returns-2 c =
     let c2 = c .before .before in let c3 = c2 .before in let c4 = c3 .before in let c5 = c4 .before in
-    simp (← c5 .executes .ensures, c4 .if1 .left, ← c3 .is .ensures, c2 .if2 .taken, ← c .read-by .ensures)
+    simp (← c5 .executes .ensures, c4 .if1 .left, ← c3 .is .ensures, c2 .if2 .taken, ← c .read-answer-by .ensures)
 
 is-requires-2 : tie.Need-is-requires-2
 is-requires-2 c κs = search needs
 
 returns-3 : tie.Need-returns-3
-unfolding statusNumber after pairBy
+unfolding statusNumber pairByNumber pairBy
 returns-3 c =
     let c1 = c .before in let c2 = c1 .before in let c3 = c2 .before in let c4 = c3 .before in let c5 = c4 .before in
     simp (← c5 .executes .ensures, c4 .if1 .left, ← c3 .is .ensures, c2 .if2 .left, ← c1 .is2 .ensures, c .if3 .taken)
@@ -44,7 +44,7 @@ is-requires-3 : tie.Need-is-requires-3
 is-requires-3 c κs = search needs
 
 returns-4 : tie.Need-returns-4
-unfolding statusNumber after pairBy
+unfolding statusNumber pairByNumber pairBy
 returns-4 c =
     let c1 = c .before in let c2 = c1 .before in let c3 = c2 .before in let c4 = c3 .before in let c5 = c4 .before in
     let c6 = c5 .before in let c7 = c6 .before in
@@ -54,7 +54,7 @@ is-requires-4 : tie.Need-is-requires-4
 is-requires-4 c κs = search needs
 
 returns-5 : tie.Need-returns-5
-unfolding statusNumber after pairBy
+unfolding statusNumber pairByNumber pairBy
 returns-5 c =
     let c1 = c .before in let c2 = c1 .before in let c3 = c2 .before in let c4 = c3 .before in let c5 = c4 .before in
     let c6 = c5 .before in let c7 = c6 .before in let c8 = c7 .before in let c9 = c8 .before in
@@ -64,7 +64,7 @@ is-requires-5 : tie.Need-is-requires-5
 is-requires-5 c κs = search needs
 
 returns-6 : tie.Need-returns-6
-unfolding statusNumber after pairBy
+unfolding statusNumber pairByNumber pairBy
 returns-6 c =
     let c1 = c .before in let c2 = c1 .before in let c3 = c2 .before in let c4 = c3 .before in let c5 = c4 .before in
     let c6 = c5 .before in let c7 = c6 .before in let c8 = c7 .before in let c9 = c8 .before in let c10 = c9 .before in
@@ -78,7 +78,7 @@ closing-requires : tie.Need-closing-requires
 closing-requires c κs = search needs
 
 returns-7 : tie.Need-returns-7
-unfolding statusNumber after pairBy
+unfolding statusNumber pairByNumber pairBy
 returns-7 c =
     let c1 = c .before in let c2 = c1 .before in let c3 = c2 .before in let c4 = c3 .before in let c5 = c4 .before in
     let c6 = c5 .before in let c7 = c6 .before in let c8 = c7 .before in let c9 = c8 .before in let c10 = c9 .before in
@@ -86,7 +86,7 @@ returns-7 c =
     simp (← c14 .executes .ensures, c13 .if1 .left, ← c12 .is .ensures, c11 .if2 .left, ← c10 .is2 .ensures, c9 .if3 .left, ← c8 .is3 .ensures, c7 .if4 .left, ← c6 .is4 .ensures, c5 .if5 .left, ← c4 .is5 .ensures, c3 .if6 .left, ← c2 .is6 .ensures, c1 .if7 .taken, ← c .closing .ensures)
 
 returns-8 : tie.Need-returns-8
-unfolding statusNumber after pairBy
+unfolding statusNumber pairByNumber pairBy
 returns-8 c =
     let c1 = c .before in let c2 = c1 .before in let c3 = c2 .before in let c4 = c3 .before in let c5 = c4 .before in
     let c6 = c5 .before in let c7 = c6 .before in let c8 = c7 .before in let c9 = c8 .before in let c10 = c9 .before in
@@ -101,7 +101,7 @@ pair-after-spec =
     executed-pair-requires
     returns
     is-requires
-    read-by-requires
+    read-answer-by-requires
     returns-2
     is-requires-2
     returns-3
