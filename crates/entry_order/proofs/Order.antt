@@ -28,7 +28,7 @@ use Rattle.responder_spec.specs.Entries.{Uses}
 use Rattle.responder_spec.specs.declared.Completion.{Completion}
 use Rattle.responder_spec.proofs.Uses.{inbound-uses, next-uses}
 use Rattle.entry_order.specs.Order.{AnyCall, History, newHistory, goes, hosted, historyAfter, ran, PostingOrder, EntriesInOrder, SinceSetUp, SinceReset}
-use Rattle.entry_order.specs.Order.Call.{Host, Inbound, Next}
+use Rattle.entry_order.specs.Order.AnyCall.{Host, Inbound, Next}
 
 -- what is kept: the entries held and waiting are the rows of the ring, and the table has 16 rows
 record Kept (posted : List (List ℕ)) (reported : List Completion) (rows : List (List ℕ)) (r : Ring) : Type 0 where

@@ -187,7 +187,7 @@ only-by old new at size offset n k b a lo hi =
     record {
       kept = k;
       before = sym (take-take offset at new lo) ∙ (ap (take offset) b ∙ take-take offset at old lo);
-      pairByNumber =
+      after =
           subst (λ j. drop j new ≡ drop j old) e
           (sym (drop-drop r (at + size) new) ∙ (ap (drop r) a ∙ drop-drop r (at + size) old));
     }
