@@ -17,7 +17,7 @@ use Rattle.request_spec.specs.declared.Packet.{Packet}
 use Rattle.request_checks.proofs.Keys.{none-stored-yet}
 use Rattle.responder_spec.specs.Decide.{targetOffset}
 use Rattle.responder_spec.proofs.Codes.{Passed}
-use Rattle.responder_spec.proofs.Inside.{key-inside, own-inside, total, write-total, place-inside}
+use Rattle.responder_spec.proofs.Inside.{key-inside, own-inside, total, write-total, target-inside}
 use Rattle.execute.specs.Fits.{OffsetFits, TargetFits, Storable, Executable, unformed}
 
 -- a number below 2^64 is its own remainder
@@ -103,7 +103,7 @@ module _ (s : Setup) (opened : OpenMessage) (p : Packet) (entry region : List �
   sum c = go (eqb (p .kind) 0) refl
     where
       go : (b : Bool) → eqb (p .kind) 0 ≡ b → m .stored + payloadSize p < 2 ^ 64
-      go true e = omega (arith, to-entry (eqb-true (p .kind) 0 e), place-inside s opened p entry region P c)
+      go true e = omega (arith, to-entry (eqb-true (p .kind) 0 e), target-inside s opened p entry region P c)
       go false e =
           omega (arith, write-total (p .kind) (p .place) (m .stored) (payloadSize p) (m .length) (getD entry 2 0) e (total p (s .pmtu) m (getD entry 2 0) c (P .lengths)))
 
@@ -111,7 +111,7 @@ module _ (s : Setup) (opened : OpenMessage) (p : Packet) (entry region : List �
   targets : carrying (p .kind) ≡ true → TargetFits (p .kind) m entry region
   targets c =
       record {
-        send = λ e. omega (arith, to-entry e, place-inside s opened p entry region P c);
+        send = λ e. omega (arith, to-entry e, target-inside s opened p entry region P c);
         address = λ k some. key-below (s .memory) (p .kind) m region k some (P .key);
         offset = λ k. omega (arith, key-inside (p .kind) (s .memory) m region (ne-eqb (p .kind) 0 k) (P .key));
       }

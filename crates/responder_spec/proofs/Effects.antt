@@ -48,7 +48,7 @@ use Rattle.responder_spec.specs.Effects.{OnWord, Swaps, Table, InboundTa
 use Rattle.responder_spec.proofs.Codes.Bare.{reads, swaps, adds}
 use Rattle.responder_spec.proofs.Codes.{Bare, class-is}
 use Rattle.responder_spec.proofs.Rows.Quiet.{dropped, short, range, unfinished}
-use Rattle.responder_spec.proofs.Rows.Row.{quiet, ahead, invalid, access, unready, ackDuplicate, readDuplicate, atomicDuplicate, place, begin, swap}
+use Rattle.responder_spec.proofs.Rows.Row.{quiet, ahead, invalid, access, unready, ackDuplicate, readDuplicate, atomicDuplicate, stored, begin, swap}
 use Rattle.responder_spec.proofs.Rows.UcRow.{unheard, abandon, deliver}
 use Rattle.responder_spec.proofs.Rows.AnyRow.{reliable, unreliable}
 use Rattle.responder_spec.proofs.Rows.{Quiet, Asks, Row, UcRow, AnyRow, either, numbersOf, decided-row}
@@ -198,10 +198,10 @@ module _ (q : Pair) (regions saved : List (List ℕ)) (m p out : List ℕ) where
   unfolding outBy over answerBytes
   nothing-out d msn e = rw e
 
-  place-few : (b : Bool) → statusNumber (cond b status.Acknowledged status.Executed) ≤ 3
+  stored-few : (b : Bool) → statusNumber (cond b status.Acknowledged status.Executed) ≤ 3
   unfolding statusNumber
-  place-few true = omega arith
-  place-few false = omega arith
+  stored-few true = omega arith
+  stored-few false = omega arith
 
   -- no more bytes than the packet carries
   payload-most : length (payloadOf p) ≤ payloadSize (numbersOf p)
@@ -209,17 +209,17 @@ module _ (q : Pair) (regions saved : List (List ℕ)) (m p out : List ℕ) where
   payload-most = omega (arith, payload-size p)
 
   -- what a message's end does
-  message-by : (t : OpenMessage) (memoryOffset size : ℕ) → 2 ≤ memoryOffset → messageAfter memoryOffset t size ≡ noMessage
+  message-by : (t : OpenMessage) (place size : ℕ) → 2 ≤ place → messageAfter place t size ≡ noMessage
   unfolding messageAfter ends
-  message-by t memoryOffset size h = rw (le-leb 2 memoryOffset h)
+  message-by t place size h = rw (le-leb 2 place h)
 
-  ended : (memoryOffset : ℕ) → 2 ≤ memoryOffset → msnBy (ends memoryOffset) (q .msn) ≡ msnNext (q .msn)
+  ended : (place : ℕ) → 2 ≤ place → msnBy (ends place) (q .msn) ≡ msnNext (q .msn)
   unfolding msnBy ends
-  ended memoryOffset h = rw (le-leb 2 memoryOffset h)
+  ended place h = rw (le-leb 2 place h)
 
-  goes-on : (memoryOffset : ℕ) → memoryOffset < 2 → msnBy (ends memoryOffset) (q .msn) ≡ q .msn
+  goes-on : (place : ℕ) → place < 2 → msnBy (ends place) (q .msn) ≡ q .msn
   unfolding msnBy ends
-  goes-on memoryOffset h = rw (lt-leb 2 memoryOffset h)
+  goes-on place h = rw (lt-leb 2 place h)
 
   silent-by : (k : Packet) (t : OpenMessage) (number : ℕ) → k .place < 2 → Silent (completionOf k t number)
   unfolding completionOf completes ends
@@ -230,13 +230,13 @@ module _ (q : Pair) (regions saved : List (List ℕ)) (m p out : List ℕ) where
   entries-by b c e = rw e
 
   -- whatever the answer and however many PSNs are taken, by the rule of the service
-  places-by : (a : Status) (n outgoing : ℕ) (t : OpenMessage) (entry region : List ℕ) → statusNumber a ≤ 3
+  stores-packet-by : (a : Status) (n outgoing : ℕ) (t : OpenMessage) (entry region : List ℕ) → statusNumber a ≤ 3
       → ((q .setup .service ≡ 1 → ⊥) → psnAfter (q .expected) n ≡ psnAfter (q .expected) 1)
       → (q .setup .service ≡ 1 → psnAfter (q .expected) n ≡ psnAfter (bthOf p .psn) 1)
       → targetOffset (numbersOf p .kind) t entry region + payloadSize (numbersOf p) ≤ q .setup .memory
       → StoresPacket q saved m p (L (answering a n outgoing (storePayload (numbersOf p) t entry region)))
   unfolding leftBy outcomeBy storePayload executedPair readAnswerBy savedRingBy savedBy actsAtomic memoryBy ringTaken slotAt packetOf headerOf
-  places-by a n outgoing t entry region few rc uc w =
+  stores-packet-by a n outgoing t entry region few rc uc w =
       let k = numbersOf p in
       let d = answering a n outgoing (storePayload k t entry region) in
       let e : pairBy q d ≡ executedPair q d = ran d few in
@@ -254,15 +254,15 @@ module _ (q : Pair) (regions saved : List (List ℕ)) (m p out : List ℕ) where
         saved = refl;
       }
 
-  place-by : eqb (q .setup .service) 1 ≡ false → (t : OpenMessage) (entry region : List ℕ)
+  stored-by : eqb (q .setup .service) 1 ≡ false → (t : OpenMessage) (entry region : List ℕ)
       → targetOffset (numbersOf p .kind) t entry region + payloadSize (numbersOf p) ≤ q .setup .memory
       → Effect (cond (numbersOf p .ackreq) status.Acknowledged status.Executed) (L (storePayload (numbersOf p) t entry region))
   unfolding leftBy outcomeBy storePayload
-  place-by r t entry region w =
+  stored-by r t entry region w =
       let k = numbersOf p in
       let d = storePayload k t entry region in
       status-of (k .ackreq) (L d)
-      (places-by (d .status) 1 (d .outgoing) t entry region (place-few (k .ackreq)) (λ h. refl) (λ h. absurd (eqb-false (q .setup .service) 1 r h)) w) refl
+      (stores-packet-by (d .status) 1 (d .outgoing) t entry region (stored-few (k .ackreq)) (λ h. refl) (λ h. absurd (eqb-false (q .setup .service) 1 r h)) w) refl
       (λ e. nothing-out d (pairBy q d .msn) (ap (λ b. cond b 16 0) e))
 
   deliver-by : eqb (q .setup .service) 1 ≡ true → (t : OpenMessage) (entry region : List ℕ)
@@ -272,7 +272,7 @@ module _ (q : Pair) (regions saved : List (List ℕ)) (m p out : List ℕ) where
   deliver-by r t entry region w =
       let n = 1 + distance (bthOf p .psn .0) (q .expected .0) in
       let d = unanswered n (storePayload (numbersOf p) t entry region) in (
-        places-by status.Executed n 0 t entry region (omega arith) (λ h. absurd (h (eqb-true (q .setup .service) 1 r))) (λ h. number-taken (bthOf p .psn) (q .expected)) w,
+        stores-packet-by status.Executed n 0 t entry region (omega arith) (λ h. absurd (h (eqb-true (q .setup .service) 1 r))) (λ h. number-taken (bthOf p .psn) (q .expected)) w,
         refl,
         nothing-out d (pairBy q d .msn) refl,
       )
@@ -405,7 +405,7 @@ module _ (q : Pair) (regions saved : List (List ℕ)) (m p out : List ℕ) where
         unexecuted = unexecuted-by status.DuplicateAnswered 24 (bthOf p .psn) 31 v;
         answer = inl (inr refl, refl);
       }
-  effect c d (place t entry region w) = place-by c t entry region w
+  effect c d (stored t entry region w) = stored-by c t entry region w
   effect c d (begin at n a s) = begin-by at n a s
   effect c d (swap t region w) = swap-by t region w
 

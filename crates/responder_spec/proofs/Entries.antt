@@ -59,8 +59,8 @@ module _ (q : Pair) (rows : List (List ℕ)) (bytes p output : List ℕ) (l : Le
         out = A .out;
       }
 
-  places-keeps : StoresPacket q rows bytes p l → l .outgoing ≡ 0 → l .out ≡ output → UcKeeps q rows output l
-  places-keeps X s o =
+  stores-keeps : StoresPacket q rows bytes p l → l .outgoing ≡ 0 → l .out ≡ output → UcKeeps q rows output l
+  stores-keeps X s o =
       record {
         setup = X .executed .setup;
         state = X .executed .state;
@@ -85,7 +85,7 @@ uc-leaves q regions entries saved m p out s = go (uc-answers q regions entries s
     quiet h = unchanged-keeps q saved m p out l (T .quiet h)
 
     go : OneOf (0 ∷ 5 ∷ 6 ∷ 32 ∷ 34 ∷ 35 ∷ []) (l .number) → UcKeeps q saved out l
-    go (inl e) = let E = T .executes e in places-keeps q saved m p out l (E .0) (E .1) (E .2)
+    go (inl e) = let E = T .executes e in stores-keeps q saved m p out l (E .0) (E .1) (E .2)
     go (inr (inl e)) = quiet (inl e)
     go (inr (inr (inl e))) = abandons-keeps q saved m p out l (T .abandons e)
     go (inr (inr (inr (inl e)))) = quiet (inr (omega (arith, e)))

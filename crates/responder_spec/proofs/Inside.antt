@@ -72,10 +72,10 @@ unfolding entryOutside usesEntry outside
 entry-inside kind immediate entry memory e h = ltb-false memory (getD entry 1 0 + getD entry 2 0) (rw e at h)
 
 -- so each packet's bytes lie in memory
-pub place-inside : (s : Setup) (opened : OpenMessage) (p : Packet) (entry region : List ℕ) → Passed s opened p entry region → carrying (p .kind) ≡ true
+pub target-inside : (s : Setup) (opened : OpenMessage) (p : Packet) (entry region : List ℕ) → Passed s opened p entry region → carrying (p .kind) ≡ true
     → targetOffset (p .kind) (current opened p) entry region + payloadSize p ≤ s .memory
 unfolding targetOffset
-place-inside s opened p entry region P c = go (eqb (p .kind) 0) refl
+target-inside s opened p entry region P c = go (eqb (p .kind) 0) refl
   where
     m : OpenMessage
     m = current opened p

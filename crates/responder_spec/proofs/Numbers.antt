@@ -16,7 +16,7 @@ use Rattle.responder_spec.specs.Decide.{noReply, acknowledging, storePay
 use Rattle.responder_spec.specs.Inbound.{outcomeBy, decision, inbound}
 use Rattle.responder_spec.specs.Effects.{OneOf, InboundNumbers, UcNumbers}
 use Rattle.responder_spec.proofs.Rows.Quiet.{dropped, short, range, unfinished}
-use Rattle.responder_spec.proofs.Rows.Row.{quiet, ahead, invalid, access, unready, ackDuplicate, readDuplicate, atomicDuplicate, place, begin, swap}
+use Rattle.responder_spec.proofs.Rows.Row.{quiet, ahead, invalid, access, unready, ackDuplicate, readDuplicate, atomicDuplicate, stored, begin, swap}
 use Rattle.responder_spec.proofs.Rows.UcRow.{unheard, abandon, deliver}
 use Rattle.responder_spec.proofs.Rows.AnyRow.{reliable, unreliable}
 use Rattle.responder_spec.proofs.Rows.{Quiet, Row, UcRow, AnyRow, numbersOf, decided-row}
@@ -35,10 +35,10 @@ quiet-numbers a short =
 quiet-numbers a range = (inr (inr (inr (inr (inr (inr (inr (inr (inr (inr (inr (inl refl))))))))))), inr (inr (inr (inr (inl refl)))))
 quiet-numbers a unfinished = (inr (inr (inr (inr (inr (inr (inr (inr (inr (inr (inl refl)))))))))), inr (inr (inr (inl refl))))
 
-place-numbers : (b : Bool) → Rc (statusNumber (cond b status.Acknowledged status.Executed))
+stored-psns : (b : Bool) → Rc (statusNumber (cond b status.Acknowledged status.Executed))
 unfolding statusNumber
-place-numbers true = inr (inl refl)
-place-numbers false = inl refl
+stored-psns true = inr (inl refl)
+stored-psns false = inl refl
 
 module _ (q : Pair) (regions saved : List (List ℕ)) (k : Packet) where
   psns : (d : Decision) → Row Quiet q regions saved k d → Rc (statusNumber (d .status))
@@ -51,7 +51,7 @@ module _ (q : Pair) (regions saved : List (List ℕ)) (k : Packet) where
   psns d ackDuplicate = inr (inr (inr (inr (inl refl))))
   psns d (readDuplicate at n a s) = inr (inr (inr (inr (inl refl))))
   psns d (atomicDuplicate v e) = inr (inr (inr (inr (inl refl))))
-  psns d (place t entry region w) = place-numbers (k .ackreq)
+  psns d (stored t entry region w) = stored-psns (k .ackreq)
   psns d (begin at n a s) = inr (inr (inl refl))
   psns d (swap t region w) = inr (inr (inr (inl refl)))
 

@@ -26,7 +26,7 @@ use Rattle.responder_spec.specs.Effects.{InboundShort, InboundRange, Inb
 use Rattle.responder_spec.specs.Effects.{InboundAnswered, InboundMeant, NextRefused, NextNone, NextShort}
 use Rattle.responder_spec.specs.Effects.{NextRange, NextDone, NextAnswers}
 use Rattle.responder_spec.proofs.Rows.Late.{unread, outside}
-use Rattle.responder_spec.proofs.Rows.Row.{quiet, ahead, invalid, access, unready, ackDuplicate, readDuplicate, atomicDuplicate, place, begin, swap}
+use Rattle.responder_spec.proofs.Rows.Row.{quiet, ahead, invalid, access, unready, ackDuplicate, readDuplicate, atomicDuplicate, stored, begin, swap}
 use Rattle.responder_spec.proofs.Rows.UcRow.{unheard, abandon, deliver}
 use Rattle.responder_spec.proofs.Rows.AnyRow.{reliable, unreliable}
 use Rattle.responder_spec.proofs.Rows.{UcRow, AnyRow, Late, Row, numbersOf, taken-row}
@@ -80,7 +80,7 @@ late Q T f g q regions saved k d unready = g status.NotReadyNak (omega arith)
 late Q T f g q regions saved k d ackDuplicate = g status.DuplicateAnswered (omega arith)
 late Q T f g q regions saved k d (readDuplicate at n a s) = g status.DuplicateAnswered (omega arith)
 late Q T f g q regions saved k d (atomicDuplicate v e) = g status.DuplicateAnswered (omega arith)
-late Q T f g q regions saved k d (place t entry region w) = go (k .ackreq)
+late Q T f g q regions saved k d (stored t entry region w) = go (k .ackreq)
   where
     go : (b : Bool) → T (cond b status.Acknowledged status.Executed)
     go true = g status.Acknowledged (omega arith)

@@ -48,7 +48,7 @@ use Rattle.responder_spec.specs.Effects.{Left}
 use Rattle.responder_spec.specs.Replies.{AckSent, ValueSent, Replies, InboundReplies}
 use Rattle.responder_spec.proofs.Rows.Quiet.{dropped, short, range, unfinished}
 use Rattle.responder_spec.proofs.Rows.Late.{unread, outside}
-use Rattle.responder_spec.proofs.Rows.Row.{quiet, ahead, invalid, access, unready, ackDuplicate, readDuplicate, atomicDuplicate, place, begin, swap}
+use Rattle.responder_spec.proofs.Rows.Row.{quiet, ahead, invalid, access, unready, ackDuplicate, readDuplicate, atomicDuplicate, stored, begin, swap}
 use Rattle.responder_spec.proofs.Rows.UcRow.{unheard, abandon, deliver}
 use Rattle.responder_spec.proofs.Rows.AnyRow.{reliable, unreliable}
 use Rattle.responder_spec.proofs.Rows.{UcRow, AnyRow, Quiet, Late, Row, either, numbersOf, passed, refusal-quiet, taken-row}
@@ -266,7 +266,7 @@ module _ (q : Pair) (saved : List (List ℕ)) (m p out : List ℕ) where
           value-sent q saved m p out S P (replyOnly status.DuplicateAnswered 24 (bthOf p .psn) 31 v) v refl (psn-small p B)
               refl refl (subst Small e (saved-small (bthOf p .psn .0) saved (q .saved) W)),
         ))
-    reply regions d (place t entry region w) = store-reply t entry region (numbersOf p .ackreq) refl
+    reply regions d (stored t entry region w) = store-reply t entry region (numbersOf p .ackreq) refl
     reply regions d (begin at n a s) = tt
     reply regions d (swap t region w) = swap-reply t region
 

@@ -49,7 +49,7 @@ use Rattle.responder_spec.specs.Decide.{abandoning, unanswered, ucExecut
 use Rattle.responder_spec.specs.Decide.{packetDecision, orDrop, readsFull, inboundRefusal, decided}
 use Rattle.responder_spec.proofs.Codes.Bare.{reads, swaps, adds}
 use Rattle.responder_spec.proofs.Codes.{Codes, codes, Passed, passes, Bare, class-is}
-use Rattle.responder_spec.proofs.Inside.{own-inside, place-inside}
+use Rattle.responder_spec.proofs.Inside.{own-inside, target-inside}
 use Rattle.responder_spec.proofs.Views.{viewed, current-closed, same-code, stray-open}
 
 -- the answers with nothing sent and nothing done, and those of them that come after the packet was looked at
@@ -81,7 +81,7 @@ pub data Row (Q : Status → Type 0) (q : Pair) (regions saved : List (List ℕ)
   readDuplicate : (at n : ℕ) → Asks (q .setup .memory) regions p at n → 0 < pieces n (q .setup .pmtu)
       → Row Q q regions saved p (beginRead status.DuplicateAnswered noMessage at n 0 false (pieces n (q .setup .pmtu)) (p .psn))
   atomicDuplicate : (v : ℕ) → newestSaved (p .psn .0) saved (q .saved) ≡ Value v → Row Q q regions saved p (replyOnly status.DuplicateAnswered 24 (p .psn) 31 v)
-  place : (m : OpenMessage) (entry region : List ℕ) → targetOffset (p .kind) m entry region + payloadSize p ≤ q .setup .memory
+  stored : (m : OpenMessage) (entry region : List ℕ) → targetOffset (p .kind) m entry region + payloadSize p ≤ q .setup .memory
       → Row Q q regions saved p (storePayload p m entry region)
   begin : (at n : ℕ) → Asks (q .setup .memory) regions p at n → 0 < pieces n (q .setup .pmtu)
       → Row Q q regions saved p (beginRead status.ReadAccepted (q .message) at n (pieces n (q .setup .pmtu)) true (pieces n (q .setup .pmtu)) (p .psn))
@@ -183,7 +183,7 @@ module _ (Q : Status → Type 0) (shut : Q status.Dropped) (q : Pair) (regions e
   unfolding execute acceptRead
   execute-row entry P =
       branch R (carrying (p .kind))
-      (λ c. place M entry (regionBy q regions p) (place-inside (q .setup) (q .message) p entry (regionBy q regions p) P c))
+      (λ c. stored M entry (regionBy q regions p) (target-inside (q .setup) (q .message) p entry (regionBy q regions p) P c))
       (λ c. branch R (eqb (p .kind) 12)
       (λ e. begin (memoryOffset (regionBy q regions p) (M .address) (M .length)) (M .length) (asks (eqb-true (p .kind) 12 e) (p .kind) (not-send e) (P .key)) (count-some q S (M .length)))
       (λ e. swap M (regionBy q regions p) (eight-inside (atomic-kind (q .setup) (p .kind) (P .enabled) c e) (P .key))))
@@ -262,7 +262,7 @@ module _ (Q : Status → Type 0) (shut : Q status.Dropped) (q : Pair) (regions e
       (λ z. branch U (carrying (p .kind))
       (λ c. deliver (current (q .message) p) entry region
       (subst (λ m. targetOffset (p .kind) m entry region + payloadSize p ≤ q .setup .memory) (current-closed (q .message) p)
-      (place-inside (q .setup) (closedBy (p .place) (q .message)) p entry region (P (eqb-true code 0 z)) c)))
+      (target-inside (q .setup) (closedBy (p .place) (q .message)) p entry region (P (eqb-true code 0 z)) c)))
       (λ c. unheard status.Dropped shut))
       (λ z. branch U (eqb code 34) (λ e. unheard status.OutOfRange (o (eqb-true code 34 e)))
       (λ e. branch U (eqb (q .message .kind) 255) (λ f. unheard status.Dropped shut) (λ f. abandon (eqb-false (q .message .kind) 255 f))))

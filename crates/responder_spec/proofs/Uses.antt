@@ -27,7 +27,7 @@ use Rattle.responder_spec.specs.Answers.{packetIn}
 use Rattle.responder_spec.specs.Entries.{Uses, InboundUses, NextUses}
 use Rattle.responder_spec.proofs.Codes.{some-entry}
 use Rattle.responder_spec.proofs.Checked.{checked}
-use Rattle.responder_spec.proofs.Rows.Row.{quiet, ahead, invalid, access, unready, ackDuplicate, readDuplicate, atomicDuplicate, place, begin, swap}
+use Rattle.responder_spec.proofs.Rows.Row.{quiet, ahead, invalid, access, unready, ackDuplicate, readDuplicate, atomicDuplicate, stored, begin, swap}
 use Rattle.responder_spec.proofs.Rows.UcRow.{unheard, abandon, deliver}
 use Rattle.responder_spec.proofs.Rows.AnyRow.{reliable, unreliable}
 use Rattle.responder_spec.proofs.Rows.{Quiet, Row, UcRow, AnyRow, either, decided-row}
@@ -136,7 +136,7 @@ module _ (q : Pair) (regions entries : List (List ℕ)) (k : Packet) where
   silent saved d ackDuplicate o = refl
   silent saved d (readDuplicate at n a s) o = refl
   silent saved d (atomicDuplicate v e) o = refl
-  silent saved d (place t row region w) o = absurd (few-apart (k .ackreq) o)
+  silent saved d (stored t row region w) o = absurd (few-apart (k .ackreq) o)
   silent saved d (begin at n a s) o = refl
   silent saved d (swap t region w) o = refl
 
