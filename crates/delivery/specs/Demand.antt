@@ -4,8 +4,9 @@ use mathlib.Core.Path.{_≡_}
 use mathlib.Core.Bool.{Bool, true, false}
 use mathlib.Core.List.{List, [], _∷_, _++_, map}
 use mathlib.Core.Logic.{_⊎_}
-use lib.ListN.{getD, length}
+use lib.ListN.{length}
 use Rattle.header.specs.Check.{pkeysMatch}
+use Rattle.table.specs.EntryRow as EntryRow
 use Rattle.table.specs.Table.{regionRow}
 use Rattle.table.specs.View.{regionOf}
 use Rattle.table.specs.declared.Region.{Region}
@@ -148,7 +149,7 @@ AllCallsPermitted s regions ms S p (c ∷ cs) = CallPermitted s ms S p c × AllC
 
 -- the entries that wait at the start
 abbrev pub entryOf : List ℕ → Entry
-entryOf row = record { number = getD row 0 0; offset = getD row 1 0; length = getD row 2 0 }
+entryOf row = record { number = EntryRow.number row; offset = EntryRow.offset row; length = EntryRow.length row }
 
 abbrev pub waitingAt : Whole → List Entry
 waitingAt w = map entryOf (entriesOf (w .pair) (w .entries))

@@ -4,13 +4,14 @@ use Prim.Native.Nat.{ℕ, suc, _+_, _-_, _*_}
 use mathlib.Core.Bool.{Bool, true, false, cond, not, _&&_}
 use mathlib.Core.List.{List, [], _∷_, _++_}
 use lib.Dec.{leb, ltb, eqb}
-use lib.ListN.{getD, length, take, drop}
+use lib.ListN.{length, take, drop}
 use Rattle.sequence.specs.Sequence.{psnAfter, msnNext}
 use Rattle.sequence.specs.declared.Psn.{Psn}
 use Rattle.sequence.specs.declared.Msn.{Msn}
 use Rattle.memory.specs.Memory.{overwrite}
 use Rattle.memory.specs.Word.{fetchAdded, swapped}
 use Rattle.pmtu.specs.Pieces.{pieceAt}
+use Rattle.table.specs.RegionRow as RegionRow
 use Rattle.table.specs.View.{regionOf}
 use Rattle.table.specs.declared.Entry.{Entry}
 use Rattle.pair.specs.declared.Setup.{Setup}
@@ -73,7 +74,7 @@ completionFor (FetchAdd t v) e n = completionWith e n false 0
 -- where in memory the address of a region lies
 unfoldable pub regionOffset : List (List ℕ) → ℕ → ℕ → ℕ
 regionOffset regions key address =
-    getD (regionOf key regions) 3 0 + (address - getD (regionOf key regions) 1 0)
+    RegionRow.offset (regionOf key regions) + (address - RegionRow.address (regionOf key regions))
 
 -- memory after packet i, of the entry e: piece i of the message at its offset
 abbrev pub memoryAfter : Request → List (List ℕ) → ℕ → List ℕ → ℕ → Entry → List ℕ → List ℕ

@@ -59,7 +59,7 @@ const READ_RESPONSE_MIDDLE: u8 = 14;
 
 const READ_RESPONSE_LAST: u8 = 15;
 
-const READ_RESPONSE_ONLY: u8 = 16;
+pub const READ_RESPONSE_ONLY: u8 = 16;
 
 // The headers that follow the BTH.
 pub const NONE: u8 = 0;

@@ -1,5 +1,6 @@
 -- The numbers that the rules give to the answers.
 use Prim.Native.Nat.{ℕ}
+use Rattle.header.specs.Read.{quietDrop}
 use Rattle.header.specs.Refusal as Refusal
 
 abbrev pub executed : ℕ
@@ -18,7 +19,7 @@ abbrev pub duplicateAnswered : ℕ
 duplicateAnswered = 4
 
 abbrev pub dropped : ℕ
-dropped = 5
+dropped = quietDrop
 
 abbrev pub abandoned : ℕ
 abandoned = 6

@@ -89,7 +89,7 @@ fn bare_off(kind: u8, body: usize, address: u64) -> bool
     if kind == opcode::READ {
         return false;
     }
-    address % 8 != 0
+    address % request_spec::ATOMIC_LENGTH as u64 != 0
 }
 
 pub(crate) fn lengths_off(p: Packet, pmtu: usize, m: OpenMessage, most: u64) -> bool

@@ -44,7 +44,7 @@ fn exchanging(a: AtomicEth) -> Operands
     Operands {
         address: a.address,
         key: a.key,
-        length: 8,
+        length: request_spec::ATOMIC_LENGTH,
         swap: a.swap,
         compare: a.compare,
         immediate: false,

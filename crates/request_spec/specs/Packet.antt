@@ -21,9 +21,12 @@ alone immediate value =
     record { address = 0; key = 0; length = 0; swap = 0; compare = 0; immediate = immediate; value = value }
 
 -- an atomic names 8 bytes
+abbrev pub atomicLength : ℕ
+atomicLength = 8
+
 abbrev pub exchanging : AtomicEth → Operands
 exchanging a =
-    record { address = a .address; key = a .key; length = 8; swap = a .swap; compare = a .compare; immediate = false; value = 0 }
+    record { address = a .address; key = a .key; length = atomicLength; swap = a .swap; compare = a .compare; immediate = false; value = 0 }
 
 -- responses do not come to a responder
 unfoldable pub operandsOf : Extension → Operands

@@ -14,6 +14,7 @@ use Rattle.pair.specs.Pair.{closed}
 use Rattle.pair.specs.Sound.{memoryLimit}
 use Rattle.pair.specs.declared.Setup.{Setup}
 use Rattle.pair.specs.declared.OpenMessage.{OpenMessage}
+use Rattle.request_spec.specs.Packet.{atomicLength}
 use Rattle.request_spec.specs.declared.Packet.{Packet}
 
 -- SEND and WRITE, whose numbers are the lowest, carry bytes
@@ -107,9 +108,9 @@ totalOff kind place stored size length most =
     cond (eqb kind Kind.send) (ltb most (stored + size))
     (cond (ends place) (not (eqb (stored + size) length)) (not (ltb (stored + size) length)))
 
--- all other kinds are bare, and atomics aligned to 8 bytes
+-- all other kinds are bare, and atomics aligned to their length
 unfoldable pub bareOff : ℕ → ℕ → ℕ → Bool
-bareOff kind body address = not (eqb body 0) || (not (eqb kind Kind.read) && not (eqb (address % 8) 0))
+bareOff kind body address = not (eqb body 0) || (not (eqb kind Kind.read) && not (eqb (address % atomicLength) 0))
 
 -- the bytes carried: those there are but the pad
 unfoldable pub payloadSize : Packet → ℕ

@@ -1,8 +1,11 @@
 // The request checks of a responder. Here their types; the definitions stand in specs/, their laws in proofs/.
 use sequence::Psn;
 
-// What the headers after the BTH say, each number 0 and each flag false where no header has it. An atomic names 8
-// bytes; swap is also FetchAdd's addend.
+// How many bytes an atomic names; their address is a multiple of it.
+pub const ATOMIC_LENGTH: usize = 8;
+
+// What the headers after the BTH say, each number 0 and each flag false where no header has it; swap is also FetchAdd's
+// addend.
 pub struct Operands {
     pub address: u64,
     pub key: u32,

@@ -62,7 +62,7 @@ fn response_opcode(place: u8) -> u8
     ensures { λ r. ⌜ r ≡ responseOpcode place ⌝ }
 {
     if place == opcode::ONLY {
-        return opcode::READ_RESPONSE + 3;
+        return opcode::READ_RESPONSE_ONLY;
     }
     opcode::READ_RESPONSE + place
 }

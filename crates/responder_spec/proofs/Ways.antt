@@ -45,7 +45,7 @@ use Rattle.responder_spec.specs.Decide.{duplicateDecision, regionFor, he
 use Rattle.responder_spec.specs.Decide.{orphaned, strays, closedBy, abandoning, unanswered, ucExecute}
 use Rattle.responder_spec.specs.Decide.{ucCheckedDecision, ucDecision, packetDecision, orDrop, inboundRefusal}
 use Rattle.responder_spec.specs.Decide.{decided}
-use Rattle.responder_spec.specs.Apply.{actsAtomic, pairByNumber}
+use Rattle.responder_spec.specs.Apply.{actsAtomic}
 use Rattle.responder_spec.specs.Answers.{OnlyBytes, packetIn}
 use Rattle.responder_spec.proofs.Rows.Quiet.{dropped, short, range, unfinished}
 use Rattle.responder_spec.proofs.Rows.{Quiet, refusal-quiet, passed}

@@ -6,6 +6,7 @@ use lib.Dec.{eqb, ltb}
 use lib.ListN.{length, take, drop}
 use Rattle.sequence.specs.Sequence.{psnAfter}
 use Rattle.opcode.specs.Kind as Kind
+use Rattle.opcode.specs.Low as Low
 use Rattle.opcode.specs.Place as Place
 use Rattle.opcode.specs.Length as Length
 use Rattle.header.specs.declared.Extension.{Extension}
@@ -30,9 +31,9 @@ use Rattle.responder_spec.specs.Reply.{replyHeader, over}
 unfoldable pub indexOf : ReadAnswer → ℕ → ℕ
 indexOf a pmtu = pieces (a .length) pmtu - a .remaining
 
--- the opcodes of First, Middle, Last and Only follow each other, so an Only's is the third behind a First's
+-- the opcodes of First, Middle and Last are behind that of the kind as their places are
 unfoldable pub responseOpcode : ℕ → ℕ
-responseOpcode place = Kind.readResponse + cond (eqb place Place.only) 3 place
+responseOpcode place = cond (eqb place Place.only) Low.readResponseOnly (Kind.readResponse + place)
 
 -- AETH on all but Middles, with the MSN as at acceptance
 unfoldable pub responseExtension : ℕ → ReadAnswer → Extension

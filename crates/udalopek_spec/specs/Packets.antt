@@ -23,6 +23,10 @@ names p = leb Kind.write (lowOf (getD p 0 0))
 unfoldable pub malformedFor : List (List ℕ) → ℕ → List ℕ → Bool
 malformedFor rows memory p = cond (names p) (malformedFrom rows memory 0 16) false
 
+-- the words of the report to the host
+abbrev pub reportLength : ℕ
+reportLength = 6
+
 -- the report to the host: the bytes to send; 1 if a message completed, its entry and its bytes; 1 if it has an
 -- immediate, and the immediate. All of it 0 where there is nothing to report
 unfoldable pub reportWords : ℕ → Completion → List ℕ
@@ -49,7 +53,7 @@ module _ (w : List ℕ) (regions entries saved : List (List ℕ)) (m p out : Lis
 
   unfoldable pub inboundReport : List ℕ
   inboundReport =
-      cond (refused w regions p) (replicate 6 0)
+      cond (refused w regions p) (replicate reportLength 0)
       (reportWords (inbound (pairOf w) regions entries saved m p out .outgoing) (inbound (pairOf w) regions entries saved m p out .completion))
 
 module _ (w : List ℕ) (m out : List ℕ) where

@@ -4,19 +4,16 @@ use borrow.Author.Needs.{needs}
 use Rattle.responder.proofs.response.response_opcode.Statement.{statement}
 use Rattle.responder.proofs.response.response_opcode.Tie as tie
 
-add-result : tie.Need-add-result
-add-result c = search needs
-
 returns : tie.Need-returns
 unfolding responseOpcode
 returns c = search (needs, tested)
 
-add-result-2 : tie.Need-add-result-2
-add-result-2 c = search needs
+add-result : tie.Need-add-result
+add-result c = search needs
 
 returns-2 : tie.Need-returns-2
 unfolding responseOpcode
 returns-2 c = search (needs, tested)
 
 pub response-opcode-spec : {M : Type 1} → statement M
-response-opcode-spec = tie.close (tie.spec add-result returns add-result-2 returns-2)
+response-opcode-spec = tie.close (tie.spec returns add-result returns-2)
