@@ -36,16 +36,16 @@ either : {s : Setup} {q r : Pair} (b : Bool) → Same s q → Same s r → Same 
 either true e f = e
 either false e f = f
 
-after-setup : (q : Pair) (d : Decision) (n : ℕ) → Same (q .setup) (pairByNumber q d n)
+number-setup : (q : Pair) (d : Decision) (n : ℕ) → Same (q .setup) (pairByNumber q d n)
 unfolding pairByNumber executedPair
-after-setup q d n =
+number-setup q d n =
     either (leb n 3) (record { is = refl })
     (either (eqb n 4) (record { is = refl })
     (either (eqb n 16 || eqb n 19) (record { is = refl }) (either (eqb n 17 || eqb n 18) (record { is = refl }) (either (eqb n 6) (record { is = refl }) (record { is = refl })))))
 
 pub setup-kept : (S : List Slot) (x : Run) (c : Call) → Same (x .whole .pair .setup) (step S x c .whole .pair)
 unfolding step received inbound outcomeBy pairBy drained nextResponse called posted
-setup-kept S x (Hand j out) = after-setup (x .whole .pair) _ _
+setup-kept S x (Hand j out) = number-setup (x .whole .pair) _ _
 setup-kept S x (Next out) = either (executed (nextStatus (x .whole .pair) (length (x .memory)) (length out))) (record { is = refl }) (record { is = refl })
 setup-kept S x (Post e) = either (executed (postStatus (x .whole .pair) e)) (record { is = refl }) (record { is = refl })
 

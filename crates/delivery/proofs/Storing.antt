@@ -94,8 +94,8 @@ module _ (s : Setup) (regions : List (List ℕ)) (f : SetupFit s) (t : Slot) (h 
   module _ (e : Entry) (completing : completes (kindNumber (t .message .request)) (placeFor t) (cutPacket t .operands .immediate) ≡ (isLast t && takesEntry (t .message .request)))
       (number : (isLast t && takesEntry (t .message .request)) ≡ true → getD entry 0 0 ≡ e .number)
       (long : isLast t ≡ true → cond (eqb (kindNumber (t .message .request)) 0) (M .stored + payloadSize (cutPacket t)) (M .length) ≡ length (t .message .bytes)) where
-    abbrev completionWith : Completion
-    completionWith =
+    abbrev completed : Completion
+    completed =
         record {
           some = true;
           number = getD entry 0 0;
@@ -105,7 +105,7 @@ module _ (s : Setup) (regions : List (List ℕ)) (f : SetupFit s) (t : Slot) (h 
         }
 
     completes-is : (isLast t && takesEntry (t .message .request)) ≡ true
-        → completionWith ≡ completionFor (t .message .request) e (length (t .message .bytes))
+        → completed ≡ completionFor (t .message .request) e (length (t .message .bytes))
     completes-is q =
         let W = says s regions f t h opened in
         let l : isLast t ≡ true = and-left (isLast t) (takesEntry (t .message .request)) q in
@@ -128,7 +128,7 @@ module _ (s : Setup) (regions : List (List ℕ)) (f : SetupFit s) (t : Slot) (h 
     storing-completes = rw completing (go (isLast t && takesEntry (t .message .request)) refl)
       where
         go : (b : Bool) → (isLast t && takesEntry (t .message .request)) ≡ b
-            → (reports (cond b completionWith noCompletion) ≡ cond b (completionFor (t .message .request) e (length (t .message .bytes)) ∷ []) [])
-            × (cond b completionWith noCompletion .some ≡ b)
+            → (reports (cond b completed noCompletion) ≡ cond b (completionFor (t .message .request) e (length (t .message .bytes)) ∷ []) [])
+            × (cond b completed noCompletion .some ≡ b)
         go true q = (ap (λ c. c ∷ []) (completes-is q), refl)
         go false q = (refl, refl)

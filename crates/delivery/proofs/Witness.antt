@@ -48,7 +48,7 @@ step-long S x (Next out) = refl
 step-long S x (Post e) = refl
 
 -- an entry is there after it was posted, or there were 16
-pub record Supplied (p q : Plain) : Type 0 where
+pub record KeepsEntries (p q : Plain) : Type 0 where
   pub k : q .k ≡ p .k
   pub r : q .r ≡ p .r
   pub held : q .held ≡ p .held
@@ -104,10 +104,10 @@ module _ (s : Setup) (regions : List (List ℕ)) (ms : List Message) (S : List S
   bytes-are : (p : Plain) (x : Run) → Together p x → length (p .memory) ≡ s .memory
   bytes-are p x T = ap length (sym (T .link .memory)) ∙ T .bytes
 
-  supplies : (p : Plain) → length (p .held) ≤ 1 → Supplied p (plainStep s regions S p (Post (wholeEntry s)))
+  supplies : (p : Plain) → length (p .held) ≤ 1 → KeepsEntries p (plainStep s regions S p (Post (wholeEntry s)))
   supplies p h = rw (le-ltb (s .memory) (0 + s .memory) (omega arith)) (go (leb 16 (length (p .held) + length (p .waiting))) refl)
     where
-      go : (b : Bool) → leb 16 (length (p .held) + length (p .waiting)) ≡ b → Supplied p (cond b p (withWaiting p (p .waiting ++ (wholeEntry s ∷ []))))
+      go : (b : Bool) → leb 16 (length (p .held) + length (p .waiting)) ≡ b → KeepsEntries p (cond b p (withWaiting p (p .waiting ++ (wholeEntry s ∷ []))))
       go true e = record { k = refl; r = refl; held = refl; memory = refl; some = some-there (p .waiting) (omega (arith, tests)) }
       go false e = record { k = refl; r = refl; held = refl; memory = refl; some = some-more (p .waiting) (wholeEntry s) }
 

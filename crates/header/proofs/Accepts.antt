@@ -4,14 +4,14 @@ use lib.ListN.{length, getD}
 use Rattle.opcode.specs.Opcode.{classOf}
 use Rattle.header.specs.Read.{bthOf, headerOf}
 use Rattle.header.specs.Claims.{Reads, Writes}
-use Rattle.header.proofs.Reasons.{good-length, no-reason, read-answer-by}
+use Rattle.header.proofs.Reasons.{good-length, no-reason, read-by}
 use Rattle.header.proofs.Widths.{known, bth-fits, extension-fits}
 use Rattle.header.proofs.Writes.{both-fit, answered}
 
 pub reads : Reads
 unfolding bthOf
 reads p low high words tver opcode room =
-    read-answer-by p (headerOf p)
+    read-by p (headerOf p)
     (no-reason p (good-length (length p) low high words) (record { tver = tver; known = known (getD p 0 0) opcode; room = room }))
     refl
 

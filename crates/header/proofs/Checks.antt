@@ -11,7 +11,7 @@ use Rattle.header.specs.Read.{bthOf, headerOf, readReason}
 use Rattle.header.specs.Check.{pkeysMatch, headerReason, admitted}
 use Rattle.header.specs.Claims.{CheckedReads, Admits}
 use Rattle.header.specs.Drops.{ServiceOurs}
-use Rattle.header.proofs.Reasons.{no-reason, was-read, accepted, accepted-by, read-answer-by}
+use Rattle.header.proofs.Reasons.{no-reason, was-read, accepted, accepted-by, read-by}
 use Rattle.header.proofs.Widths.{known, below-64}
 use Rattle.header.proofs.Conditions.{rc-or-uc, known-low, length-tested, keys-of}
 use Rattle.header.proofs.Drops.{first-fails, dropped-by}
@@ -29,7 +29,7 @@ pub checked-reads : CheckedReads
 unfolding admitted
 checked-reads service ours pkey ready p h e =
     let A = accepted-by (headerReason service ours pkey ready p) p h e in
-    read-answer-by p h (passes service ours pkey ready p (A .0)) (A .1)
+    read-by p h (passes service ours pkey ready p (A .0)) (A .1)
 
 -- of the packet's own header
 of-packet : (service ours pkey : ℕ) (p : List ℕ) → readReason p ≡ 0

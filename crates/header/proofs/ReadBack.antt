@@ -15,7 +15,7 @@ use Rattle.header.specs.Read.{bthOf, rethOf, atomicOf, aethOf, extension
 use Rattle.header.specs.Write.{bthBytes, rethBytes, atomicBytes, aethBytes, extensionBytes, headerBytes, followsBy, headerLength, writtenOut}
 use Rattle.header.specs.Claims.{BthWidths, RethWidths, AethWidths, Widths, ReadPacket, ReadBack}
 use Rattle.header.proofs.Lengths.{fits, length-is, length-header, length-words, length-most}
-use Rattle.header.proofs.Reasons.{Read, good-length, no-reason, read-answer-by}
+use Rattle.header.proofs.Reasons.{Read, good-length, no-reason, read-by}
 use Rattle.header.proofs.Widths.{known, bth-widths, widths-of}
 use Rattle.header.proofs.Writes.{was-written, done}
 use Rattle.header.specs.declared.Bth.{Bth}
@@ -149,7 +149,7 @@ read-packet h t good words room =
     let m : (12 + length x) % 4 ≡ 0 = length-words (h .extension) in
     let g : badLength (length (b ++ (x ++ t))) ≡ false = good-length (length (b ++ (x ++ t))) (omega arith) (omega arith) (omega arith) in
     let o : readReason (b ++ (x ++ t)) ≡ 0 = no-reason (b ++ (x ++ t)) g (reads (b ++ (x ++ t)) h e w (omega arith)) in
-    subst (λ p. readHeader p ≡ Accepted h) (sym q) (read-answer-by (b ++ (x ++ t)) h o z)
+    subst (λ p. readHeader p ≡ Accepted h) (sym q) (read-by (b ++ (x ++ t)) h o z)
 
 pub read-back : ReadBack
 read-back h out n e =

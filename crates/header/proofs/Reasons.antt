@@ -86,9 +86,9 @@ pub accepted : (p : List ℕ) (h : Header) → readHeader p ≡ Accepted h → (
 unfolding readHeader
 accepted p h e = accepted-by (readReason p) p h e
 
-pub read-answer-by : (p : List ℕ) (h : Header) → readReason p ≡ 0 → headerOf p ≡ h → readHeader p ≡ Accepted h
+pub read-by : (p : List ℕ) (h : Header) → readReason p ≡ 0 → headerOf p ≡ h → readHeader p ≡ Accepted h
 unfolding readHeader readBy
-read-answer-by p h o e = rw o (ap Accepted e)
+read-by p h o e = rw o (ap Accepted e)
 
 pub read-numbers : ReadNumbers
 unfolding readBy readNumber

@@ -35,25 +35,25 @@ quiet-numbers a short =
 quiet-numbers a range = (inr (inr (inr (inr (inr (inr (inr (inr (inr (inr (inr (inl refl))))))))))), inr (inr (inr (inr (inl refl)))))
 quiet-numbers a unfinished = (inr (inr (inr (inr (inr (inr (inr (inr (inr (inr (inl refl)))))))))), inr (inr (inr (inl refl))))
 
-stored-psns : (b : Bool) → Rc (statusNumber (cond b status.Acknowledged status.Executed))
+stored-numbers : (b : Bool) → Rc (statusNumber (cond b status.Acknowledged status.Executed))
 unfolding statusNumber
-stored-psns true = inr (inl refl)
-stored-psns false = inl refl
+stored-numbers true = inr (inl refl)
+stored-numbers false = inl refl
 
 module _ (q : Pair) (regions saved : List (List ℕ)) (k : Packet) where
-  psns : (d : Decision) → Row Quiet q regions saved k d → Rc (statusNumber (d .status))
+  rc-numbers : (d : Decision) → Row Quiet q regions saved k d → Rc (statusNumber (d .status))
   unfolding statusNumber noReply acknowledging storePayload runAtomic
-  psns d (quiet a z) = quiet-numbers a z .0
-  psns d ahead = inr (inr (inr (inr (inr (inr (inl refl))))))
-  psns d invalid = inr (inr (inr (inr (inr (inr (inr (inl refl)))))))
-  psns d access = inr (inr (inr (inr (inr (inr (inr (inr (inl refl))))))))
-  psns d unready = inr (inr (inr (inr (inr (inr (inr (inr (inr (inl refl)))))))))
-  psns d ackDuplicate = inr (inr (inr (inr (inl refl))))
-  psns d (readDuplicate at n a s) = inr (inr (inr (inr (inl refl))))
-  psns d (atomicDuplicate v e) = inr (inr (inr (inr (inl refl))))
-  psns d (stored t entry region w) = stored-psns (k .ackreq)
-  psns d (begin at n a s) = inr (inr (inl refl))
-  psns d (swap t region w) = inr (inr (inr (inl refl)))
+  rc-numbers d (quiet a z) = quiet-numbers a z .0
+  rc-numbers d ahead = inr (inr (inr (inr (inr (inr (inl refl))))))
+  rc-numbers d invalid = inr (inr (inr (inr (inr (inr (inr (inl refl)))))))
+  rc-numbers d access = inr (inr (inr (inr (inr (inr (inr (inr (inl refl))))))))
+  rc-numbers d unready = inr (inr (inr (inr (inr (inr (inr (inr (inr (inl refl)))))))))
+  rc-numbers d ackDuplicate = inr (inr (inr (inr (inl refl))))
+  rc-numbers d (readDuplicate at n a s) = inr (inr (inr (inr (inl refl))))
+  rc-numbers d (atomicDuplicate v e) = inr (inr (inr (inr (inl refl))))
+  rc-numbers d (stored t entry region w) = stored-numbers (k .ackreq)
+  rc-numbers d (begin at n a s) = inr (inr (inl refl))
+  rc-numbers d (swap t region w) = inr (inr (inr (inl refl)))
 
   uc-numbers : (d : Decision) → UcRow Quiet q k d → Uc (statusNumber (d .status))
   unfolding statusNumber noReply
@@ -63,7 +63,7 @@ module _ (q : Pair) (regions saved : List (List ℕ)) (k : Packet) where
 
   any-numbers : (d : Decision) → AnyRow Quiet q regions saved k d
       → ((q .setup .service ≡ 1 → ⊥) → Rc (statusNumber (d .status))) × (q .setup .service ≡ 1 → Uc (statusNumber (d .status)))
-  any-numbers d (reliable c r) = (λ h. psns d r, λ h. absurd (eqb-false (q .setup .service) 1 c h))
+  any-numbers d (reliable c r) = (λ h. rc-numbers d r, λ h. absurd (eqb-false (q .setup .service) 1 c h))
   any-numbers d (unreliable c r) = (λ h. absurd (h (eqb-true (q .setup .service) 1 c)), λ h. uc-numbers d r)
 
 pub inbound-numbers : InboundNumbers

@@ -131,9 +131,9 @@ module _ (q : Pair) (regions entries saved : List (List ℕ)) (m p : List ℕ) (
       uses (inl x) = rw (eq-eqb (k .kind) 0 x)
       uses (inr x) = rw x (or-true (eqb (k .kind) 0))
 
-  untold-by : k .kind ≡ 6 → k .operands .immediate ≡ false → Silent (completionOf k M (getD (headEntry q entries) 0 0))
+  unreported-by : k .kind ≡ 6 → k .operands .immediate ≡ false → Silent (completionOf k M (getD (headEntry q entries) 0 0))
   unfolding completionOf completes
-  untold-by e i = rw (ne-eqb (k .kind) 0 (λ x. omega arith), i, and-false (ends (k .place))) silent
+  unreported-by e i = rw (ne-eqb (k .kind) 0 (λ x. omega arith), i, and-false (ends (k .place))) silent
 
   onward-by : HasMore (k .place) → Silent (completionOf k M (getD (headEntry q entries) 0 0))
   unfolding completionOf completes
@@ -198,7 +198,7 @@ module _ (q : Pair) (regions entries saved : List (List ℕ)) (m p : List ℕ) (
             completed (M .stored + length (payloadOf p)) h (inl e)
             (rw (eq-eqb (k .kind) 0 e) (ap (λ x. M .stored + x) payload-size-is));
         written = λ e h i. completed (M .length) h (inr i) (rw (ne-eqb (k .kind) 0 (λ x. omega arith)));
-        unreported = λ e i. untold-by e i;
+        unreported = λ e i. unreported-by e i;
         onward = λ h. onward-by h;
         opens = λ h. opened (length (payloadOf p)) payload-size-is (same-kind (T .0)) h;
       }

@@ -31,7 +31,7 @@ use Rattle.responder_spec.specs.Reply.{replyHeader, over}
 unfoldable pub indexOf : ReadAnswer → ℕ → ℕ
 indexOf a pmtu = pieces (a .length) pmtu - a .remaining
 
--- the opcodes of First, Middle and Last are behind that of the kind as their places are
+-- kind plus place; an Only has an opcode of its own
 unfoldable pub responseOpcode : ℕ → ℕ
 responseOpcode place = cond (eqb place Place.only) Low.readResponseOnly (Kind.readResponse + place)
 

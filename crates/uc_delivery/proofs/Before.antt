@@ -28,7 +28,7 @@ use Rattle.responder_spec.proofs.Kept.{steady, inbound-steady, psn-below}
 use Rattle.delivery.specs.Stream.{Message}
 use Rattle.delivery.specs.Demand.{Run, taken, Addressed}
 use Rattle.delivery.proofs.Made.{all-idle, accepted, begun-idle}
-use Rattle.uc_delivery.specs.Message.{StandsMade, Apart, Arrival, heard, AllBytes, Foreign, MessageArrives, ComesOn, ApartOn, WholeAfter, PartAfter}
+use Rattle.uc_delivery.specs.Message.{StandsMade, Apart, Arrival, heard, AllBytes, Foreign, MayCome, MayComeOn, ApartOn, WholeAfter, PartAfter}
 use Rattle.uc_delivery.proofs.Lost.{kind-open, handed-in-part}
 use Rattle.uc_delivery.proofs.Whole.{handed-whole}
 use Rattle.uc_delivery.proofs.Steps.{carriedOut, taken-is}
@@ -73,7 +73,7 @@ module _ (x : Run) (p out : List ℕ) (uc : x .whole .pair .setup .service ≡ 1
   pub leaves : Leaves (taken x p out)
   leaves = subst Leaves (sym (taken-is x p out decides refl)) (leaves-by decides row)
 
-comes-one : (outs : ℕ → List ℕ) (m : Message) (first : Psn) (x : Run) (p out : List ℕ) → Bytes p → MessageArrives outs m first x → MessageArrives outs m first (taken x p out)
+comes-one : (outs : ℕ → List ℕ) (m : Message) (first : Psn) (x : Run) (p out : List ℕ) → Bytes p → MayCome outs m first x → MayCome outs m first (taken x p out)
 comes-one outs m first x p out B K =
     let S = K .standing in
     let l = leaves x p out (S .unreliable) in
@@ -94,11 +94,11 @@ comes-one outs m first x p out B K =
       carries = K .carries;
     }
 
-pub comes-on : ComesOn
+pub may-come-on : MayComeOn
 unfolding heard
-comes-on outs m first x [] K B = K
-comes-on outs m first x (a ∷ rest) K B =
-    comes-on outs m first (taken x (a .packet) (a .output)) rest (comes-one outs m first x (a .packet) (a .output) (B .0) K) (B .1)
+may-come-on outs m first x [] K B = K
+may-come-on outs m first x (a ∷ rest) K B =
+    may-come-on outs m first (taken x (a .packet) (a .output)) rest (comes-one outs m first x (a .packet) (a .output) (B .0) K) (B .1)
 
 -- the number before a later packet's is that of the packet before it
 before-it : (first : Psn) (n psn i : ℕ) → n < 2 ^ 24 → psn ≡ (n + 1) % 16777216 → 0 < i → psn ≡ psnAfter first i .0 → n ≡ psnAfter first (i - 1) .0
@@ -131,11 +131,11 @@ pub apart-on : ApartOn
 apart-on outs m first x before K B A F = apart-from m first x before (K .standing .unreliable) B A F
 
 pub whole-after : WholeAfter
-whole-after outs m first x before K B allowed sup = handed-whole outs m first (heard x before) (comes-on outs m first x before K B) allowed sup
+whole-after outs m first x before K B allowed sup = handed-whole outs m first (heard x before) (may-come-on outs m first x before K B) allowed sup
 
 pub part-after : PartAfter
 part-after outs m first x before chosen K B n lost a =
-    handed-in-part outs m first (heard x before) chosen (comes-on outs m first x before K B) n lost (go a)
+    handed-in-part outs m first (heard x before) chosen (may-come-on outs m first x before K B) n lost (go a)
   where
     go : (getD chosen 0 false ≡ true) ⊎ (Apart (x .whole) m first × Foreign m first before)
         → (getD chosen 0 false ≡ true) ⊎ Apart (heard x before .whole) m first

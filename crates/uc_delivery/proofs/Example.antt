@@ -21,7 +21,7 @@ use Rattle.cut_spec.specs.Message.{carries, carriedLength, packetsOf}
 use Rattle.cut_spec.specs.Claims.{Carrier, InLimit, RequestWidths}
 use Rattle.cut_spec.specs.declared.Request.{Request}
 use Rattle.cut_spec.specs.declared.Request.the-variants.{Send, SendImmediate, Write, WriteImmediate}
-use Rattle.uc_delivery.specs.Message.{Standing, messagePacket, handed, MessageArrives, firstWaiting, Unreported}
+use Rattle.uc_delivery.specs.Message.{Standing, messagePacket, handed, MayCome, firstWaiting, Unreported}
 use Rattle.uc_delivery.specs.Example.{setup, region, calls, made, message, out, first, fresh, AllFulfilled, Delivered, broken, Interrupted}
 use Rattle.responder_spec.specs.Calls.{received}
 use Rattle.delivery.specs.Demand.{AtLeast, entryOf}
@@ -44,7 +44,7 @@ room : (i : ℕ) → 24 ≤ length (replicate {A = ℕ} 24 0)
 room i = omega arith
 
 -- a message of the example comes to its pair
-comes-by : (r : Request) (n : ℕ) → InLimit r (length (replicate {A = ℕ} n 9)) → RequestWidths r → Carrier r → MessageArrives out (message r n) first fresh
+comes-by : (r : Request) (n : ℕ) → InLimit r (length (replicate {A = ℕ} n 9)) → RequestWidths r → Carrier r → MayCome out (message r n) first fresh
 unfolding fresh made setup calls region message calledAll called begun setUp setUpStatus setUpRegions addStatus
     addRegions postStatus posted postEntries readyStatus madeReady executed statusNumber freshPair setupUnfit
     setupUnsound countersUnsound ringUnsound messageUnsound readUnsound pairUnsound pmtuFits otherService outside
@@ -104,7 +104,7 @@ is-broken =
     handed-in-part _ (message (SendImmediate 77) 600) _ fresh (true ∷ false ∷ false ∷ []) (all-met .sendImmediate .comes) refl (1, omega arith, refl) (inl refl)
 
 -- the pair after the one packet: set-up, regions and the table of entries are the same
-comes-broken : MessageArrives out (message Send 3) first broken
+comes-broken : MayCome out (message Send 3) first broken
 unfolding broken handed message packetsOf carriedLength carries pieces
 comes-broken =
     let K = comes out (message (SendImmediate 77) 600) first fresh (all-met .sendImmediate .comes) 0 (omega arith) in

@@ -285,13 +285,13 @@ module _ (w : Whole) (m : Message) (first : Psn) (P : Permitted (w .pair .setup)
         write-memory-is (w .pair .setup) (w .regions) f t H v (held i) (F .opened) C entry Z (Y .regions) mem ml
         ∙ ap (λ k. overwrite mem (k + i * m .connection .pmtu) piece) (sym (target-write (m .request) Z (w .regions) (firstWaiting w)))
 
-    completionWith : Sends (m .request) ⊎ Writes (m .request)
+    completion-is : Sends (m .request) ⊎ Writes (m .request)
         → (reports (completionOf (cutPacket t) M (getD entry 0 0)) ≡ cond (isLast t && takesEntry (m .request)) (completionFor (m .request) (firstWaiting w) (length (m .bytes)) ∷ []) [])
         × (completionOf (cutPacket t) M (getD entry 0 0) .some ≡ (isLast t && takesEntry (m .request)))
-    completionWith (inl Z) =
+    completion-is (inl Z) =
         storing-completes (w .pair .setup) (w .regions) f t H v (held i) (F .opened) C entry region (firstWaiting w)
         (send-completes (w .pair .setup) (w .regions) f t H v (held i) (F .opened) C entry Z) (λ e. refl) (send-long (w .pair .setup) (w .regions) f t H v (held i) (F .opened) C entry Z)
-    completionWith (inr Z) =
+    completion-is (inr Z) =
         storing-completes (w .pair .setup) (w .regions) f t H v (held i) (F .opened) C entry region (firstWaiting w)
         (write-completes (w .pair .setup) (w .regions) f t H v (held i) (F .opened) C entry Z) (λ e. refl) (λ e. write-long (w .pair .setup) (w .regions) f t H v (held i) (F .opened) C entry Z)
 
@@ -308,7 +308,7 @@ module _ (w : Whole) (m : Message) (first : Psn) (P : Permitted (w .pair .setup)
         ∙ (stored-out w E n b u (w .pair .entries) mem cs (packetAt t) (cutPacket t) M entry region
         ∙ λ j.
         at w (psnAfter (psnAfter first i) 1) (msnBy (ends-is (w .pair .setup) (w .regions) f t H v (held i) (F .opened) j) n) false (messageAfter (placeFor t) M (payloadSize (cutPacket t)))
-        (entriesBy (completionWith k .1 j) (w .pair .entries)) (memory-is k j) (cs ++ completionWith k .0 j))
+        (entriesBy (completion-is k .1 j) (w .pair .entries)) (memory-is k j) (cs ++ completion-is k .0 j))
 
     -- more packets to come: the next one's message is open
     pub more : isLast t ≡ false → IsOf (slot (suc i)) (messageAfter (placeFor t) M (payloadSize (cutPacket t)))

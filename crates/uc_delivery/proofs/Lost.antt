@@ -38,7 +38,7 @@ use Rattle.delivery.specs.Demand.{Run, taken, Addressed}
 use Rattle.delivery.proofs.Chain.{Sent}
 use Rattle.delivery.proofs.Cutting.{placeFor, cutPacket, psn-small}
 use Rattle.delivery.proofs.Places.{starts-at, ends-at}
-use Rattle.uc_delivery.specs.Message.{MessageArrives, Unreported, handed, HandedInPart}
+use Rattle.uc_delivery.specs.Message.{MayCome, Unreported, handed, HandedInPart}
 use Rattle.uc_delivery.proofs.Steps.{decided-is, taken-is, carriedOut}
 use Rattle.uc_delivery.proofs.Follow.{carries-bytes}
 use Rattle.uc_delivery.proofs.Whole.{packets-counted}
@@ -53,7 +53,7 @@ pub data Went (q : Pair) (t : Slot) : Decision → Type 0 where
   ran : (u : OpenMessage) (entry region : List ℕ) → Went q t (unanswered (1 + distance (cutPacket t .psn .0) (q .expected .0)) (storePayload (cutPacket t) u entry region))
   outside : Went q t (noReply status.OutOfRange)
 
-module _ (outs : ℕ → List ℕ) (m : Message) (first : Psn) (x : Run) (K : MessageArrives outs m first x) (i : ℕ) (h : i < packetCount m) where
+module _ (outs : ℕ → List ℕ) (m : Message) (first : Psn) (x : Run) (K : MayCome outs m first x) (i : ℕ) (h : i < packetCount m) where
   abbrev t : Slot
   t = record { message = m; first = first; index = i }
 
@@ -119,7 +119,7 @@ module _ (outs : ℕ → List ℕ) (m : Message) (first : Psn) (x : Run) (K : Me
   left-is : (d : Decision) → decides ≡ d → left ≡ carriedOut x d (packetAt t)
   left-is d e = taken-is x (packetAt t) (outs i) d e
 
-  pub comes : MessageArrives outs m first left
+  pub comes : MayCome outs m first left
   comes =
       let k : Keeps left = subst Keeps (sym (left-is _ is-decided)) (keeps _ went) in
       record {
@@ -153,30 +153,30 @@ module _ (outs : ℕ → List ℕ) (m : Message) (first : Psn) (x : Run) (K : Me
       subst (λ y. (y .whole .pair .message .kind ≡ 255) ⊎ (y .whole .pair .expected ≡ psnAfter first (suc i))) (sym (left-is _ is-decided)) (next-is _ is-decided went)
 
   -- and nothing is reported before the last packet
-  untold-by : suc i < packetCount m → (d : Decision) → Went q t d → Unreported x (carriedOut x d (packetAt t))
+  unreported-by : suc i < packetCount m → (d : Decision) → Went q t d → Unreported x (carriedOut x d (packetAt t))
   unfolding pairBy pairByNumber statusNumber executedPair noReply storePayload completionOf completes msnBy entriesBy
-  untold-by l d (nothing e) = record { completions = append-nil (x .completions); msn = refl; entries = refl }
-  untold-by l d shut = record { completions = append-nil (x .completions); msn = refl; entries = refl }
-  untold-by l d (ran u entry region) =
+  unreported-by l d (nothing e) = record { completions = append-nil (x .completions); msn = refl; entries = refl }
+  unreported-by l d shut = record { completions = append-nil (x .completions); msn = refl; entries = refl }
+  unreported-by l d (ran u entry region) =
       let e : ends (placeFor t) ≡ false = ends-at (packetCount m) i h ∙ ne-eqb (suc i) (packetCount m) (λ z. absurd (omega arith)) in
       record { completions = rw e (append-nil (x .completions)); msn = rw e; entries = rw e }
-  untold-by l d outside = record { completions = append-nil (x .completions); msn = refl; entries = refl }
+  unreported-by l d outside = record { completions = append-nil (x .completions); msn = refl; entries = refl }
 
   pub unreported : suc i < packetCount m → Unreported x left
-  unreported l = subst (Unreported x) (sym (left-is _ is-decided)) (untold-by l _ went)
+  unreported l = subst (Unreported x) (sym (left-is _ is-decided)) (unreported-by l _ went)
 
   -- A Middle or Last that is not of the open message: nothing is reported, and none is open
   pub record Gone (y : Run) : Type 0 where
     pub closed : y .whole .pair .message .kind ≡ 255
-    pub completionWith : Unreported x y
+    pub unreported : Unreported x y
 
   gone-quiet : q .message .kind ≡ 255 → Gone (carriedOut x (noReply status.Dropped) (packetAt t))
   unfolding pairBy pairByNumber statusNumber noReply
-  gone-quiet e = record { closed = e; completionWith = record { completions = append-nil (x .completions); msn = refl; entries = refl } }
+  gone-quiet e = record { closed = e; unreported = record { completions = append-nil (x .completions); msn = refl; entries = refl } }
 
   gone-shut : Gone (carriedOut x (noReply status.Abandoned) (packetAt t))
   unfolding pairBy pairByNumber statusNumber noReply
-  gone-shut = record { closed = refl; completionWith = record { completions = append-nil (x .completions); msn = refl; entries = refl } }
+  gone-shut = record { closed = refl; unreported = record { completions = append-nil (x .completions); msn = refl; entries = refl } }
 
   not-first : 0 < i → starts (placeFor t) ≡ false
   not-first o = starts-at (packetCount m) i h ∙ ne-eqb i 0 (λ z. absurd (omega arith))
@@ -233,46 +233,46 @@ Off m first x j =
 apart-numbers : (first : Psn) (i j n : ℕ) → i < j → j < n → n ≤ 2 ^ 24 → psnAfter first i .0 ≡ psnAfter first j .0 → ⊥
 apart-numbers first i j n a b c e = omega arith
 
-untold-chain : (x y z : Run) → Unreported x y → Unreported y z → Unreported x z
-untold-chain x y z a b = record { completions = b .completions ∙ a .completions; msn = b .msn ∙ a .msn; entries = b .entries ∙ a .entries }
+unreported-chain : (x y z : Run) → Unreported x y → Unreported y z → Unreported x z
+unreported-chain x y z a b = record { completions = b .completions ∙ a .completions; msn = b .msn ∙ a .msn; entries = b .entries ∙ a .entries }
 
-untold-same : (x : Run) → Unreported x x
-untold-same x = record { completions = refl; msn = refl; entries = refl }
+unreported-same : (x : Run) → Unreported x x
+unreported-same x = record { completions = refl; msn = refl; entries = refl }
 
 module _ (outs : ℕ → List ℕ) (m : Message) (first : Psn) where
   abbrev packet : ℕ → List ℕ
   packet i = packetAt (record { message = m; first = first; index = i })
 
   -- none open: all the rest is dropped
-  closed-rest : (bs : List Bool) (j : ℕ) (x : Run) → MessageArrives outs m first x → 0 < j → j + length bs ≡ packetCount m
+  closed-rest : (bs : List Bool) (j : ℕ) (x : Run) → MayCome outs m first x → 0 < j → j + length bs ≡ packetCount m
       → x .whole .pair .message .kind ≡ 255
       → Unreported x (handed outs m first x j bs)
   unfolding handed
-  closed-rest [] j x K o n e = untold-same x
+  closed-rest [] j x K o n e = unreported-same x
   closed-rest (true ∷ bs) j x K o n e =
       let g = gone-none outs m first x K j (omega arith) o e in
       let y = taken x (packet j) (outs j) in
-      untold-chain x y _ (g .completionWith) (closed-rest bs (suc j) y (comes outs m first x K j (omega arith)) (omega arith) (omega arith) (g .closed))
+      unreported-chain x y _ (g .unreported) (closed-rest bs (suc j) y (comes outs m first x K j (omega arith)) (omega arith) (omega arith) (g .closed))
   closed-rest (false ∷ bs) j x K o n e = closed-rest bs (suc j) x K (omega arith) (omega arith) e
 
-  off-rest : (bs : List Bool) (j : ℕ) (x : Run) → MessageArrives outs m first x → 0 < j → j + length bs ≡ packetCount m
+  off-rest : (bs : List Bool) (j : ℕ) (x : Run) → MayCome outs m first x → 0 < j → j + length bs ≡ packetCount m
       → Off m first x j
       → Unreported x (handed outs m first x j bs)
   unfolding handed
-  off-rest [] j x K o n f = untold-same x
+  off-rest [] j x K o n f = unreported-same x
   off-rest (true ∷ bs) j x K o n (inl f) =
       let g = gone-kind outs m first x K j (omega arith) o f in
       let y = taken x (packet j) (outs j) in
-      untold-chain x y _ (g .completionWith) (closed-rest bs (suc j) y (comes outs m first x K j (omega arith)) (omega arith) (omega arith) (g .closed))
+      unreported-chain x y _ (g .unreported) (closed-rest bs (suc j) y (comes outs m first x K j (omega arith)) (omega arith) (omega arith) (g .closed))
   off-rest (false ∷ bs) j x K o n (inl f) = off-rest bs (suc j) x K (omega arith) (omega arith) (inl f)
   off-rest (true ∷ bs) j x K o n (inr f) =
       let g = gone-other outs m first x K j (omega arith) o (f j (omega arith) (omega arith)) in
       let y = taken x (packet j) (outs j) in
-      untold-chain x y _ (g .completionWith) (closed-rest bs (suc j) y (comes outs m first x K j (omega arith)) (omega arith) (omega arith) (g .closed))
+      unreported-chain x y _ (g .unreported) (closed-rest bs (suc j) y (comes outs m first x K j (omega arith)) (omega arith) (omega arith) (g .closed))
   off-rest (false ∷ bs) j x K o n (inr f) = off-rest bs (suc j) x K (omega arith) (omega arith) (inr (λ i l h. f i (omega arith) h))
 
   -- up to the first that is lost
-  part : (few : packetCount m ≤ 2 ^ 24) (bs : List Bool) (i : ℕ) (x : Run) → MessageArrives outs m first x → i + length bs ≡ packetCount m
+  part : (few : packetCount m ≤ 2 ^ 24) (bs : List Bool) (i : ℕ) (x : Run) → MayCome outs m first x → i + length bs ≡ packetCount m
       → ((k : ℕ) × (k < length bs) × (getD bs k true ≡ false))
       → (getD bs 0 false ≡ true) ⊎ Off m first x (suc i)
       → Unreported x (handed outs m first x i bs)
@@ -284,7 +284,7 @@ module _ (outs : ℕ → List ℕ) (m : Message) (first : Psn) where
   part few (true ∷ bs) i x K n (suc k, l, e) a =
       let h : i < packetCount m = omega arith in
       let y = taken x (packet i) (outs i) in
-      untold-chain x y _ (unreported outs m first x K i h (omega arith))
+      unreported-chain x y _ (unreported outs m first x K i h (omega arith))
       (part few bs (suc i) y (comes outs m first x K i h) (omega arith) (k, omega arith, e) (inr (go (onward outs m first x K i h))))
     where
       go : (taken x (packet i) (outs i) .whole .pair .message .kind ≡ 255) ⊎ (taken x (packet i) (outs i) .whole .pair .expected ≡ psnAfter first (suc i))

@@ -16,7 +16,7 @@ use Rattle.cut_spec.specs.declared.Request.the-variants.{Send, SendImmediate, W
 use Rattle.delivery.specs.Stream.{Message, packetCount}
 use Rattle.delivery.specs.Plain.{answerRoom}
 use Rattle.delivery.specs.Demand.{Run, Allowed}
-use Rattle.uc_delivery.specs.Message.{MessageArrives, HasEntry, handed, handedAll, Unreported}
+use Rattle.uc_delivery.specs.Message.{MayCome, HasEntry, handed, handedAll, Unreported}
 
 unfoldable pub setup : Setup
 setup =
@@ -59,7 +59,7 @@ unfoldable pub fresh : Run
 fresh = record { whole = made; memory = replicate 4096 0; completions = [] }
 
 pub record Fulfilled (m : Message) : Type 0 where
-  pub comes : MessageArrives out m first fresh
+  pub comes : MayCome out m first fresh
   pub allowed : Allowed (made .pair .setup) (made .regions) (m .request) (length (m .bytes))
   pub supplied : HasEntry made m
 

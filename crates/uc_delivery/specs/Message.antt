@@ -58,7 +58,7 @@ handed outs m first x i (true ∷ bs) = handed outs m first (taken x (messagePac
 handed outs m first x i (false ∷ bs) = handed outs m first x (suc i) bs
 
 -- What both claims ask: memory of the length set up, outputs with room for an answer, and a SEND or WRITE to this pair
-pub record MessageArrives (outs : ℕ → List ℕ) (m : Message) (first : Psn) (x : Run) : Type 0 where
+pub record MayCome (outs : ℕ → List ℕ) (m : Message) (first : Psn) (x : Run) : Type 0 where
   pub standing : Standing (x .whole)
   pub memory : length (x .memory) ≡ x .whole .pair .setup .memory
   pub outputs : (i : ℕ) → answerRoom ≤ length (outs i)
@@ -121,7 +121,7 @@ handedAll x m first =
 -- Its function is enabled, and the bytes that a WRITE names lie in the region of its key.
 abbrev pub HandedWhole : Type 0
 HandedWhole =
-    (outs : ℕ → List ℕ) (m : Message) (first : Psn) (x : Run) → MessageArrives outs m first x
+    (outs : ℕ → List ℕ) (m : Message) (first : Psn) (x : Run) → MayCome outs m first x
     → Allowed (x .whole .pair .setup) (x .whole .regions) (m .request) (length (m .bytes))
     → HasEntry (x .whole) m
     → handed outs m first x 0 (replicate (packetCount m) true) ≡ handedAll x m first
@@ -146,7 +146,7 @@ pub record Unreported (x y : Run) : Type 0 where
 -- Whichever packets are lost. Where the first was handed in, nothing is asked of what came before.
 abbrev pub HandedInPart : Type 0
 HandedInPart =
-    (outs : ℕ → List ℕ) (m : Message) (first : Psn) (x : Run) (chosen : List Bool) → MessageArrives outs m first x
+    (outs : ℕ → List ℕ) (m : Message) (first : Psn) (x : Run) (chosen : List Bool) → MayCome outs m first x
     → length chosen ≡ packetCount m
     → Lost chosen (packetCount m)
     → (getD chosen 0 false ≡ true) ⊎ Apart (x .whole) m first
@@ -171,15 +171,15 @@ Foreign m first [] = Unit {0}
 Foreign m first (a ∷ rest) = ((i : ℕ) → suc i < packetCount m → bthOf (a .packet) .psn .0 ≡ psnAfter first i .0 → ⊥) × Foreign m first rest
 
 -- Whatever a pair hears, it stays as the claims ask, and a pair that is apart stays so if all of it was foreign.
-abbrev pub ComesOn : Type 0
-ComesOn =
-    (outs : ℕ → List ℕ) (m : Message) (first : Psn) (x : Run) (before : List Arrival) → MessageArrives outs m first x
+abbrev pub MayComeOn : Type 0
+MayComeOn =
+    (outs : ℕ → List ℕ) (m : Message) (first : Psn) (x : Run) (before : List Arrival) → MayCome outs m first x
     → AllBytes before
-    → MessageArrives outs m first (heard x before)
+    → MayCome outs m first (heard x before)
 
 abbrev pub ApartOn : Type 0
 ApartOn =
-    (outs : ℕ → List ℕ) (m : Message) (first : Psn) (x : Run) (before : List Arrival) → MessageArrives outs m first x
+    (outs : ℕ → List ℕ) (m : Message) (first : Psn) (x : Run) (before : List Arrival) → MayCome outs m first x
     → AllBytes before
     → Apart (x .whole) m first
     → Foreign m first before
@@ -188,7 +188,7 @@ ApartOn =
 -- So both claims hold after any packets.
 abbrev pub WholeAfter : Type 0
 WholeAfter =
-    (outs : ℕ → List ℕ) (m : Message) (first : Psn) (x : Run) (before : List Arrival) → MessageArrives outs m first x
+    (outs : ℕ → List ℕ) (m : Message) (first : Psn) (x : Run) (before : List Arrival) → MayCome outs m first x
     → AllBytes before
     → let y = heard x before in
     Allowed (y .whole .pair .setup) (y .whole .regions) (m .request) (length (m .bytes))
@@ -197,7 +197,7 @@ WholeAfter =
 
 abbrev pub PartAfter : Type 0
 PartAfter =
-    (outs : ℕ → List ℕ) (m : Message) (first : Psn) (x : Run) (before : List Arrival) (chosen : List Bool) → MessageArrives outs m first x
+    (outs : ℕ → List ℕ) (m : Message) (first : Psn) (x : Run) (before : List Arrival) (chosen : List Bool) → MayCome outs m first x
     → AllBytes before
     → length chosen ≡ packetCount m
     → Lost chosen (packetCount m)
