@@ -49,14 +49,14 @@ unfolding fresh made setup calls region message calledAll called begun setUp set
     addRegions postStatus posted postEntries readyStatus madeReady executed statusNumber freshPair setupUnfit
     setupUnsound countersUnsound ringUnsound messageUnsound readUnsound pairUnsound pmtuFits otherService outside
     pastTop regionOutside firstFrom sought regionRow entryRow slotAt regionOf pkeysMatch fullMember
-comes-by r n limit widths carries =
+comes-by r n limit widths carrier =
     record {
       standing = is-standing;
       memory = refl;
       outputs = room;
       first24 = omega arith;
       addressed = record { limit = limit; service = refl; pmtu = refl; dest = refl; match = refl; pkey = omega arith; widths = widths };
-      carries = carries;
+      carries = carrier;
     }
 
 pub all-met : AllFulfilled

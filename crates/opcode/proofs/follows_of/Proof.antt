@@ -1,4 +1,4 @@
-use borrow.Author.Tests.{eq-eqb, le-leb, le-ltb, lt-leb, lt-ltb, ne-eqb}
+use borrow.Author.Tests.{eq-eqb, le-ltb, lt-ltb, ne-eqb}
 use Rattle.opcode.specs.Opcode.{followsOf}
 use Rattle.lemmas.proofs.Auto.{tested}
 use borrow.Author.Needs.{needs}
@@ -10,27 +10,27 @@ send-write-follows-requires c κs = search needs
 
 returns : tie.Need-returns
 unfolding followsOf
-returns c = simp (lt-leb _ _ (c .before .if1 .taken), lt-ltb _ _ (c .before .if1 .taken), ← c .send-write-follows .ensures)
+returns c = simp (lt-ltb _ _ (c .before .if1 .taken), ← c .send-write-follows .ensures)
 
 returns-2 : tie.Need-returns-2
 unfolding followsOf
-returns-2 c = simp (le-ltb _ _ (c .before .if1 .left), le-leb _ _ (c .before .if1 .left), eq-eqb _ _ (c .if2 .taken))
+returns-2 c = simp (le-ltb _ _ (c .before .if1 .left), eq-eqb _ _ (c .if2 .taken))
 
 returns-3 : tie.Need-returns-3
 unfolding followsOf
-returns-3 c = simp (le-ltb _ _ (c .before .before .if1 .left), le-leb _ _ (c .before .before .if1 .left), ne-eqb _ _ (c .before .if2 .left), eq-eqb _ _ (c .if3 .taken))
+returns-3 c = simp (le-ltb _ _ (c .before .before .if1 .left), ne-eqb _ _ (c .before .if2 .left), eq-eqb _ _ (c .if3 .taken))
 
 returns-4 : tie.Need-returns-4
 unfolding followsOf
 returns-4 c =
     let c1 = c .before in let c2 = c1 .before in let c3 = c2 .before in
-    simp (le-ltb _ _ (c3 .if1 .left), le-leb _ _ (c3 .if1 .left), ne-eqb _ _ (c2 .if2 .left), ne-eqb _ _ (c1 .if3 .left), eq-eqb _ _ (c .if4 .taken))
+    simp (le-ltb _ _ (c3 .if1 .left), ne-eqb _ _ (c2 .if2 .left), ne-eqb _ _ (c1 .if3 .left), eq-eqb _ _ (c .if4 .taken))
 
 returns-5 : tie.Need-returns-5
 unfolding followsOf
 returns-5 c =
     let c1 = c .before in let c2 = c1 .before in let c3 = c2 .before in let c4 = c3 .before in
-    simp (le-ltb _ _ (c4 .if1 .left), le-leb _ _ (c4 .if1 .left), ne-eqb _ _ (c3 .if2 .left), ne-eqb _ _ (c2 .if3 .left), ne-eqb _ _ (c1 .if4 .left), eq-eqb _ _ (c .if5 .taken))
+    simp (le-ltb _ _ (c4 .if1 .left), ne-eqb _ _ (c3 .if2 .left), ne-eqb _ _ (c2 .if3 .left), ne-eqb _ _ (c1 .if4 .left), eq-eqb _ _ (c .if5 .taken))
 
 returns-6 : tie.Need-returns-6
 unfolding followsOf

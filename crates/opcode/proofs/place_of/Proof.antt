@@ -1,4 +1,4 @@
-use borrow.Author.Tests.{eq-eqb, le-leb, le-ltb, lt-leb, lt-ltb, ne-eqb}
+use borrow.Author.Tests.{eq-eqb, le-ltb, lt-ltb, ne-eqb}
 use Rattle.opcode.specs.Opcode.{placeOf}
 use Rattle.lemmas.proofs.Auto.{tested}
 use borrow.Author.Needs.{needs}
@@ -10,7 +10,7 @@ place-in-requires c κs = search needs
 
 returns : tie.Need-returns
 unfolding placeOf
-returns c = simp (lt-leb _ _ (c .before .if1 .taken), lt-ltb _ _ (c .before .if1 .taken), ← c .place-in .ensures)
+returns c = simp (lt-ltb _ _ (c .before .if1 .taken), ← c .place-in .ensures)
 
 place-in-requires-2 : tie.Need-place-in-requires-2
 place-in-requires-2 c κs = search needs
@@ -27,7 +27,7 @@ returns-4 : tie.Need-returns-4
 unfolding placeOf
 returns-4 c =
     let c1 = c .before in let c2 = c1 .before in let c3 = c2 .before in
-    simp (le-ltb _ _ (c3 .if1 .left), le-leb _ _ (c3 .if1 .left), le-ltb _ _ (c2 .if2 .left), le-leb _ _ (c2 .if2 .left), ne-eqb _ _ (c1 .if3 .left), eq-eqb _ _ (c .if4 .taken))
+    simp (le-ltb _ _ (c3 .if1 .left), le-ltb _ _ (c2 .if2 .left), ne-eqb _ _ (c1 .if3 .left), eq-eqb _ _ (c .if4 .taken))
 
 returns-5 : tie.Need-returns-5
 unfolding placeOf

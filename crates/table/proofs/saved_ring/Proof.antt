@@ -1,4 +1,4 @@
-use borrow.Author.Tests.{le-leb, le-ltb, lt-leb, lt-ltb}
+use borrow.Author.Tests.{le-ltb, lt-ltb}
 use Rattle.table.specs.View.{savedRing}
 use borrow.Author.Needs.{needs}
 use Rattle.table.proofs.saved_ring.Statement.{statement}
@@ -9,14 +9,14 @@ add-t5 c = search needs
 
 returns : tie.Need-returns
 unfolding savedRing
-returns c = simp (lt-leb _ _ (c .if1 .taken), lt-ltb _ _ (c .if1 .taken))
+returns c = simp (lt-ltb _ _ (c .if1 .taken))
 
 slot-requires : tie.Need-slot-requires
 slot-requires c κs = search needs
 
 returns-2 : tie.Need-returns-2
 unfolding savedRing
-returns-2 c = simp (le-ltb _ _ (c .before .if1 .left), le-leb _ _ (c .before .if1 .left), ← c .slot .ensures .0)
+returns-2 c = simp (le-ltb _ _ (c .before .if1 .left), ← c .slot .ensures .0)
 
 pub saved-ring-spec : {M : Type 1} → statement M
 saved-ring-spec = tie.close (tie.spec add-t5 returns slot-requires returns-2)

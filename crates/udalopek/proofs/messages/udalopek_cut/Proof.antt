@@ -1,5 +1,5 @@
 use mathlib.Core.Path.{refl}
-use borrow.Author.Tests.{lt-leb, lt-ltb}
+use borrow.Author.Tests.{lt-ltb}
 use Rattle.udalopek_spec.specs.Cutting.{cutNumber, cutOutput, cutWords}
 use Rattle.lemmas.proofs.Auto.{tested}
 use borrow.Author.Needs.{needs}
@@ -8,7 +8,7 @@ use Rattle.udalopek.proofs.messages.udalopek_cut.Tie as tie
 
 returns : tie.Need-returns
 unfolding cutNumber cutOutput cutWords
-returns c = (simp (lt-leb _ _ (c .before .if1 .taken), lt-ltb _ _ (c .before .if1 .taken)), simp (lt-leb _ _ (c .before .if1 .taken), lt-ltb _ _ (c .before .if1 .taken)) (refl, refl))
+returns c = (simp (lt-ltb _ _ (c .before .if1 .taken)), simp (lt-ltb _ _ (c .before .if1 .taken)) (refl, refl))
 
 request-of-requires : tie.Need-request-of-requires
 request-of-requires c κs = search needs
@@ -39,7 +39,7 @@ unfolding cutNumber cutOutput cutWords
 returns-2 c =
     let c1 = c .before in let c2 = c1 .before in let c3 = c2 .before in let c6 = c3 .before .before .before in
     let c8 = c6 .before .before in let c9 = c8 .before in let c10 = c9 .before in
-    (simp (tested, c10 .if1 .left, ← c9 .request-of .ensures, ← c8 .next-psn .ensures, ← c6 .cut .ensures .1, ← c6 .cut .ensures .0, ← c3 .refusal-number .ensures, ← c2 .bytes-written .ensures, ← c1 .following-psn .ensures, ← c .cut-report .ensures), simp (tested, c10 .if1 .left, ← c9 .request-of .ensures, ← c8 .next-psn .ensures, ← c6 .cut .ensures .1, ← c6 .cut .ensures .0, ← c3 .refusal-number .ensures, ← c2 .bytes-written .ensures, ← c1 .following-psn .ensures, ← c .cut-report .ensures) (refl, refl))
+    (simp (tested, c10 .if1 .left, ← c9 .request-of .ensures, ← c6 .cut .ensures .0, ← c3 .refusal-number .ensures), simp (tested, c10 .if1 .left, ← c9 .request-of .ensures, ← c8 .next-psn .ensures, ← c6 .cut .ensures .1, ← c6 .cut .ensures .0, ← c3 .refusal-number .ensures, ← c2 .bytes-written .ensures, ← c1 .following-psn .ensures, ← c .cut-report .ensures) (refl, refl))
 
 pub udalopek-cut-spec : {M : Type 1} → statement M
 udalopek-cut-spec =
