@@ -1,11 +1,11 @@
 // Headers read from the bytes of a packet, with no copy of them.
 mod field;
+mod operands;
 
 use field::be16;
 use field::be24;
 use field::be32;
 use field::be64;
-use header::Admission;
 use header::Aeth;
 use header::AtomicEth;
 use header::Bth;
@@ -14,15 +14,21 @@ use header::Header;
 use header::HeaderRead;
 use header::Reth;
 use header::reason;
+use opcode::OpcodeClass;
+use request_spec::Admission;
+use request_spec::Operands;
+use request_spec::Packet;
 use sequence::Msn;
 use sequence::Psn;
 ghost use mathlib.Core.Path.{_≡_};
-ghost use Prim.Native.Nat.{_+_, _≤_};
+ghost use Prim.Native.Nat.{_+_, _-_, _≤_};
 ghost use lib.ListN.{length};
 ghost use Rattle.opcode.specs.Opcode.{lengthOf};
 ghost use Rattle.opcode.specs.Length as Length;
 ghost use Rattle.header.specs.Read.{bthOf, rethOf, atomicOf, aethOf, extensionOf, badLength, readHeader};
-ghost use Rattle.header.specs.Check.{wrongService, isResponse, beyondService, admitted, withClass};
+ghost use Rattle.header.specs.Check.{wrongService, isResponse, beyondService, admitted};
+ghost use Rattle.request_spec.specs.Packet.{admission};
+ghost use Rattle.decode.specs.Reason.{bthReason};
 
 fn read_bth(p: &[u8]) -> Bth
     requires { ⌜ Length.bth ≤ length (now p) ⌝ }
@@ -157,48 +163,86 @@ fn beyond_service(service: u8, low: u8) -> bool
     !has
 }
 
-// The header of a packet that passes all header checks of a queue pair with these numbers, or the
-// check that failed first.
+// The check behind that of the length that fails first, or 0. It stands in a function of its own because the compiler
+// takes what comes after many early returns for rare, and does not inline it.
+fn bth_reason(
+    b: Bth,
+    headers: usize,
+    n: usize,
+    service: u8,
+    ours: u32,
+    pkey: u16,
+    ready: bool,
+) -> u8
+    ensures { λ r. ⌜ r ≡ bthReason service ours pkey ready b headers n ⌝ }
+{
+    if b.tver != 0 {
+        return reason::VERSION;
+    }
+    if b.dest != ours {
+        return reason::NUMBER;
+    }
+    let matched = header::pkeys_match(b.pkey, pkey);
+    if !matched {
+        return reason::KEY;
+    }
+    let wrong = wrong_service(b.opcode / opcode::PER_SERVICE, service);
+    if wrong {
+        return reason::SERVICE;
+    }
+    let response = is_response(b.opcode % opcode::PER_SERVICE);
+    if response {
+        return reason::RESPONSE;
+    }
+    let beyond = beyond_service(service, b.opcode % opcode::PER_SERVICE);
+    if beyond {
+        return reason::UNSERVED;
+    }
+    if n < headers {
+        return reason::SHORT;
+    }
+    if !ready {
+        return reason::NOT_READY;
+    }
+    0
+}
+
+// The packet of n bytes that has this BTH and these operands, as numbers, by the class of its opcode.
+fn packet_of(b: Bth, class: OpcodeClass, operands: Operands, n: usize) -> Packet
+    ensures { λ r. ⌜ r ≡ record { kind = class .kind; place = class .place; ackreq = b .ackreq; pad = b .pad; psn = b .psn; start = class .length; body = n - class .length; operands = operands } ⌝ }
+{
+    let psn = b.psn;
+    let body = number::saturating_sub(n, class.length);
+    Packet {
+        kind: class.kind,
+        place: class.place,
+        ackreq: b.ackreq,
+        pad: b.pad as usize,
+        psn,
+        start: class.length,
+        body,
+        operands,
+    }
+}
+
+// The packet, if its header passes all header checks of a queue pair with these numbers, or the check that failed
+// first. No header is made: its fields go straight into the numbers of the packet.
 pub fn admit(p: &[u8], service: u8, ours: u32, pkey: u16, ready: bool) -> Admission
-    ensures { λ r. ⌜ r ≡ withClass (admitted service ours pkey ready (now (p .entry))) ⌝ }
+    ensures { λ r. ⌜ r ≡ admission (admitted service ours pkey ready (now (p .entry))) (length (now (p .entry))) ⌝ }
 {
     let bad = bad_length(p.len());
     if bad {
         return Admission::Dropped(reason::LENGTH);
     }
     let b = read_bth(p);
-    if b.tver != 0 {
-        return Admission::Dropped(reason::VERSION);
-    }
-    if b.dest != ours {
-        return Admission::Dropped(reason::NUMBER);
-    }
-    let matched = header::pkeys_match(b.pkey, pkey);
-    if !matched {
-        return Admission::Dropped(reason::KEY);
-    }
-    let wrong = wrong_service(b.opcode / opcode::PER_SERVICE, service);
-    if wrong {
-        return Admission::Dropped(reason::SERVICE);
-    }
-    let response = is_response(b.opcode % opcode::PER_SERVICE);
-    if response {
-        return Admission::Dropped(reason::RESPONSE);
-    }
-    let beyond = beyond_service(service, b.opcode % opcode::PER_SERVICE);
-    if beyond {
-        return Admission::Dropped(reason::UNSERVED);
-    }
     let class = opcode::class(b.opcode);
-    if p.len() < class.length {
-        return Admission::Dropped(reason::SHORT);
+    let why = bth_reason(b, class.length, p.len(), service, ours, pkey, ready);
+    if why != 0 {
+        return Admission::Dropped(why);
     }
-    if !ready {
-        return Admission::Dropped(reason::NOT_READY);
-    }
-    let extension = read_extension(p, class.follows);
-    let h = Header { bth: b, extension };
-    Admission::Admitted(h, class)
+    let operands = operands::operands_of(p, class.follows);
+    let k = packet_of(b, class, operands, p.len());
+    Admission::Admitted(k)
 }
 
 // The header of a packet of any bytes, or the check that failed first.

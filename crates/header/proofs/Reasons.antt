@@ -9,7 +9,7 @@ use lib.ListN.{length}
 use borrow.Author.Tests.{eq-eqb, le-ltb, eqb-true, ltb-false}
 use Rattle.opcode.specs.Opcode.{classOf, serviceOf}
 use Rattle.header.specs.Read.{bthOf, headerOf, badLength, otherService, readReason, readBy, readNumber, readHeader}
-use Rattle.header.specs.Claims.{ReadNumbers, AdmissionNumbers}
+use Rattle.header.specs.Claims.{ReadNumbers}
 use Rattle.header.specs.Drops.{LengthGood}
 use Rattle.header.specs.declared.Header.{Header}
 use Rattle.header.specs.declared.HeaderRead.the-variants.{Accepted, Dropped}
@@ -97,6 +97,3 @@ read-numbers reason p = go (eqb reason 0)
     go : (b : Bool) → readNumber (cond b (Accepted (headerOf p)) (Dropped reason)) ≡ cond b 0 5
     go true = refl
     go false = refl
-
-pub admission-numbers : AdmissionNumbers
-admission-numbers h reason = (refl, refl)

@@ -8,11 +8,8 @@ use Rattle.opcode.specs.Opcode.{classOf, serviceOf, lowOf, ucHas}
 use Rattle.opcode.specs.Kind as Kind
 use Rattle.opcode.specs.Service as Service
 use Rattle.header.specs.Reason as Reason
-use Rattle.header.specs.Read.{bthOf, badLength, otherService, quietDrop, readBy}
+use Rattle.header.specs.Read.{bthOf, badLength, otherService, readBy}
 use Rattle.header.specs.declared.HeaderRead.{HeaderRead}
-use Rattle.header.specs.declared.HeaderRead.the-variants as read
-use Rattle.header.specs.declared.Admission.{Admission}
-use Rattle.header.specs.declared.Admission.the-variants as admission
 
 -- the top bit of a P_Key
 abbrev pub pkeyTop : ℕ
@@ -56,13 +53,3 @@ headerReason service ours pkey ready p =
 -- the header, or the check that failed
 unfoldable pub admitted : ℕ → ℕ → ℕ → Bool → List ℕ → HeaderRead
 admitted service ours pkey ready p = readBy (headerReason service ours pkey ready p) p
-
--- the same with the class of its opcode, for what comes after
-abbrev pub withClass : HeaderRead → Admission
-withClass (read.Accepted h) = admission.Admitted h (classOf (h .bth .opcode))
-withClass (read.Dropped reason) = admission.Dropped reason
-
--- the number: 0, or that of the quiet drop
-abbrev pub admissionNumber : Admission → ℕ
-admissionNumber (admission.Admitted h c) = 0
-admissionNumber (admission.Dropped reason) = quietDrop

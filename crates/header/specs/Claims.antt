@@ -10,7 +10,7 @@ use Rattle.opcode.specs.Opcode.{classOf, serviceOf, lowOf}
 use Rattle.header.specs.Bytes.{Bytes}
 use Rattle.header.specs.Read.{headerOf, readBy, readNumber, readHeader}
 use Rattle.header.specs.Write.{followsBy, headerFits, headerLength, headerBytes, writeAnswer, written, answerNumber, writtenOut}
-use Rattle.header.specs.Check.{pkeysMatch, admitted, withClass, admissionNumber}
+use Rattle.header.specs.Check.{pkeysMatch, admitted}
 use Rattle.header.specs.declared.Bth.{Bth}
 use Rattle.header.specs.declared.Reth.{Reth}
 use Rattle.header.specs.declared.Aeth.{Aeth}
@@ -115,9 +115,3 @@ abbrev pub MatchesOnly : Type 0
 MatchesOnly =
     (a b : ℕ) → pkeysMatch a b ≡ true
     → (a % 32768 ≡ b % 32768) × (a % 32768 ≡ 0 → ⊥) × ((32768 ≤ a) ⊎ (32768 ≤ b))
-
--- What the header checks of a pair find has the number that reading has: 0, or 5.
-abbrev pub AdmissionNumbers : Type 0
-AdmissionNumbers =
-    (h : Header) (reason : ℕ)
-    → (admissionNumber (withClass (Accepted h)) ≡ 0) × (admissionNumber (withClass (Dropped reason)) ≡ 5)

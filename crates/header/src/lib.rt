@@ -2,7 +2,6 @@
 // proof that each undoes the other, stand in specs/ and proofs/; the code in decode and encode.
 pub mod reason;
 
-use opcode::OpcodeClass;
 use sequence::Msn;
 use sequence::Psn;
 ghost use mathlib.Core.Path.{_≡_};
@@ -81,12 +80,6 @@ pub struct Header {
 // Reading alone makes four of them: reason::LENGTH, VERSION, SERVICE and SHORT.
 pub enum HeaderRead {
     Accepted(Header),
-    Dropped(u8),
-}
-
-// What the header checks of a pair find: the header with the class of its opcode, or the check that failed first.
-pub enum Admission {
-    Admitted(Header, OpcodeClass),
     Dropped(u8),
 }
 

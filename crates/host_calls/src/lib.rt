@@ -184,7 +184,8 @@ pub fn post_entry(pair: Pair, entries: &mut [[u64; 3]; 16], entry: Entry) -> Hos
     if pair.state == pair::ERROR {
         return outcome(Status::WrongState, pair);
     }
-    let bad = unsound(pair);
+    let numbers = sound::numbers_unsound(pair);
+    let bad = sound::work_unsound(numbers, pair);
     if bad {
         return outcome(Status::OutOfRange, pair);
     }

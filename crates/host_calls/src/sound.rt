@@ -4,7 +4,9 @@ use pair::Setup;
 use sequence::Msn;
 use sequence::Psn;
 ghost use mathlib.Core.Path.{_≡_};
+ghost use mathlib.Core.Bool.{_||_};
 ghost use Rattle.table.specs.Table.{outside};
+ghost use Rattle.host_calls.specs.Halves.{numbersUnsound, workUnsound};
 ghost use Rattle.pair.specs.Sound.{setupUnfit, setupUnsound, ringUnsound, sendUnsound, messageUnsound, readUnsound, countersUnsound, pairUnsound};
 
 fn outside(offset: usize, length: usize, memory: usize) -> bool
@@ -56,7 +58,7 @@ pub fn setup_unsound(setup: Setup) -> bool
 }
 
 // A table has 16 rows.
-pub fn ring_unsound(head: usize, count: usize) -> bool
+fn ring_unsound(head: usize, count: usize) -> bool
     ensures { λ r. ⌜ r ≡ ringUnsound head count ⌝ }
 {
     if 16 <= head {
@@ -76,7 +78,7 @@ fn send_unsound(stored: usize, entries: usize) -> bool
 }
 
 // An open WRITE has bytes to come, within the limit, and its next byte has an address.
-pub fn message_unsound(kind: u8, stored: usize, address: u64, length: usize, entries: usize) -> bool
+fn message_unsound(kind: u8, stored: usize, address: u64, length: usize, entries: usize) -> bool
     ensures { λ r. ⌜ r ≡ messageUnsound kind stored address length entries ⌝ }
 {
     if kind == pair::CLOSED {
@@ -98,7 +100,7 @@ pub fn message_unsound(kind: u8, stored: usize, address: u64, length: usize, ent
 }
 
 // A read answer has no more responses to send than there are, lies in memory, and has numbers of 24 bits.
-pub fn read_unsound(
+fn read_unsound(
     remaining: usize,
     offset: usize,
     length: usize,
@@ -126,7 +128,7 @@ pub fn read_unsound(
 }
 
 // The state is one of three, PSN and MSN have 24 bits.
-pub fn counters_unsound(state: u8, expected: Psn, msn: Msn) -> bool
+fn counters_unsound(state: u8, expected: Psn, msn: Msn) -> bool
     ensures { λ r. ⌜ r ≡ countersUnsound state (expected .0) (msn .0) ⌝ }
 {
     if pair::ERROR < state {
@@ -138,9 +140,11 @@ pub fn counters_unsound(state: u8, expected: Psn, msn: Msn) -> bool
     Msn::SPACE <= msn.0
 }
 
-// Whether some number of the pair is out of its range.
-pub fn unsound(pair: Pair) -> bool
-    ensures { λ r. ⌜ r ≡ pairUnsound pair ⌝ }
+// Whether a number that a pair always has is out of its range: of its set-up, state, counters and rings. The calls for
+// each packet make these tests and the next by two calls: as one function they are too long to be inlined, and the
+// pair would go through memory for every packet.
+pub fn numbers_unsound(pair: Pair) -> bool
+    ensures { λ r. ⌜ r ≡ numbersUnsound pair ⌝ }
 {
     let setup = pair.setup;
     let a = setup_unsound(setup);
@@ -155,18 +159,24 @@ pub fn unsound(pair: Pair) -> bool
     if c {
         return true;
     }
-    let d = ring_unsound(pair.saved.head, pair.saved.count);
-    if d {
+    ring_unsound(pair.saved.head, pair.saved.count)
+}
+
+// Whether some number is, given whether one of those is: one of the open message or of the READ being answered.
+pub fn work_unsound(numbers: bool, pair: Pair) -> bool
+    ensures { λ r. ⌜ r ≡ (numbers || workUnsound pair) ⌝ }
+{
+    if numbers {
         return true;
     }
-    let e = message_unsound(
+    let m = message_unsound(
         pair.message.kind,
         pair.message.stored,
         pair.message.address,
         pair.message.length,
         pair.entries.count,
     );
-    if e {
+    if m {
         return true;
     }
     read_unsound(
@@ -178,4 +188,12 @@ pub fn unsound(pair: Pair) -> bool
         pair.setup.pmtu,
         pair.setup.memory,
     )
+}
+
+// Whether some number of the pair is out of its range.
+pub fn unsound(pair: Pair) -> bool
+    ensures { λ r. ⌜ r ≡ pairUnsound pair ⌝ }
+{
+    let numbers = numbers_unsound(pair);
+    work_unsound(numbers, pair)
 }

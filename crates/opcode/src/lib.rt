@@ -1,6 +1,9 @@
 // What an opcode says of its packet: kind of request or response, place in the message, the headers
 // after the BTH, and the length of all headers.
 ghost use mathlib.Core.Path.{_≡_};
+ghost use mathlib.Core.Bool.{true, false, cond};
+ghost use lib.Dec.{eqb};
+ghost use Rattle.opcode.specs.Service as Service;
 ghost use Rattle.opcode.specs.Place.{starts, ends};
 ghost use Rattle.opcode.specs.Opcode.{kindOf, placeIn, placeOf, sendWriteFollows, followsOf, lengthOf, lowClass, reservedClass, ucHas, classOf};
 
@@ -308,19 +311,26 @@ pub fn uc_has(low: u8) -> bool
     low < READ
 }
 
-// The class of an opcode: the one function that knows what opcodes mean.
+// Whether a service has the opcode with these low five bits.
+fn served(service: u8, low: u8) -> bool
+    ensures { λ r. ⌜ r ≡ cond (eqb service Service.rc) true (cond (eqb service Service.uc) (ucHas low) false) ⌝ }
+{
+    if service == RC {
+        return true;
+    }
+    if service != UC {
+        return false;
+    }
+    uc_has(low)
+}
+
+// The class of an opcode: the one function that knows what opcodes mean. low_class stands in it once, so that the
+// compiler inlines it where packets come in.
 pub fn class(opcode: u8) -> OpcodeClass
     ensures { λ r. ⌜ r ≡ classOf opcode ⌝ }
 {
-    let service = opcode / PER_SERVICE;
     let low = opcode % PER_SERVICE;
-    if service == RC {
-        return low_class(low);
-    }
-    if service != UC {
-        return reserved_class();
-    }
-    let has = uc_has(low);
+    let has = served(opcode / PER_SERVICE, low);
     if has {
         return low_class(low);
     }

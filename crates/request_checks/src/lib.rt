@@ -2,11 +2,9 @@
 // number. The definitions and their laws stand in the crate request_spec.
 mod key;
 mod lengths;
-mod operands;
 mod place;
 
 pub use key::key_fails;
-pub use operands::packet_of;
 use pair::OpenMessage;
 use pair::Setup;
 use pair::Status;

@@ -14,7 +14,7 @@ use Rattle.header.specs.Read.{bthOf, extensionOf, headerOf}
 use Rattle.header.specs.Write.{headerLength}
 use Rattle.request_spec.specs.declared.Packet.{Packet}
 use Rattle.request_spec.specs.Packet.{operandsOf, packetOf}
-use Rattle.request_spec.specs.Claims.{Place, Form, NoOperands, FromReth, FromAtomic, BthTaken, Taken, OpcodeTaken, UcAlike, UcTaken}
+use Rattle.request_spec.specs.Claims.{Place, Form, NoOperands, FromReth, FromAtomic, BthTaken, Taken, OpcodeTaken, UcAlike, UcTaken, AdmissionNumbers}
 
 -- by the class of the opcode
 abbrev numbers : OpcodeClass → List ℕ → ℕ → Packet
@@ -176,3 +176,6 @@ uc-alike low h =
 
 pub uc-taken : UcTaken
 uc-taken bytes n low e h = taken-by bytes n low (ap classOf e ∙ uc-alike low h)
+
+pub admission-numbers : AdmissionNumbers
+admission-numbers h reason n = (refl, refl)

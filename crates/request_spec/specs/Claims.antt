@@ -8,12 +8,14 @@ use mathlib.Core.Logic.{_⊎_}
 use lib.ListN.{getD}
 use Rattle.header.specs.Bytes.{be4}
 use Rattle.header.specs.Read.{bthOf, rethOf, atomicOf, headerOf}
+use Rattle.header.specs.declared.Header.{Header}
+use Rattle.header.specs.declared.HeaderRead.the-variants.{Accepted, Dropped}
 use Rattle.opcode.specs.Opcode.{classOf}
 use Rattle.pair.specs.declared.Setup.{Setup}
 use Rattle.pair.specs.declared.OpenMessage.{OpenMessage}
 use Rattle.request_spec.specs.declared.Operands.{Operands}
 use Rattle.request_spec.specs.declared.Packet.{Packet}
-use Rattle.request_spec.specs.Packet.{packetOf}
+use Rattle.request_spec.specs.Packet.{packetOf, admission, admissionNumber}
 use Rattle.request_spec.specs.Verdict.{outOfSequence, notEnabled, padEarly, overLimit, noneWaiting, entryOutside, keyFails, lengthsOff, current, expectedCode}
 
 -- Places: 0 First, 1 Middle, 2 Last, 4 Only. First and Only begin a message, Middle and Last go on with one; First and
@@ -268,3 +270,9 @@ abbrev pub UcTaken : Type 0
 UcTaken =
     (bytes : List ℕ) (n low : ℕ) → bthOf bytes .opcode ≡ 32 + low → low < 12
     → Taken bytes low (packetOf (headerOf bytes) n)
+
+-- What the header checks of a pair find has the number that reading has: 0, or 5.
+abbrev pub AdmissionNumbers : Type 0
+AdmissionNumbers =
+    (h : Header) (reason n : ℕ)
+    → (admissionNumber (admission (Accepted h) n) ≡ 0) × (admissionNumber (admission (Dropped reason) n) ≡ 5)

@@ -8,8 +8,13 @@ use Rattle.header.specs.declared.AtomicEth.{AtomicEth}
 use Rattle.header.specs.declared.Extension.{Extension}
 use Rattle.header.specs.declared.Extension.the-variants.{Bare, Remote, RemoteImmediate, Immediate, Atomic, Acknowledge, AtomicAcknowledge}
 use Rattle.header.specs.declared.Header.{Header}
+use Rattle.header.specs.declared.HeaderRead.{HeaderRead}
+use Rattle.header.specs.declared.HeaderRead.the-variants as read
+use Rattle.header.specs.Read.{quietDrop}
 use Rattle.request_spec.specs.declared.Operands.{Operands}
 use Rattle.request_spec.specs.declared.Packet.{Packet}
+use Rattle.request_spec.specs.declared.Admission.{Admission}
+use Rattle.request_spec.specs.declared.Admission.the-variants as found
 
 -- a RETH's address, R_Key and DMA length, with or without an immediate behind it
 abbrev pub remote : Reth → Bool → ℕ → Operands
@@ -54,3 +59,13 @@ packetBy c h n =
 
 unfoldable pub packetOf : Header → ℕ → Packet
 packetOf h n = packetBy (classOf (h .bth .opcode)) h n
+
+-- what the header checks of a pair find, of a packet of n bytes
+abbrev pub admission : HeaderRead → ℕ → Admission
+admission (read.Accepted h) n = found.Admitted (packetOf h n)
+admission (read.Dropped reason) n = found.Dropped reason
+
+-- its number: 0, or that of the quiet drop
+abbrev pub admissionNumber : Admission → ℕ
+admissionNumber (found.Admitted p) = 0
+admissionNumber (found.Dropped reason) = quietDrop

@@ -28,3 +28,9 @@ pub struct Packet {
     pub body: usize,
     pub operands: Operands,
 }
+
+// What the header checks of a pair find: the packet, or the check that failed first.
+pub enum Admission {
+    Admitted(Packet),
+    Dropped(u8),
+}

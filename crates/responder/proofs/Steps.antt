@@ -6,11 +6,9 @@ use mathlib.Core.List.{List}
 use lib.Dec.{eqb, ltb}
 use lib.ListN.{length}
 use borrow.Author.Tests.{eqb-true, eq-eqb, ne-eqb, le-ltb}
+use Rattle.sequence.specs.declared.Msn.{Msn}
 use Rattle.opcode.specs.Opcode.{placeOf, lowClass, classOf}
-use Rattle.opcode.specs.declared.OpcodeClass.{OpcodeClass}
-use Rattle.header.specs.Check.{admitted, withClass}
-use Rattle.header.specs.declared.Admission.{Admission}
-use Rattle.header.specs.declared.Admission.the-variants as admission
+use Rattle.header.specs.Check.{admitted}
 use Rattle.header.specs.declared.Header.{Header}
 use Rattle.header.specs.declared.HeaderRead.{HeaderRead}
 use Rattle.header.specs.declared.HeaderRead.the-variants as read
@@ -23,118 +21,41 @@ use Rattle.pair.specs.declared.Pair.{Pair}
 use Rattle.pair.specs.declared.Status.{Status}
 use Rattle.pair.specs.declared.Status.the-variants as status
 use Rattle.opcode.specs.Place.{starts}
-use Rattle.request_spec.specs.Packet.{packetBy, packetOf}
+use Rattle.request_spec.specs.Packet.{packetOf, admission}
 use Rattle.request_spec.specs.Verdict.{single, fragment}
 use Rattle.request_spec.specs.declared.Packet.{Packet}
+use Rattle.request_spec.specs.declared.Admission.{Admission}
+use Rattle.request_spec.specs.declared.Admission.the-variants as found
 use Rattle.responder_spec.proofs.Codes.{Bare, class-is}
 use Rattle.responder_spec.proofs.Codes.Bare.{reads, swaps, adds}
 use Rattle.responder_spec.specs.declared.Decision.{Decision}
 use Rattle.responder_spec.specs.declared.Outcome.{Outcome}
 use Rattle.responder_spec.specs.Decide.{noReply, packetDecision, orDrop, inboundRefusal, decided}
-use Rattle.responder_spec.specs.Apply.{memoryBy, actsAtomic, savedBy, pairByNumber, pairBy}
+use Rattle.responder_spec.specs.Apply.{memoryBy, actsAtomic, savedBy, pairBy}
 use Rattle.responder_spec.specs.Reply.{answerBytes, valueBy, over, outBy}
 use Rattle.responder_spec.specs.Inbound.{outcomeBy, decision, inbound, inboundMemory, inboundSaved, inboundOut}
-use Rattle.responder_spec.proofs.Rows.Quiet.{dropped, short, range, unfinished}
-use Rattle.responder_spec.proofs.Rows.{Quiet, passed, refusal-quiet}
+use Rattle.responder_spec.proofs.Rows.{passed}
 use Rattle.execute.specs.Fits.{unformed}
-use Rattle.responder.specs.Unchanged.{unchanged, outcomeWith}
+use Rattle.responder.specs.Unchanged.{outcomeWith}
 
--- outcome, memory, saved atomics and output, as the promise lists them
-abbrev pub Leaves : Pair → List (List ℕ) → List (List ℕ) → List (List ℕ) → List ℕ → List ℕ → List ℕ → Outcome → List ℕ → List (List ℕ) → List ℕ → Type 0
-Leaves q regions entries saved m p out o m' saved' out' =
-    (o ≡ inbound q regions entries saved m p out)
-    × ((m' ≡ inboundMemory q regions entries saved m p out)
-    × ((saved' ≡ inboundSaved q regions entries saved m p out) × (out' ≡ inboundOut q regions entries saved m p out)))
+-- what the header checks found, as a decision goes on from it
+hasPacket : Admission → Bool
+hasPacket (found.Admitted k) = true
+hasPacket (found.Dropped reason) = false
 
--- a decision, and what it does
-by : (q : Pair) (regions entries saved : List (List ℕ)) (m p out : List ℕ) (d : Decision) → decision q regions entries saved m p out ≡ d
-    → (o : Outcome) → o ≡ outcomeBy q d
-    → (m' : List ℕ) → m' ≡ memoryBy d m p
-    → (saved' : List (List ℕ)) → saved' ≡ savedBy (q .saved) d saved m
-    → (out' : List ℕ) → out' ≡ outBy (q .setup) d (pairBy q d .msn) m out
-    → Leaves q regions entries saved m p out o m' saved' out'
-unfolding inbound inboundMemory inboundSaved inboundOut
-by q regions entries saved m p out d e o a m' b saved' c out' f = (
-  a ∙ ap (outcomeBy q) (sym e),
-  (b ∙ ap (λ x. memoryBy x m p) (sym e), (c ∙ ap (λ x. savedBy (q .saved) x saved m) (sym e), f ∙ ap (λ x. outBy (q .setup) x (pairBy q x .msn) m out) (sym e))),
-)
+packetIn : Packet → Admission → Packet
+packetIn other (found.Admitted k) = k
+packetIn other (found.Dropped reason) = other
 
--- a quiet decision changes nothing
-quiet-outcome : (q : Pair) (t : Status) → Quiet t → unchanged t q ≡ outcomeBy q (noReply t)
-unfolding outcomeBy noReply pairBy pairByNumber statusNumber
-quiet-outcome q t dropped = refl
-quiet-outcome q t short = refl
-quiet-outcome q t range = refl
-quiet-outcome q t unfinished = refl
+drops : (x : HeaderRead) (n reason : ℕ) → admission x n ≡ found.Dropped reason → (f : Header → Decision) → orDrop x f ≡ noReply status.Dropped
+unfolding hasPacket
+drops (read.Accepted h) n reason e f = absurd (true≢false (ap hasPacket e))
+drops (read.Dropped why) n reason e f = refl
 
-quiet-all : (q : Pair) (regions entries saved : List (List ℕ)) (m p out : List ℕ) (t : Status) → Quiet t
-    → decision q regions entries saved m p out ≡ noReply t
-    → (o : Outcome) → o ≡ unchanged t q → Leaves q regions entries saved m p out o m saved out
-unfolding noReply memoryBy savedBy actsAtomic outBy answerBytes over
-quiet-all q regions entries saved m p out t Q e o a =
-    by q regions entries saved m p out (noReply t) e o (a ∙ quiet-outcome q t Q) m refl saved refl out refl
-
--- refused before the packet is looked at
-pub refused : (q : Pair) (regions entries saved : List (List ℕ)) (m p out : List ℕ) (t : Status) → t ≡ inboundRefusal q (length m) (length out)
-    → (n : ℕ) → n ≡ statusNumber t → (n ≡ 0 → ⊥)
-    → (o : Outcome) → o ≡ unchanged t q → Leaves q regions entries saved m p out o m saved out
-unfolding decision decided executed
-refused q regions entries saved m p out t is n number some o a =
-    let x : eqb (statusNumber (inboundRefusal q (length m) (length out))) 0 ≡ false = ap (λ s. eqb (statusNumber s) 0) (sym is) ∙ (ap (λ k. eqb k 0) (sym number) ∙ ne-eqb n 0 some) in
-    quiet-all q regions entries saved m p out t (subst Quiet (sym is) (refusal-quiet q (length m) (length out) x)) (rw x (ap noReply (sym is))) o a
-
--- what holds after that
-record Willing (q : Pair) (m out : List ℕ) : Type 0 where
-  taken : executed (inboundRefusal q (length m) (length out)) ≡ true
-  room : 24 ≤ length out
-  timer : q .setup .timer ≤ timerLimit
-
-willing : (q : Pair) (m out : List ℕ) (t : Status) → t ≡ inboundRefusal q (length m) (length out) → (n : ℕ) → n ≡ statusNumber t → n ≡ 0 → Willing q m out
-unfolding executed
-willing q m out t is n number none =
-    let x : eqb (statusNumber (inboundRefusal q (length m) (length out))) 0 ≡ true = ap (λ s. eqb (statusNumber s) 0) (sym is) ∙ (ap (λ k. eqb k 0) (sym number) ∙ eq-eqb n 0 none) in
-    let P = passed q (length m) (length out) x in
-    record { taken = x; room = P .0; timer = P .1 .setup .0 .timer }
-
--- an atomic saves the value that it answers
-saved-value : (ring : Ring) (d : Decision) (saved : List (List ℕ)) (m : List ℕ)
-    → cond (actsAtomic (d .act)) (savedRows saved ring (d .psn .0) (valueBy d m)) saved ≡ savedBy ring d saved m
-unfolding savedBy valueBy
-saved-value ring d saved m = go (actsAtomic (d .act))
-  where
-    go : (b : Bool) → cond b (savedRows saved ring (d .psn .0) (cond b (wordAt m (d .at)) (d .value))) saved ≡ cond b (savedRows saved ring (d .psn .0) (wordAt m (d .at))) saved
-    go true = refl
-    go false = refl
-
--- what the checks found, with the class or without
-hasHeader : Admission → Bool
-hasHeader (admission.Admitted h c) = true
-hasHeader (admission.Dropped n) = false
-
-reasonIn : Admission → ℕ
-reasonIn (admission.Admitted h c) = 0
-reasonIn (admission.Dropped n) = n
-
-headerIn : Header → Admission → Header
-headerIn other (admission.Admitted h c) = h
-headerIn other (admission.Dropped n) = other
-
-classIn : OpcodeClass → Admission → OpcodeClass
-classIn other (admission.Admitted h c) = c
-classIn other (admission.Dropped n) = other
-
-drops : (x : HeaderRead) (reason : ℕ) → withClass x ≡ admission.Dropped reason → x ≡ read.Dropped reason
-unfolding hasHeader reasonIn
-drops (read.Accepted h) reason e = absurd (true≢false (ap hasHeader e))
-drops (read.Dropped n) reason e = ap read.Dropped (ap reasonIn e)
-
-admits : (x : HeaderRead) (h : Header) (class : OpcodeClass) → withClass x ≡ admission.Admitted h class
-    → (x ≡ read.Accepted h) × (class ≡ classOf (h .bth .opcode))
-unfolding hasHeader headerIn classIn
-admits (read.Accepted g) h class e =
-    let same = ap (headerIn h) e in
-    (ap read.Accepted same, sym (ap (classIn class) e) ∙ ap (λ x. classOf (x .bth .opcode)) same)
-admits (read.Dropped n) h class e = absurd (true≢false (sym (ap hasHeader e)))
+passes : (x : HeaderRead) (n : ℕ) (k : Packet) → admission x n ≡ found.Admitted k → (f : Packet → Decision) → orDrop x (λ h. f (packetOf h n)) ≡ f k
+unfolding hasPacket packetIn
+passes (read.Accepted h) n k e f = ap f (ap (packetIn k) e)
+passes (read.Dropped why) n k e f = absurd (true≢false (sym (ap hasPacket e)))
 
 -- a header's packet is no fragment: READs and atomics are Only
 whole-packet : (h : Header) (n : ℕ) → fragment (packetOf h n) ≡ false
@@ -154,72 +75,130 @@ whole-packet h n =
     go false false true x y z = only 20 adds (eqb-true (classOf (h .bth .opcode) .kind) 20 z)
     go false false false x y z = refl
 
-class-packet : (h : Header) (class : OpcodeClass) (n : ℕ) (k : Packet) → k ≡ packetBy class h n → class ≡ classOf (h .bth .opcode) → k ≡ packetOf h n
-unfolding packetOf
-class-packet h class n k e c = e ∙ ap (λ x. packetBy x h n) c
-
-formed-packet : (h : Header) (n timer : ℕ) → timer ≤ timerLimit → unformed (packetOf h n) timer ≡ false
-unfolding unformed
-formed-packet h n timer t = rw (whole-packet h n, le-ltb timerLimit timer t)
+whole-found : (x : HeaderRead) (n : ℕ) (k : Packet) → admission x n ≡ found.Admitted k → fragment k ≡ false
+unfolding hasPacket packetIn
+whole-found (read.Accepted h) n k e = subst (λ y. fragment y ≡ false) (ap (packetIn k) e) (whole-packet h n)
+whole-found (read.Dropped why) n k e = absurd (true≢false (sym (ap hasPacket e)))
 
 -- the header checks of the pair
 abbrev headerBy : Pair → List ℕ → HeaderRead
 headerBy q p = admitted (q .setup .service) (q .setup .ours) (q .setup .pkey) (eqb (q .state) 1) p
 
-module _ (q : Pair) (regions entries saved : List (List ℕ)) (m p out : List ℕ) (t : Status) (is : t ≡ inboundRefusal q (length m) (length out))
-    (n : ℕ) (number : n ≡ statusNumber t) (none : n ≡ 0) where
-  -- the decision, by what the header checks found
-  decided-by : (f : HeaderRead) → headerBy q p ≡ f
-      → decision q regions entries saved m p out ≡ orDrop f (λ h. packetDecision q regions entries saved (packetOf h (length p)))
-  unfolding decision decided
-  decided-by f e =
-      ap
-      (λ b. cond b (orDrop (headerBy q p) (λ h. packetDecision q regions entries saved (packetOf h (length p)))) (noReply (inboundRefusal q (length m) (length out))))
-      (willing q m out t is n number none .taken)
-      ∙ ap (λ x. orDrop x (λ h. packetDecision q regions entries saved (packetOf h (length p)))) e
+-- the decision, from what each function answered
+module _ (q : Pair) (regions entries saved : List (List ℕ)) (memory : ℕ) (p : List ℕ) (room : ℕ) (t : Status) (is : t ≡ inboundRefusal q memory room)
+    (n : ℕ) (number : n ≡ statusNumber t) where
+  abbrev passing : Decision
+  passing = orDrop (headerBy q p) (λ h. packetDecision q regions entries saved (packetOf h (length p)))
 
-  -- a header that does not pass is left at once
-  pub left-at-once : (f : Admission) → f ≡ withClass (headerBy q p) → (reason : ℕ) → f ≡ admission.Dropped reason
-      → (o : Outcome) → o ≡ unchanged status.Dropped q → Leaves q regions entries saved m p out o m saved out
-  left-at-once f e reason d o a =
-      quiet-all q regions entries saved m p out status.Dropped dropped (decided-by (read.Dropped reason) (drops (headerBy q p) reason (sym e ∙ d))) o a
+  tested : (b : Bool) → eqb n 0 ≡ b → executed (inboundRefusal q memory room) ≡ b
+  unfolding executed
+  tested b e = ap (λ s. eqb (statusNumber s) 0) (sym is) ∙ (ap (λ k. eqb k 0) (sym number) ∙ e)
 
-  -- the packet of a header that passes is no fragment, and the timer code of a pair that is not refused is one
-  pub whole : (f : Admission) → f ≡ withClass (headerBy q p) → (h : Header) (class : OpcodeClass) → f ≡ admission.Admitted h class
-      → (k : Packet) → k ≡ packetBy class h (length p)
-      → (d : Decision) → d ≡ cond (unformed k (q .setup .timer)) (noReply status.OutOfRange) (packetDecision q regions entries saved k)
-      → (m' : List ℕ) → m' ≡ memoryBy d m p → (value : ℕ) → value ≡ valueBy d m
+  -- refused before the packet is looked at
+  pub refused : (n ≡ 0 → ⊥) → (d : Decision) → d ≡ noReply t → d ≡ decided q regions entries saved memory p room
+  unfolding decided
+  refused some d a =
+      a ∙ (ap noReply is ∙ sym (ap (λ b. cond b passing (noReply (inboundRefusal q memory room))) (tested false (ne-eqb n 0 some))))
+
+  module _ (none : n ≡ 0) where
+    decided-is : decided q regions entries saved memory p room ≡ passing
+    unfolding decided
+    decided-is = ap (λ b. cond b passing (noReply (inboundRefusal q memory room))) (tested true (eq-eqb n 0 none))
+
+    -- a header that does not pass is left at once
+    pub left-at-once : (f : Admission) → f ≡ admission (headerBy q p) (length p) → (reason : ℕ) → f ≡ found.Dropped reason
+        → (d : Decision) → d ≡ noReply status.Dropped → d ≡ decided q regions entries saved memory p room
+    left-at-once f e reason g d a =
+        a
+        ∙ sym (decided-is ∙ drops (headerBy q p) (length p) reason (sym e ∙ g) (λ h. packetDecision q regions entries saved (packetOf h (length p))))
+
+    timer-fits : q .setup .timer ≤ timerLimit
+    timer-fits = passed q memory room (tested true (eq-eqb n 0 none)) .1 .setup .0 .timer
+
+    -- the packet of a header that passes is no fragment, and the timer code of a pair that is not refused is one
+    pub admitted-packet : (f : Admission) → f ≡ admission (headerBy q p) (length p) → (k : Packet) → f ≡ found.Admitted k
+        → (d : Decision) → d ≡ cond (unformed k (q .setup .timer)) (noReply status.OutOfRange) (packetDecision q regions entries saved k)
+        → d ≡ decided q regions entries saved memory p room
+    unfolding unformed
+    admitted-packet f e k g d a =
+        let o : (fragment k || ltb timerLimit (q .setup .timer)) ≡ false =
+        rw (whole-found (headerBy q p) (length p) k (sym e ∙ g), le-ltb timerLimit (q .setup .timer) timer-fits) in
+        a
+        ∙ (ap (λ b. cond b (noReply status.OutOfRange) (packetDecision q regions entries saved k)) o
+        ∙ sym (decided-is ∙ passes (headerBy q p) (length p) k (sym e ∙ g) (packetDecision q regions entries saved)))
+
+-- an atomic saves the value that it answers
+saved-value : (ring : Ring) (d : Decision) (saved : List (List ℕ)) (m : List ℕ)
+    → cond (actsAtomic (d .act)) (savedRows saved ring (d .psn .0) (valueBy d m)) saved ≡ savedBy ring d saved m
+unfolding savedBy valueBy
+saved-value ring d saved m = go (actsAtomic (d .act))
+  where
+    go : (b : Bool) → cond b (savedRows saved ring (d .psn .0) (cond b (wordAt m (d .at)) (d .value))) saved ≡ cond b (savedRows saved ring (d .psn .0) (wordAt m (d .at))) saved
+    go true = refl
+    go false = refl
+
+-- an output that is too short for any answer gets none
+short-decided : (q : Pair) (regions entries saved : List (List ℕ)) (memory : ℕ) (p : List ℕ) (room : ℕ) → ltb room 24 ≡ true
+    → decided q regions entries saved memory p room ≡ noReply status.OutputShort
+unfolding decided inboundRefusal executed statusNumber
+short-decided q regions entries saved memory p room e = rw e
+
+no-answer : (q : Pair) (m out : List ℕ) → out ≡ outBy (q .setup) (noReply status.OutputShort) (pairBy q (noReply status.OutputShort) .msn) m out
+unfolding noReply outBy answerBytes over
+no-answer q m out = refl
+
+-- what a decision does, to each thing that was lent
+module _ (q : Pair) (regions entries saved : List (List ℕ)) (m p out : List ℕ) (d : Decision)
+    (i : d ≡ decided q regions entries saved (length m) p (length out)) where
+  decision-is : d ≡ decision q regions entries saved m p out
+  unfolding decision
+  decision-is = i
+
+  pub outcome-is : outcomeBy q d ≡ inbound q regions entries saved m p out
+  unfolding inbound
+  outcome-is = ap (outcomeBy q) decision-is
+
+  pub memory-is : (m' : List ℕ) → m' ≡ memoryBy d m p → m' ≡ inboundMemory q regions entries saved m p out
+  unfolding inboundMemory
+  memory-is m' a = a ∙ ap (λ x. memoryBy x m p) decision-is
+
+  pub saved-is : (value : ℕ) → value ≡ valueBy d m
+      → (saved' : List (List ℕ)) → saved' ≡ cond (actsAtomic (d .act)) (savedRows saved (q .saved) (d .psn .0) value) saved
+      → saved' ≡ inboundSaved q regions entries saved m p out
+  unfolding inboundSaved
+  saved-is value v saved' b =
+      b
+      ∙ (ap (λ x. cond (actsAtomic (d .act)) (savedRows saved (q .saved) (d .psn .0) x) saved) v
+      ∙ (saved-value (q .saved) d saved m ∙ ap (λ x. savedBy (q .saved) x saved m) decision-is))
+
+  pub out-is : (msn : Msn) → msn ≡ pairBy q d .msn → (value : ℕ) → value ≡ valueBy d m
+      → (out' : List ℕ) → out' ≡ cond (ltb (length out) 24) out (over (answerBytes (q .setup) d msn value) out)
+      → out' ≡ inboundOut q regions entries saved m p out
+  unfolding inboundOut outBy
+  out-is msn j value v out' c = c ∙ (go (ltb (length out) 24) refl ∙ ap (λ x. outBy (q .setup) x (pairBy q x .msn) m out) decision-is)
+    where
+      none : ltb (length out) 24 ≡ true → out ≡ outBy (q .setup) d (pairBy q d .msn) m out
+      none e = quiet (d) (i ∙ short-decided q regions entries saved (length m) p (length out) e)
+        where
+          quiet : (x : Decision) → x ≡ noReply status.OutputShort → out ≡ outBy (q .setup) x (pairBy q x .msn) m out
+          quiet x f = subst (λ y. out ≡ outBy (q .setup) y (pairBy q y .msn) m out) (sym f) (no-answer q m out)
+
+      go : (b : Bool) → ltb (length out) 24 ≡ b
+          → cond b out (over (answerBytes (q .setup) d msn value) out) ≡ over (answerBytes (q .setup) d (pairBy q d .msn) (valueBy d m)) out
+      go true e = none e
+      go false e = λ k. over (answerBytes (q .setup) d (j k) (v k)) out
+
+  -- outcome, memory, saved atomics and output, as the promise lists them
+  pub whole : (m' : List ℕ) → m' ≡ memoryBy d m p → (value : ℕ) → value ≡ valueBy d m
       → (saved' : List (List ℕ)) → saved' ≡ cond (actsAtomic (d .act)) (savedRows saved (q .saved) (d .psn .0) value) saved
       → (next : Pair) → next ≡ pairBy q d
       → (out' : List ℕ) → out' ≡ cond (ltb (length out) 24) out (over (answerBytes (q .setup) d (next .msn) value) out)
-      → (o : Outcome) → o ≡ outcomeWith next d → Leaves q regions entries saved m p out o m' saved' out'
-  unfolding outcomeBy outBy
-  whole f e h class accepted k kept-packet d i m' a value v saved' b next j out' c o t' =
-      by q regions entries saved m p out d (sym decision-is) o (t' ∙ ap (λ x. outcomeWith x d) j) m' a saved' (b ∙ kept) out' (c ∙ outgoing)
-    where
-      W : Willing q m out
-      W = willing q m out t is n number none
-
-      A : (headerBy q p ≡ read.Accepted h) × (class ≡ classOf (h .bth .opcode))
-      A = admits (headerBy q p) h class (sym e ∙ accepted)
-
-      packet-is : k ≡ packetOf h (length p)
-      packet-is = class-packet h class (length p) k kept-packet (A .1)
-
-      formed : unformed (packetOf h (length p)) (q .setup .timer) ≡ false
-      formed = formed-packet h (length p) (q .setup .timer) (W .timer)
-
-      decision-is : d ≡ decision q regions entries saved m p out
-      decision-is =
-          i
-          ∙ (ap (λ x. cond (unformed x (q .setup .timer)) (noReply status.OutOfRange) (packetDecision q regions entries saved x)) packet-is
-          ∙ (ap (λ b. cond b (noReply status.OutOfRange) (packetDecision q regions entries saved (packetOf h (length p)))) formed
-          ∙ sym (decided-by (read.Accepted h) (A .0))))
-
-      kept : cond (actsAtomic (d .act)) (savedRows saved (q .saved) (d .psn .0) value) saved ≡ savedBy (q .saved) d saved m
-      kept = ap (λ x. cond (actsAtomic (d .act)) (savedRows saved (q .saved) (d .psn .0) x) saved) v ∙ saved-value (q .saved) d saved m
-
-      outgoing : cond (ltb (length out) 24) out (over (answerBytes (q .setup) d (next .msn) value) out) ≡ over (answerBytes (q .setup) d (pairBy q d .msn) (valueBy d m)) out
-      outgoing =
-          ap (λ x. cond x out (over (answerBytes (q .setup) d (next .msn) value) out)) (le-ltb (length out) 24 (W .room))
-          ∙ (λ x. over (answerBytes (q .setup) d (j x .msn) (v x)) out)
+      → (o : Outcome) → o ≡ outcomeWith next d
+      → (o ≡ inbound q regions entries saved m p out)
+      × ((m' ≡ inboundMemory q regions entries saved m p out)
+      × ((saved' ≡ inboundSaved q regions entries saved m p out) × (out' ≡ inboundOut q regions entries saved m p out)))
+  unfolding outcomeBy
+  whole m' a value v saved' b next j out' c o t = (
+    t ∙ (ap (λ x. outcomeWith x d) j ∙ outcome-is),
+    (memory-is m' a, (saved-is value v saved' b, out-is (next .msn) (ap (λ x. x .msn) j) value v out' c)),
+  )

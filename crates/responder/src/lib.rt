@@ -3,13 +3,14 @@
 mod refuse;
 mod response;
 
-use header::Admission;
 use pair::Pair;
 use pair::Status;
+use request_spec::Admission;
 use responder_spec::Decision;
 use responder_spec::Outcome;
 pub use response::next_response;
 ghost use mathlib.Core.Path.{_≡_};
+ghost use Rattle.responder_spec.specs.Decide.{decided};
 ghost use Rattle.responder_spec.specs.Inbound.{inbound, inboundMemory, inboundSaved, inboundOut};
 ghost use Rattle.responder.specs.Unchanged.{unchanged, outcomeWith};
 
@@ -40,8 +41,38 @@ fn outcome_with(pair: Pair, d: Decision) -> Outcome
     }
 }
 
-// Takes a packet: the header checks, the decision, and what it does to memory, saved atomics, pair and output. The
-// pair's service says by whose rules it is decided.
+// The decision on a packet: refused before it is looked at, dropped by a header check, or by the rules of the pair's
+// service. It changes nothing yet. What it leaves is stored in a pair by value here, and in lent words by the crate
+// udalopek.
+pub fn decided(
+    pair: Pair,
+    regions: &[[u64; 7]; 16],
+    entries: &[[u64; 3]; 16],
+    saved: &[[u64; 2]; 16],
+    memory: usize,
+    packet: &[u8],
+    room: usize,
+) -> Decision
+    ensures { λ r. ⌜ r ≡ decided pair (now (regions .entry)) (now (entries .entry)) (now (saved .entry)) memory (now (packet .entry)) room ⌝ }
+{
+    let refused = refuse::refusal(pair, memory, room);
+    if refused.number() != 0 {
+        return reply::no_reply(refused);
+    }
+    let found = decode::admit(
+        packet,
+        pair.setup.service,
+        pair.setup.ours,
+        pair.setup.pkey,
+        pair.state == pair::READY,
+    );
+    let Admission::Admitted(p) = found else {
+        return reply::no_reply(Status::Dropped);
+    };
+    decide::decision(pair, regions, entries, saved, p)
+}
+
+// Takes a packet: the decision, and what it does to memory, saved atomics, pair and output.
 pub fn inbound(
     pair: Pair,
     regions: &[[u64; 7]; 16],
@@ -56,23 +87,7 @@ pub fn inbound(
     ensures { λ r. ⌜ now (saved .exit) ≡ inboundSaved pair (now (regions .entry)) (now (entries .entry)) (now (saved .entry)) (now (mem .entry)) (now (packet .entry)) (now (out .entry)) ⌝ }
     ensures { λ r. ⌜ now (out .exit) ≡ inboundOut pair (now (regions .entry)) (now (entries .entry)) (now (saved .entry)) (now (mem .entry)) (now (packet .entry)) (now (out .entry)) ⌝ }
 {
-    let refused = refuse::refusal(pair, mem.len(), out.len());
-    if refused.number() != 0 {
-        return unchanged(refused, pair);
-    }
-    let found = decode::admit(
-        packet,
-        pair.setup.service,
-        pair.setup.ours,
-        pair.setup.pkey,
-        pair.state == pair::READY,
-    );
-    let Admission::Admitted(h, class) = found else {
-        let dropped = Status::Dropped;
-        return unchanged(dropped, pair);
-    };
-    let p = request_checks::packet_of(h, class, packet.len());
-    let d = decide::decision(pair, regions, entries, saved, p);
+    let d = decided(pair, regions, entries, saved, mem.len(), packet, out.len());
     let value = apply::change(mem, packet, d);
     apply::keep(saved, pair.saved, d.act, d.psn, value);
     let next = apply::pair_after(pair, d);

@@ -42,7 +42,8 @@ fn next_status(pair: Pair, memory: usize, room: usize) -> Status
     if memory != pair.setup.memory {
         return Status::OutOfRange;
     }
-    let bad = host_calls::sound::unsound(pair);
+    let numbers = host_calls::sound::numbers_unsound(pair);
+    let bad = host_calls::sound::work_unsound(numbers, pair);
     if bad {
         return Status::OutOfRange;
     }
