@@ -24,9 +24,9 @@ use Rattle.pair.specs.declared.Status.the-variants.{Executed, TableFull, OutOfR
 use Rattle.pair.proofs.Begin.{reset-pair}
 use Rattle.pair.proofs.Posting.{held-waiting}
 use Rattle.responder_spec.specs.Calls.{received, drained, reports}
-use Rattle.responder_spec.specs.Entries.{Uses}
+use Rattle.answer_laws.specs.Entries.{Uses}
 use Rattle.responder_spec.specs.declared.Completion.{Completion}
-use Rattle.responder_spec.proofs.Uses.{inbound-uses, next-uses}
+use Rattle.answer_laws.proofs.Uses.{inbound-uses, next-uses}
 use Rattle.entry_order.specs.Order.{AnyCall, History, newHistory, goes, hosted, historyAfter, ran, PostingOrder, EntriesInOrder, SinceSetUp, SinceReset}
 use Rattle.entry_order.specs.Order.AnyCall.{Host, Inbound, Next}
 

@@ -1,6 +1,8 @@
 -- A request packet as numbers.
 use Prim.Native.Nat.{ℕ, _-_}
 use mathlib.Core.Bool.{Bool, true, false}
+use mathlib.Core.List.{List}
+use lib.ListN.{length}
 use Rattle.opcode.specs.Opcode.{classOf}
 use Rattle.opcode.specs.declared.OpcodeClass.{OpcodeClass}
 use Rattle.header.specs.declared.Reth.{Reth}
@@ -8,6 +10,7 @@ use Rattle.header.specs.declared.AtomicEth.{AtomicEth}
 use Rattle.header.specs.declared.Extension.{Extension}
 use Rattle.header.specs.declared.Extension.the-variants.{Bare, Remote, RemoteImmediate, Immediate, Atomic, Acknowledge, AtomicAcknowledge}
 use Rattle.header.specs.declared.Header.{Header}
+use Rattle.header.specs.Read.{headerOf}
 use Rattle.request_spec.specs.declared.Operands.{Operands}
 use Rattle.request_spec.specs.declared.Packet.{Packet}
 
@@ -54,3 +57,7 @@ packetBy c h n =
 
 unfoldable pub packetOf : Header → ℕ → Packet
 packetOf h n = packetBy (classOf (h .bth .opcode)) h n
+
+-- the packet that bytes have, whether or not their header passes the checks
+abbrev pub packetIn : List ℕ → Packet
+packetIn p = packetOf (headerOf p) (length p)

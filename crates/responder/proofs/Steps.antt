@@ -26,16 +26,16 @@ use Rattle.opcode.specs.Place.{starts}
 use Rattle.request_spec.specs.Packet.{packetBy, packetOf}
 use Rattle.request_spec.specs.Verdict.{single, fragment}
 use Rattle.request_spec.specs.declared.Packet.{Packet}
-use Rattle.responder_spec.proofs.Codes.{Bare, class-is}
-use Rattle.responder_spec.proofs.Codes.Bare.{reads, swaps, adds}
+use Rattle.decision_laws.proofs.Codes.{Bare, class-is}
+use Rattle.decision_laws.proofs.Codes.Bare.{reads, swaps, adds}
 use Rattle.responder_spec.specs.declared.Decision.{Decision}
 use Rattle.responder_spec.specs.declared.Outcome.{Outcome}
 use Rattle.responder_spec.specs.Decide.{noReply, packetDecision, orDrop, inboundRefusal, decided}
 use Rattle.responder_spec.specs.Apply.{memoryBy, actsAtomic, savedBy, pairByNumber, pairBy}
 use Rattle.responder_spec.specs.Reply.{answerBytes, valueBy, over, outBy}
 use Rattle.responder_spec.specs.Inbound.{outcomeBy, decision, inbound, inboundMemory, inboundSaved, inboundOut}
-use Rattle.responder_spec.proofs.Rows.Quiet.{dropped, short, range, unfinished}
-use Rattle.responder_spec.proofs.Rows.{Quiet, passed, refusal-quiet}
+use Rattle.decision_laws.proofs.Rows.Quiet.{dropped, short, range, unfinished}
+use Rattle.decision_laws.proofs.Rows.{Quiet, passed, refusal-quiet}
 use Rattle.execute.specs.Fits.{unformed}
 use Rattle.responder.specs.Unchanged.{unchanged, outcomeWith}
 

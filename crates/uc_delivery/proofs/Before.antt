@@ -14,20 +14,20 @@ use Rattle.header.specs.Read.{bthOf, headerOf}
 use Rattle.pair.specs.Answer.{statusNumber}
 use Rattle.pair.specs.Calls.{begun}
 use Rattle.pair.proofs.Kept.{begun-sound, calls-sound}
-use Rattle.request_spec.specs.Packet.{packetOf}
+use Rattle.request_spec.specs.Packet.{packetOf, packetIn}
 use Rattle.responder_spec.specs.Decide.{decided, noReply, storePayload}
 use Rattle.responder_spec.specs.Apply.{executedPair, pairBy, pairByNumber, readAnswerBy}
 use Rattle.responder_spec.specs.declared.Decision.{Decision}
-use Rattle.responder_spec.proofs.Rows.Quiet.{dropped, short, range, unfinished}
-use Rattle.responder_spec.proofs.Rows.UcRow.{unheard, abandon, deliver}
-use Rattle.responder_spec.proofs.Rows.AnyRow.{reliable, unreliable}
-use Rattle.responder_spec.proofs.Rows.{Quiet, UcRow, AnyRow, numbersOf, decided-row}
-use Rattle.responder_spec.proofs.Sizes.{inbound-lengths}
-use Rattle.responder_spec.proofs.Views.{number-taken}
-use Rattle.responder_spec.proofs.Kept.{steady, inbound-steady, psn-below}
-use Rattle.delivery.specs.Stream.{Message}
-use Rattle.delivery.specs.Demand.{Run, taken, Addressed}
-use Rattle.delivery.proofs.Made.{all-idle, accepted, begun-idle}
+use Rattle.decision_laws.proofs.Rows.Quiet.{dropped, short, range, unfinished}
+use Rattle.decision_laws.proofs.Rows.UcRow.{unheard, abandon, deliver}
+use Rattle.decision_laws.proofs.Rows.AnyRow.{reliable, unreliable}
+use Rattle.decision_laws.proofs.Rows.{Quiet, UcRow, AnyRow, decided-row}
+use Rattle.effect_laws.proofs.Sizes.{inbound-lengths}
+use Rattle.decision_laws.proofs.Views.{number-taken}
+use Rattle.sound_laws.proofs.Kept.{steady, inbound-steady, psn-below}
+use Rattle.delivery_spec.specs.Stream.{Message}
+use Rattle.delivery_spec.specs.Demand.{Run, taken, Addressed}
+use Rattle.delivery_spec.proofs.Made.{all-idle, accepted, begun-idle}
 use Rattle.uc_delivery.specs.Message.{StandsMade, Apart, Arrival, heard, AllBytes, Foreign, MayCome, MayComeOn, ApartOn, WholeAfter, PartAfter}
 use Rattle.uc_delivery.proofs.Lost.{kind-open, handed-in-part}
 use Rattle.uc_delivery.proofs.Whole.{handed-whole}
@@ -44,10 +44,10 @@ module _ (x : Run) (p out : List ℕ) (uc : x .whole .pair .setup .service ≡ 1
   abbrev decides : Decision
   decides = decided (x .whole .pair) (x .whole .regions) (x .whole .entries) (x .whole .saved) (length (x .memory)) p (length out)
 
-  row : UcRow Quiet (x .whole .pair) (numbersOf p) decides
+  row : UcRow Quiet (x .whole .pair) (packetIn p) decides
   row = go (decided-row (x .whole .pair) (x .whole .regions) (x .whole .entries) (x .whole .saved) (length (x .memory)) p (length out))
     where
-      go : AnyRow Quiet (x .whole .pair) (x .whole .regions) (x .whole .saved) (numbersOf p) decides → UcRow Quiet (x .whole .pair) (numbersOf p) decides
+      go : AnyRow Quiet (x .whole .pair) (x .whole .regions) (x .whole .saved) (packetIn p) decides → UcRow Quiet (x .whole .pair) (packetIn p) decides
       go (reliable e r) = absurd (eqb-false (x .whole .pair .setup .service) 1 e uc)
       go (unreliable e r) = r
 
@@ -60,7 +60,7 @@ module _ (x : Run) (p out : List ℕ) (uc : x .whole .pair .setup .service ≡ 1
     pub next : ((y .whole .pair .message ≡ x .whole .pair .message) × (y .whole .pair .expected ≡ x .whole .pair .expected))
         ⊎ ((y .whole .pair .message .kind ≡ 255) ⊎ (y .whole .pair .expected ≡ psnAfter (bthOf p .psn) 1))
 
-  leaves-by : (d : Decision) → UcRow Quiet (x .whole .pair) (numbersOf p) d → Leaves (carriedOut x d p)
+  leaves-by : (d : Decision) → UcRow Quiet (x .whole .pair) (packetIn p) d → Leaves (carriedOut x d p)
   unfolding pairBy pairByNumber statusNumber executedPair noReply storePayload readAnswerBy packetOf headerOf
   leaves-by d (unheard a dropped) = record { setup = refl; state = refl; read = refl; next = inl (refl, refl) }
   leaves-by d (unheard a short) = record { setup = refl; state = refl; read = refl; next = inl (refl, refl) }

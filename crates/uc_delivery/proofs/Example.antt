@@ -24,7 +24,7 @@ use Rattle.cut_spec.specs.declared.Request.the-variants.{Send, SendImmediate, W
 use Rattle.uc_delivery.specs.Message.{Standing, messagePacket, handed, MayCome, firstWaiting, Unreported}
 use Rattle.uc_delivery.specs.Example.{setup, region, calls, made, message, out, first, fresh, AllFulfilled, Delivered, broken, Interrupted}
 use Rattle.responder_spec.specs.Calls.{received}
-use Rattle.delivery.specs.Demand.{AtLeast, entryOf}
+use Rattle.delivery_spec.specs.Demand.{AtLeast, entryOf}
 use Rattle.uc_delivery.proofs.Before.{stands-made, leaves}
 use Rattle.uc_delivery.proofs.Lost.{comes, handed-in-part}
 use Rattle.uc_delivery.proofs.Whole.{handed-whole}

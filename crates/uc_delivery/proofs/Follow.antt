@@ -27,27 +27,27 @@ use Rattle.request_spec.specs.Verdict.{carrying, usesEntry, payloadSize, curren
 use Rattle.responder_spec.specs.declared.Decision.{Decision}
 use Rattle.responder_spec.specs.Decide.{decided, regionFor, closedBy, orphaned, strays, completionOf, messageAfter, storePayload, unanswered}
 use Rattle.responder_spec.specs.Apply.{memoryBy, entriesBy, msnBy}
-use Rattle.responder_spec.specs.Answers.{Willing}
-use Rattle.responder_spec.specs.Kept.{Steady}
+use Rattle.answer_laws.specs.Answers.{Willing}
+use Rattle.responder_spec.specs.Steady.{Steady}
 use Rattle.responder_spec.specs.declared.Completion.{Completion}
-use Rattle.responder_spec.proofs.Views.{current-closed, same-code}
-use Rattle.responder_spec.proofs.Sizes.{inbound-lengths}
-use Rattle.responder_spec.proofs.Kept.{inbound-steady}
+use Rattle.decision_laws.proofs.Views.{current-closed, same-code}
+use Rattle.effect_laws.proofs.Sizes.{inbound-lengths}
+use Rattle.sound_laws.proofs.Kept.{inbound-steady}
 use Rattle.responder_spec.specs.Calls.{reports}
-use Rattle.delivery.specs.Stream.{Message, Slot, packetCount, packetAt}
-use Rattle.delivery.specs.Plain.{takesEntry, needsEntryAt, slotNeedsEntry, isLast, none, completionFor, regionOffset}
-use Rattle.delivery.specs.Demand.{Run, taken, Permitted, AtLeast}
-use Rattle.delivery.proofs.Chain.{Stands}
-use Rattle.delivery.proofs.Cutting.{placeFor, cutPacket, psn-small}
-use Rattle.delivery.proofs.Operands.{addressOf, keyOf, immediateOf}
-use Rattle.delivery.proofs.Rel.{IsOf, Holding, OpenedFor}
-use Rattle.delivery.proofs.Verdicts.{passes}
-use Rattle.delivery.proofs.Fitting.{Suits, and-false}
-use Rattle.delivery.proofs.Checks.{ends-is, says, before, behind, waiting-is}
-use Rattle.delivery.proofs.Entries.{entry-fits}
-use Rattle.delivery.proofs.Requests.{Carries, Sends, Writes, send-carries, send-imm-carries, write-carries, write-imm-carries, send-sends, send-imm-sends, write-writes, write-imm-writes}
-use Rattle.delivery.proofs.Storing.{storing-completes, message-after-more}
-use Rattle.delivery.proofs.InMemory.{in-place, send-memory-is, send-completes, send-long, write-memory-is, write-completes, write-long}
+use Rattle.delivery_spec.specs.Stream.{Message, Slot, packetCount, packetAt}
+use Rattle.delivery_spec.specs.Plain.{takesEntry, needsEntryAt, slotNeedsEntry, isLast, none, completionFor, regionOffset}
+use Rattle.delivery_spec.specs.Demand.{Run, taken, Permitted, AtLeast}
+use Rattle.delivery_spec.proofs.Chain.{Stands}
+use Rattle.delivery_spec.proofs.Cutting.{placeFor, cutPacket, psn-small}
+use Rattle.delivery_spec.proofs.Operands.{addressOf, keyOf, immediateOf}
+use Rattle.delivery_spec.proofs.Rel.{IsOf, Holding, OpenedFor}
+use Rattle.delivery_spec.proofs.Verdicts.{passes}
+use Rattle.delivery_spec.proofs.Fitting.{Suits, and-false}
+use Rattle.delivery_spec.proofs.Checks.{ends-is, says, before, behind, waiting-is}
+use Rattle.delivery_spec.proofs.Entries.{entry-fits}
+use Rattle.delivery_spec.proofs.Requests.{Carries, Sends, Writes, send-carries, send-imm-carries, write-carries, write-imm-carries, send-sends, send-imm-sends, write-writes, write-imm-writes}
+use Rattle.delivery_spec.proofs.Storing.{storing-completes, message-after-more}
+use Rattle.delivery_spec.proofs.InMemory.{in-place, send-memory-is, send-completes, send-long, write-memory-is, write-completes, write-long}
 use Rattle.uc_delivery.specs.Message.{firstWaiting, HasEntry, target}
 use Rattle.uc_delivery.proofs.Steps.{decided-is, taken-is, at, stored-out, delivers}
 

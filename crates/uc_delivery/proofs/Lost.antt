@@ -28,16 +28,16 @@ use Rattle.responder_spec.specs.Decide.{decided, headEntry, regionFor, noReply,
 use Rattle.responder_spec.specs.Apply.{executedPair, pairBy, pairByNumber, readAnswerBy, entriesBy, msnBy}
 use Rattle.responder_spec.specs.Inbound.{decision, inbound, outcomeBy}
 use Rattle.responder_spec.specs.declared.Decision.{Decision}
-use Rattle.responder_spec.proofs.Views.{number-taken}
-use Rattle.responder_spec.proofs.Ways.{branch}
-use Rattle.responder_spec.proofs.Refusals.{inbound-answered}
-use Rattle.responder_spec.proofs.Sizes.{inbound-lengths}
-use Rattle.responder_spec.proofs.Kept.{inbound-steady}
-use Rattle.delivery.specs.Stream.{Message, Slot, packetCount, packetAt}
-use Rattle.delivery.specs.Demand.{Run, taken, Addressed}
-use Rattle.delivery.proofs.Chain.{Sent}
-use Rattle.delivery.proofs.Cutting.{placeFor, cutPacket, psn-small}
-use Rattle.delivery.proofs.Places.{starts-at, ends-at}
+use Rattle.decision_laws.proofs.Views.{number-taken}
+use Rattle.decision_laws.proofs.Ways.{branch}
+use Rattle.effect_laws.proofs.Refusals.{inbound-answered}
+use Rattle.effect_laws.proofs.Sizes.{inbound-lengths}
+use Rattle.sound_laws.proofs.Kept.{inbound-steady}
+use Rattle.delivery_spec.specs.Stream.{Message, Slot, packetCount, packetAt}
+use Rattle.delivery_spec.specs.Demand.{Run, taken, Addressed}
+use Rattle.delivery_spec.proofs.Chain.{Sent}
+use Rattle.delivery_spec.proofs.Cutting.{placeFor, cutPacket, psn-small}
+use Rattle.delivery_spec.proofs.Places.{starts-at, ends-at}
 use Rattle.uc_delivery.specs.Message.{MayCome, Unreported, handed, HandedInPart}
 use Rattle.uc_delivery.proofs.Steps.{decided-is, taken-is, carriedOut}
 use Rattle.uc_delivery.proofs.Follow.{carries-bytes}

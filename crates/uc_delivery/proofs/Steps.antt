@@ -19,17 +19,17 @@ use Rattle.request_spec.specs.Verdict.{carrying, current, requestCode}
 use Rattle.request_spec.specs.declared.Packet.{Packet}
 use Rattle.responder_spec.specs.Decide.{decided, packetDecision, headEntry, regionFor, orphaned, strays, closedBy, storePayload, unanswered, ucExecute, ucCheckedDecision, ucDecision}
 use Rattle.responder_spec.specs.Apply.{executedPair, pairBy, memoryBy, savedBy, savedRingBy, entriesBy, msnBy, readAnswerBy, actsAtomic, pairByNumber}
-use Rattle.responder_spec.specs.Answers.{Willing}
+use Rattle.answer_laws.specs.Answers.{Willing}
 use Rattle.responder_spec.specs.Calls.{received, reports}
 use Rattle.responder_spec.specs.Inbound.{decision, inbound, inboundMemory, inboundSaved, outcomeBy}
 use Rattle.responder_spec.specs.declared.Completion.{Completion}
 use Rattle.responder_spec.specs.declared.Decision.{Decision}
-use Rattle.responder_spec.proofs.Answers.{goes}
-use Rattle.responder_spec.proofs.Views.{number-taken}
-use Rattle.delivery.specs.Stream.{Slot, packetAt}
-use Rattle.delivery.specs.Demand.{Run, taken}
-use Rattle.delivery.proofs.Chain.{Sent}
-use Rattle.delivery.proofs.Cutting.{cutPacket, admits, is-packet}
+use Rattle.answer_laws.proofs.Answers.{goes}
+use Rattle.decision_laws.proofs.Views.{number-taken}
+use Rattle.delivery_spec.specs.Stream.{Slot, packetAt}
+use Rattle.delivery_spec.specs.Demand.{Run, taken}
+use Rattle.delivery_spec.proofs.Chain.{Sent}
+use Rattle.delivery_spec.proofs.Cutting.{cutPacket, admits, is-packet}
 
 -- Not refused, the header checks passed: the rules of the unreliable connection decide
 module _ (q : Pair) (regions entries saved : List (List ℕ)) (m out : List ℕ) (W : Willing q m out) (uc : q .setup .service ≡ 1) (ready : q .state ≡ 1)

@@ -18,8 +18,8 @@ use Rattle.table.specs.Claims.{RegionsSound}
 use Rattle.responder_spec.specs.declared.Completion.{Completion}
 use Rattle.responder_spec.specs.Inbound.{inbound, inboundMemory, inboundSaved, inboundOut}
 use Rattle.responder_spec.specs.Response.{nextResponse, nextOut}
-use Rattle.responder_spec.specs.Effects.{Silent}
-use Rattle.responder_spec.proofs.Effects.{inbound-table}
+use Rattle.effect_laws.specs.Effects.{Silent}
+use Rattle.effect_laws.proofs.Effects.{inbound-table}
 use Rattle.abi_spec.specs.Pair.{pairOf, pairWords, malformed}
 use Rattle.abi_spec.specs.Rows.{malformedFrom}
 use Rattle.abi_spec.specs.Claims.{PairFields}
