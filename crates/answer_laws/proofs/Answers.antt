@@ -8,6 +8,9 @@ use native.Mathlib.Omega.{arith}
 use lib.Dec.{eqb, ltb}
 use lib.ListN.{length, getD}
 use borrow.Author.Tests.{lt-ltb, le-ltb, eq-eqb, ne-eqb, ltb-false}
+use Rattle.pair.specs.Calls.{Whole}
+use Rattle.responder_spec.specs.Arrival.{Arrival}
+use Rattle.responder_spec.specs.Decide.{refusalOf}
 use Rattle.lemmas.proofs.Tests.{or-left, or-right, neither}
 use Rattle.sequence.specs.Sequence.{distance, psnClass}
 use Rattle.sequence.specs.declared.Psn.{Psn}
@@ -41,35 +44,36 @@ use Rattle.responder_spec.specs.Decide.{beginRead, noReply, acknowledging, ahea
 use Rattle.responder_spec.specs.Decide.{runAtomic, acceptRead, execute, checkedDecision, expectedDecision}
 use Rattle.responder_spec.specs.Decide.{duplicateReadFails, duplicateRead, isAtomic, duplicateDecision}
 use Rattle.responder_spec.specs.Decide.{regionFor, headEntry, decisionByClass, rcDecision, packetDecision}
-use Rattle.responder_spec.specs.Decide.{readsFull, inboundRefusal, decided}
-use Rattle.responder_spec.specs.Inbound.{outcomeBy, decision, inbound}
+use Rattle.responder_spec.specs.Decide.{readsFull, inboundRefusal, decision}
+use Rattle.responder_spec.specs.Inbound.{leftBy, inbound}
 use Rattle.answer_laws.specs.Answers.{Willing, headerBy, HeaderDropped, entryAtHead, Expects, Aheads}
 use Rattle.answer_laws.specs.Answers.{ReadAnswerable, DuplicateAnswers, Classed, HeaderPassed}
 use Rattle.answer_laws.specs.Answers.{DuplicateReplies, DuplicateSent}
 use Rattle.decision_laws.proofs.Codes.{Codes, codes}
 
 -- nothing refuses the call
-pub goes : (q : Pair) (m out : List ℕ) → Willing q m out → executed (inboundRefusal q (length m) (length out)) ≡ true
+pub goes : (a : Arrival) → Willing a → executed (refusalOf a) ≡ true
 unfolding inboundRefusal readsFull executed statusNumber
-goes q m out W =
-    rw (le-ltb (length out) 24 (W .room), eq-eqb (length m) (q .setup .memory) (W .memory), sound q (W .sound), eq-eqb (q .read .remaining) 0 (W .idle))
+goes a W =
+    let q = a .whole .pair in
+    rw (le-ltb (length (a .out)) 24 (W .room), eq-eqb (length (a .memory)) (q .setup .memory) (W .memory), sound q (W .sound), eq-eqb (q .read .remaining) 0 (W .idle))
 
 pub header-dropped : HeaderDropped
-unfolding inbound outcomeBy decision decided noReply statusNumber
-header-dropped q regions entries saved m p out W reason e = rw (goes q m out W, e)
+unfolding inbound leftBy decision noReply statusNumber
+header-dropped a W reason e = rw (goes a W, e)
 
-pub looked : (q : Pair) (regions entries saved : List (List ℕ)) (m p out : List ℕ) → Willing q m out → (h : Header) → headerBy q p ≡ read.Accepted h
-    → statusNumber (inbound q regions entries saved m p out .status)
-    ≡ statusNumber (packetDecision q regions entries saved (packetOf h (length p)) .status)
-unfolding inbound outcomeBy decision decided
-looked q regions entries saved m p out W h e = rw (goes q m out W, e)
+pub looked : (a : Arrival) → Willing a → (h : Header) → headerBy a ≡ read.Accepted h
+    → inbound a .number
+    ≡ statusNumber (packetDecision (a .whole) (packetOf h (length (a .packet))) .status)
+unfolding inbound leftBy decision
+looked a W h e = rw (goes a W, e)
 
 -- the entry at the head
-pub head-first : (q : Pair) (entries : List (List ℕ)) → Sound q → headEntry q entries ≡ entryAtHead q entries
+pub head-first : (w : Whole) → Sound (w .pair) → headEntry (w .pair) (w .entries) ≡ entryAtHead w
 unfolding slotAt
-head-first q entries S =
-    let e : (q .entries .head + 0) % 16 ≡ q .entries .head = omega (arith, S .entries .0) in
-    ap (λ i. getD entries i []) e
+head-first w S =
+    let e : (w .pair .entries .head + 0) % 16 ≡ w .pair .entries .head = omega (arith, S .entries .0) in
+    ap (λ i. getD (w .entries) i []) e
 
 -- a SEND has no key, so its code is the same whatever the region
 key-by : (memory kind : ℕ) (t : OpenMessage) (key : ℕ) (regions : List (List ℕ))
@@ -147,42 +151,42 @@ module _ (k : Packet) (t opened : OpenMessage) (entry region : List ℕ) (pmtu :
       go false = refl
 
 -- the expected PSN
-expected-by : (q : Pair) (regions entries : List (List ℕ)) (k : Packet) (t : OpenMessage) → Sound q → Place (k .place) → IsCurrent (q .message) k t
-    → Expects q regions entries k t
-    (statusNumber (expectedDecision k (q .setup) (q .message) (q .entries .count) (headEntry q entries) (regionFor (k .kind) (current (q .message) k .key) regions) .status))
+expected-by : (w : Whole) (k : Packet) (t : OpenMessage) → Sound (w .pair) → Place (k .place) → IsCurrent (w .pair .message) k t
+    → Expects w k t
+    (statusNumber (expectedDecision k (w .pair .setup) (w .pair .message) (w .pair .entries .count) (headEntry (w .pair) (w .entries)) (regionFor (k .kind) (current (w .pair .message) k .key) (w .regions)) .status))
 unfolding expectedDecision checkedDecision
-expected-by q regions entries k t S P C =
+expected-by w k t S P C =
     record {
       code = c;
       judged =
-          subst (λ x. JudgedAt x t c) (head-first q entries S)
-          (subst (λ n. JudgedAt (headEntry q entries) t n) (sym c-is) (order s opened k t (q .entries .count) (headEntry q entries) (regionOf (t .key) regions) P C));
-      fails = λ n. rw (ne-eqb c 0 n) (failed-number c (k .psn) (s .timer) (codes s opened k (q .entries .count) (headEntry q entries) (regionFor (k .kind) (current opened k .key) regions)) n);
-      reads = λ z e. rw (eq-eqb c 0 z) (read-number k (current opened k) opened (headEntry q entries) region (s .pmtu) e);
-      swaps = λ z a. rw (eq-eqb c 0 z) (swap-number k (current opened k) opened (headEntry q entries) region (s .pmtu) a);
-      asked = λ z x a. rw (eq-eqb c 0 z) (carry-number k (current opened k) opened (headEntry q entries) region (s .pmtu) x true a);
-      unasked = λ z x a. rw (eq-eqb c 0 z) (carry-number k (current opened k) opened (headEntry q entries) region (s .pmtu) x false a);
+          subst (λ x. JudgedAt x t c) (head-first w S)
+          (subst (λ n. JudgedAt (headEntry (w .pair) (w .entries)) t n) (sym c-is) (order s opened k t (w .pair .entries .count) (headEntry (w .pair) (w .entries)) (regionOf (t .key) (w .regions)) P C));
+      fails = λ n. rw (ne-eqb c 0 n) (failed-number c (k .psn) (s .timer) (codes s opened k (w .pair .entries .count) (headEntry (w .pair) (w .entries)) (regionFor (k .kind) (current opened k .key) (w .regions))) n);
+      reads = λ z e. rw (eq-eqb c 0 z) (read-number k (current opened k) opened (headEntry (w .pair) (w .entries)) region (s .pmtu) e);
+      swaps = λ z a. rw (eq-eqb c 0 z) (swap-number k (current opened k) opened (headEntry (w .pair) (w .entries)) region (s .pmtu) a);
+      asked = λ z x a. rw (eq-eqb c 0 z) (carry-number k (current opened k) opened (headEntry (w .pair) (w .entries)) region (s .pmtu) x true a);
+      unasked = λ z x a. rw (eq-eqb c 0 z) (carry-number k (current opened k) opened (headEntry (w .pair) (w .entries)) region (s .pmtu) x false a);
     }
   where
     s : Setup
-    s = q .setup
+    s = w .pair .setup
 
     opened : OpenMessage
-    opened = q .message
+    opened = w .pair .message
 
     region : List ℕ
-    region = regionFor (k .kind) (current (q .message) k .key) regions
+    region = regionFor (k .kind) (current (w .pair .message) k .key) (w .regions)
 
     c : ℕ
-    c = expectedCode (q .setup) (q .message) k (q .entries .count) (headEntry q entries) (regionFor (k .kind) (current (q .message) k .key) regions)
+    c = expectedCode (w .pair .setup) (w .pair .message) k (w .pair .entries .count) (headEntry (w .pair) (w .entries)) (regionFor (k .kind) (current (w .pair .message) k .key) (w .regions))
 
     JudgedAt : List ℕ → OpenMessage → ℕ → Type 0
-    JudgedAt entry t n = JudgedBy (q .setup) (q .message) k t (q .entries .count) entry (regionOf (t .key) regions) n
+    JudgedAt entry t n = JudgedBy (w .pair .setup) (w .pair .message) k t (w .pair .entries .count) entry (regionOf (t .key) (w .regions)) n
 
-    c-is : c ≡ expectedCode (q .setup) (q .message) k (q .entries .count) (headEntry q entries) (regionOf (t .key) regions)
+    c-is : c ≡ expectedCode (w .pair .setup) (w .pair .message) k (w .pair .entries .count) (headEntry (w .pair) (w .entries)) (regionOf (t .key) (w .regions))
     c-is =
-        code-by (q .setup) (q .message) k (q .entries .count) (headEntry q entries) regions
-        ∙ ap (λ x. expectedCode (q .setup) (q .message) k (q .entries .count) (headEntry q entries) (regionOf (x .key) regions)) (sym (current-one (q .message) k t P C))
+        code-by (w .pair .setup) (w .pair .message) k (w .pair .entries .count) (headEntry (w .pair) (w .entries)) (w .regions)
+        ∙ ap (λ x. expectedCode (w .pair .setup) (w .pair .message) k (w .pair .entries .count) (headEntry (w .pair) (w .entries)) (regionOf (x .key) (w .regions))) (sym (current-one (w .pair .message) k t P C))
 
 ahead-by : (nakmark : Bool) (expected : Psn) → Aheads nakmark (statusNumber (aheadDecision nakmark expected .status))
 unfolding aheadDecision statusNumber noReply acknowledging
@@ -194,41 +198,41 @@ is-on : (b : Bool) → not b ≡ false → b ≡ true
 is-on true h = refl
 is-on false h = sym h
 
-pub duplicate-tested : (q : Pair) (regions : List (List ℕ)) (k : Packet) (t : OpenMessage)
-    → Tells (duplicateReadFails k (q .setup) t (q .expected) (regionOf (t .key) regions)) (ReadAnswerable q regions k t)
+pub duplicate-tested : (w : Whole) (k : Packet) (t : OpenMessage)
+    → Tells (duplicateReadFails k (w .pair .setup) t (w .pair .expected) (regionOf (t .key) (w .regions))) (ReadAnswerable w k t)
 unfolding duplicateReadFails notEnabled
-duplicate-tested q regions k t = (forth, back)
+duplicate-tested w k t = (forth, back)
   where
     region : List ℕ
-    region = regionOf (t .key) regions
+    region = regionOf (t .key) (w .regions)
 
-    K : Tells (keyFails (q .setup .memory) 12 t (regionOf (t .key) regions)) (KeyGood 12 (q .setup .memory) t (regionOf (t .key) regions))
-    K = key-tested 12 (q .setup .memory) t (regionOf (t .key) regions) (inr (inl refl))
+    K : Tells (keyFails (w .pair .setup .memory) 12 t (regionOf (t .key) (w .regions))) (KeyGood 12 (w .pair .setup .memory) t (regionOf (t .key) (w .regions)))
+    K = key-tested 12 (w .pair .setup .memory) t (regionOf (t .key) (w .regions)) (inr (inl refl))
 
-    forth : duplicateReadFails k (q .setup) t (q .expected) (regionOf (t .key) regions) ≡ false → ReadAnswerable q regions k t
+    forth : duplicateReadFails k (w .pair .setup) t (w .pair .expected) (regionOf (t .key) (w .regions)) ≡ false → ReadAnswerable w k t
     forth h =
-        let a = or-right (not (q .setup .read)) _ h in
+        let a = or-right (not (w .pair .setup .read)) _ h in
         let b = or-right (overLimit (t .length)) _ a in
         let c = or-right (not (eqb (k .body) 0)) _ b in
         let d = or-right (not (eqb (k .pad) 0)) _ c in
-        let e = or-right (keyFails (q .setup .memory) 12 t region) _ d in
+        let e = or-right (keyFails (w .pair .setup .memory) 12 t region) _ d in
         record {
-          on = is-on (q .setup .read) (or-left (not (q .setup .read)) _ h);
+          on = is-on (w .pair .setup .read) (or-left (not (w .pair .setup .read)) _ h);
           limit = limit-tested (t .length) .0 (or-left (overLimit (t .length)) _ a);
           body = of-not (k .body) 0 (or-left (not (eqb (k .body) 0)) _ b);
           pad = of-not (k .pad) 0 (or-left (not (eqb (k .pad) 0)) _ c);
-          key = K .0 (or-left (keyFails (q .setup .memory) 12 t region) _ d) .reads refl;
-          before = ltb-false (distance (q .expected .0) (k .psn .0)) (pieces (t .length) (q .setup .pmtu)) e;
+          key = K .0 (or-left (keyFails (w .pair .setup .memory) 12 t region) _ d) .reads refl;
+          before = ltb-false (distance (w .pair .expected .0) (k .psn .0)) (pieces (t .length) (w .pair .setup .pmtu)) e;
         }
 
-    back : ReadAnswerable q regions k t → duplicateReadFails k (q .setup) t (q .expected) (regionOf (t .key) regions) ≡ false
+    back : ReadAnswerable w k t → duplicateReadFails k (w .pair .setup) t (w .pair .expected) (regionOf (t .key) (w .regions)) ≡ false
     back A =
         neither (ap not (A .on))
         (neither (limit-tested (t .length) .1 (A .limit))
         (neither (ap not (eq-eqb (k .body) 0 (A .body)))
         (neither (ap not (eq-eqb (k .pad) 0 (A .pad)))
         (neither (K .1 (record { writes = λ e. absurd (omega arith); reads = λ e. A .key; atomics = λ e. absurd (none e) }))
-        (le-ltb (distance (q .expected .0) (k .psn .0)) (pieces (t .length) (q .setup .pmtu)) (A .before))))))
+        (le-ltb (distance (w .pair .expected .0) (k .psn .0)) (pieces (t .length) (w .pair .setup .pmtu)) (A .before))))))
       where
         none : IsAtomic 12 → ⊥
         none (inl e) = omega arith
@@ -278,27 +282,27 @@ not-atomic : (kind : ℕ) → (IsAtomic kind → ⊥) → isAtomic kind ≡ fals
 unfolding isAtomic
 not-atomic kind n = neither (ne-eqb kind 19 (λ e. n (inl e))) (ne-eqb kind 20 (λ e. n (inr e)))
 
-duplicate-by : (q : Pair) (regions : List (List ℕ)) (rows : List (List ℕ)) (k : Packet) (t : OpenMessage) → Carries (k .kind) ⊎ (12 ≤ k .kind)
-    → current (q .message) k ≡ t
-    → DuplicateAnswers q regions rows k t
-    (statusNumber (duplicateDecision k (q .setup) (q .expected) (current (q .message) k) (regionFor (k .kind) (current (q .message) k .key) regions) (newestSaved (k .psn .0) rows (q .saved)) .status))
+duplicate-by : (w : Whole) (k : Packet) (t : OpenMessage) → Carries (k .kind) ⊎ (12 ≤ k .kind)
+    → current (w .pair .message) k ≡ t
+    → DuplicateAnswers w k t
+    (statusNumber (duplicateDecision k (w .pair .setup) (w .pair .expected) (current (w .pair .message) k) (regionFor (k .kind) (current (w .pair .message) k .key) (w .regions)) (newestSaved (k .psn .0) (w .saved) (w .pair .saved)) .status))
 unfolding duplicateDecision duplicateRead statusNumber noReply acknowledging
-duplicate-by q regions rows k t K e =
-    subst (λ x. DuplicateAnswers q regions rows k t
-    (statusNumber (duplicateDecision k (q .setup) (q .expected) x (regionFor (k .kind) (x .key) regions) (newestSaved (k .psn .0) rows (q .saved)) .status))) (sym e)
+duplicate-by w k t K e =
+    subst (λ x. DuplicateAnswers w k t
+    (statusNumber (duplicateDecision k (w .pair .setup) (w .pair .expected) x (regionFor (k .kind) (x .key) (w .regions)) (newestSaved (k .psn .0) (w .saved) (w .pair .saved)) .status))) (sym e)
     (record {
       carried = λ c. rw (carry (k .kind) c);
-      reads = λ r A. rw (bare (k .kind) (omega arith), eq-eqb (k .kind) 12 r, region-read (k .kind) (t .key) regions r, duplicate-tested q regions k t .1 A);
-      unread = λ r n. rw (bare (k .kind) (omega arith), eq-eqb (k .kind) 12 r, region-read (k .kind) (t .key) regions r, failing n);
+      reads = λ r A. rw (bare (k .kind) (omega arith), eq-eqb (k .kind) 12 r, region-read (k .kind) (t .key) (w .regions) r, duplicate-tested w k t .1 A);
+      unread = λ r n. rw (bare (k .kind) (omega arith), eq-eqb (k .kind) 12 r, region-read (k .kind) (t .key) (w .regions) r, failing n);
       found = λ a v f. let h = high (k .kind) a in rw (bare (k .kind) (omega arith), ne-eqb (k .kind) 12 (λ z. omega arith), atomic-is (k .kind) a, f);
       lost = λ a f. let h = high (k .kind) a in rw (bare (k .kind) (omega arith), ne-eqb (k .kind) 12 (λ z. omega arith), atomic-is (k .kind) a, f);
       other = λ n. rw (bare (k .kind) (over n K), ne-eqb (k .kind) 12 (λ z. n (inr (inl z))), plain n);
     })
   where
-    failing : (ReadAnswerable q regions k t → ⊥) → duplicateReadFails k (q .setup) t (q .expected) (regionOf (t .key) regions) ≡ true
-    failing n = go (duplicateReadFails k (q .setup) t (q .expected) (regionOf (t .key) regions)) (duplicate-tested q regions k t .0)
+    failing : (ReadAnswerable w k t → ⊥) → duplicateReadFails k (w .pair .setup) t (w .pair .expected) (regionOf (t .key) (w .regions)) ≡ true
+    failing n = go (duplicateReadFails k (w .pair .setup) t (w .pair .expected) (regionOf (t .key) (w .regions))) (duplicate-tested w k t .0)
       where
-        go : (b : Bool) → (b ≡ false → ReadAnswerable q regions k t) → b ≡ true
+        go : (b : Bool) → (b ≡ false → ReadAnswerable w k t) → b ≡ true
         go true f = refl
         go false f = absurd (n (f refl))
 
@@ -310,29 +314,29 @@ duplicate-by q regions rows k t K e =
     plain n = not-atomic (k .kind) (λ a. n (inr (inr a)))
 
 -- by the class of the PSN
-by-class : (q : Pair) (regions entries rows : List (List ℕ)) (k : Packet) (c : Class) → q .setup .service ≡ 0 → psnClass (k .psn .0) (q .expected .0) ≡ c
-    → packetDecision q regions entries rows k
-    ≡ decisionByClass c q k (headEntry q entries) (regionFor (k .kind) (current (q .message) k .key) regions) (newestSaved (k .psn .0) rows (q .saved))
+by-class : (w : Whole) (k : Packet) (c : Class) → w .pair .setup .service ≡ 0 → psnClass (k .psn .0) (w .pair .expected .0) ≡ c
+    → packetDecision w k
+    ≡ decisionByClass c (w .pair) k (headEntry (w .pair) (w .entries)) (regionFor (k .kind) (current (w .pair .message) k .key) (w .regions)) (newestSaved (k .psn .0) (w .saved) (w .pair .saved))
 unfolding packetDecision rcDecision
-by-class q regions entries rows k c r e =
-    rw (ne-eqb (q .setup .service) 1 (λ z. absurd (omega arith)))
-    (ap (λ x. decisionByClass x q k (headEntry q entries) (regionFor (k .kind) (current (q .message) k .key) regions) (newestSaved (k .psn .0) rows (q .saved))) e)
+by-class w k c r e =
+    rw (ne-eqb (w .pair .setup .service) 1 (λ z. absurd (omega arith)))
+    (ap (λ x. decisionByClass x (w .pair) k (headEntry (w .pair) (w .entries)) (regionFor (k .kind) (current (w .pair .message) k .key) (w .regions)) (newestSaved (k .psn .0) (w .saved) (w .pair .saved))) e)
 
-packet-by : (q : Pair) (regions entries rows : List (List ℕ)) (k : Packet) (t : OpenMessage) → q .setup .service ≡ 0 → Sound q → Place (k .place)
+packet-by : (w : Whole) (k : Packet) (t : OpenMessage) → w .pair .setup .service ≡ 0 → Sound (w .pair) → Place (k .place)
     → Carries (k .kind) ⊎ (12 ≤ k .kind)
-    → IsCurrent (q .message) k t
-    → Classed q regions entries rows k t (statusNumber (packetDecision q regions entries rows k .status))
-packet-by q regions entries rows k t r S P K C =
+    → IsCurrent (w .pair .message) k t
+    → Classed w k t (statusNumber (packetDecision w k .status))
+packet-by w k t r S P K C =
     record {
       expected =
-          λ e. subst (λ d. Expects q regions entries k t (statusNumber (d .status))) (sym (by-class q regions entries rows k class.Expected r e))
-          (expected-by q regions entries k t S P C);
+          λ e. subst (λ d. Expects w k t (statusNumber (d .status))) (sym (by-class w k class.Expected r e))
+          (expected-by w k t S P C);
       ahead =
-          λ e. subst (λ d. Aheads (q .nakmark) (statusNumber (d .status))) (sym (by-class q regions entries rows k class.Ahead r e))
-          (ahead-by (q .nakmark) (q .expected));
+          λ e. subst (λ d. Aheads (w .pair .nakmark) (statusNumber (d .status))) (sym (by-class w k class.Ahead r e))
+          (ahead-by (w .pair .nakmark) (w .pair .expected));
       duplicate =
-          λ e. subst (λ d. DuplicateAnswers q regions rows k t (statusNumber (d .status))) (sym (by-class q regions entries rows k class.Duplicate r e))
-          (duplicate-by q regions rows k t K (sym (current-one (q .message) k t P C)));
+          λ e. subst (λ d. DuplicateAnswers w k t (statusNumber (d .status))) (sym (by-class w k class.Duplicate r e))
+          (duplicate-by w k t K (sym (current-one (w .pair .message) k t P C)));
     }
 
 -- what a duplicate is answered with
@@ -348,25 +352,25 @@ read-sent k q t region = go (duplicateReadFails k (q .setup) t (q .expected) reg
     go true = refl
     go false = refl
 
-sent-by : (q : Pair) (rows : List (List ℕ)) (k : Packet) (t : OpenMessage) (region : List ℕ)
-    → DuplicateReplies q rows k (duplicateDecision k (q .setup) (q .expected) t region (newestSaved (k .psn .0) rows (q .saved)) .outgoing)
+sent-by : (w : Whole) (k : Packet) (t : OpenMessage) (region : List ℕ)
+    → DuplicateReplies w k (duplicateDecision k (w .pair .setup) (w .pair .expected) t region (newestSaved (k .psn .0) (w .saved) (w .pair .saved)) .outgoing)
 unfolding duplicateDecision acknowledging
-sent-by q rows k t region =
+sent-by w k t region =
     record {
       carried = λ c. rw (carry (k .kind) c);
-      reads = λ r. rw (bare (k .kind) (omega arith), eq-eqb (k .kind) 12 r) (read-sent k q t region);
+      reads = λ r. rw (bare (k .kind) (omega arith), eq-eqb (k .kind) 12 r) (read-sent k (w .pair) t region);
       found = λ a v f. let h = high (k .kind) a in rw (bare (k .kind) (omega arith), ne-eqb (k .kind) 12 (λ z. omega arith), atomic-is (k .kind) a, f);
     }
 
 pub duplicate-sent : DuplicateSent
-unfolding inbound outcomeBy decision decided
-duplicate-sent q regions entries saved m p out W r h e c =
-    rw (goes q m out W, e)
-    (subst (λ d. DuplicateReplies q saved (packetOf h (length p)) (d .outgoing)) (sym (by-class q regions entries saved (packetOf h (length p)) class.Duplicate r c))
-    (sent-by q saved (packetOf h (length p)) (current (q .message) (packetOf h (length p))) _))
+unfolding inbound leftBy decision
+duplicate-sent a W r h e c =
+    rw (goes a W, e)
+    (subst (λ d. DuplicateReplies (a .whole) (packetOf h (length (a .packet))) (d .outgoing)) (sym (by-class (a .whole) (packetOf h (length (a .packet))) class.Duplicate r c))
+    (sent-by (a .whole) (packetOf h (length (a .packet))) (current (a .whole .pair .message) (packetOf h (length (a .packet)))) _))
 
 pub header-passed : HeaderPassed
 unfolding packetOf
-header-passed q regions entries saved m p out W r h e t C =
-    subst (Classed q regions entries saved (packetOf h (length p)) t) (sym (looked q regions entries saved m p out W h e))
-    (packet-by q regions entries saved (packetOf h (length p)) t r (W .sound) (any-place (h .bth .opcode)) (some-kind (h .bth .opcode)) C)
+header-passed a W r h e t C =
+    subst (Classed (a .whole) (packetOf h (length (a .packet))) t) (sym (looked a W h e))
+    (packet-by (a .whole) (packetOf h (length (a .packet))) t r (W .sound) (any-place (h .bth .opcode)) (some-kind (h .bth .opcode)) C)

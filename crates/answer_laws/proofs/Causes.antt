@@ -6,6 +6,7 @@ use mathlib.Core.List.{List}
 use mathlib.Core.Logic.{_⊎_, inl, inr}
 use lib.Dec.{eqb}
 use borrow.Author.Tests.{eqb-true, eqb-false}
+use Rattle.responder_spec.specs.Arrival.{Arrival}
 use Rattle.header.specs.Read.{bthOf, headerOf}
 use Rattle.header.specs.Check.{headerReason, admitted}
 use Rattle.header.specs.declared.HeaderRead.{HeaderRead}
@@ -27,55 +28,55 @@ use Rattle.answer_laws.specs.Unreliable.UcCause.{unread, orphan, stray, 
 use Rattle.answer_laws.proofs.Answers.{header-dropped}
 use Rattle.answer_laws.proofs.Unreliable.{uc-kinds, uc-passed}
 
-module _ (q : Pair) (regions entries : List (List ℕ)) (p : List ℕ) (t : OpenMessage) (n : ℕ) (f : headerBy q p ≡ read.Accepted (headerOf p))
-    (K : Carries (packetIn p .kind)) (X : UcComes q regions entries (packetIn p) t n) where
+module _ (arrival : Arrival) (t : OpenMessage) (n : ℕ) (f : headerBy arrival ≡ read.Accepted (headerOf (arrival .packet)))
+    (K : Carries (packetIn (arrival .packet) .kind)) (X : UcComes (arrival .whole) (packetIn (arrival .packet)) t n) where
   abbrev R : ℕ → Type 0
-  R = UcCause q regions entries p t
+  R = UcCause arrival t
 
   abbrev k : Packet
-  k = packetIn p
+  k = packetIn (arrival .packet)
 
-  module _ (opened : OpenMessage) (M : CheckedUnder q k opened) (Y : UcChecked q regions entries opened k t n) where
-    examined : UcExamined q regions entries p t (Y .code)
+  module _ (opened : OpenMessage) (M : CheckedUnder (arrival .whole .pair) k opened) (Y : UcChecked (arrival .whole) opened k t n) where
+    examined : UcExamined arrival t (Y .code)
     examined = record { passes = f; opened = opened; meets = M; judged = Y .judged }
 
     failed : Fails (Y .code) → R n
-    failed F = go (eqb (q .message .kind) 255) refl
+    failed F = go (eqb (arrival .whole .pair .message .kind) 255) refl
       where
-        go : (b : Bool) → eqb (q .message .kind) 255 ≡ b → R n
-        go true e = let z = eqb-true (q .message .kind) 255 e in subst R (sym (Y .drops F z)) (dropped (Y .code) examined F z)
-        go false e = let z = eqb-false (q .message .kind) 255 e in subst R (sym (Y .closes F z)) (closed (Y .code) examined F z)
+        go : (b : Bool) → eqb (arrival .whole .pair .message .kind) 255 ≡ b → R n
+        go true e = let z = eqb-true (arrival .whole .pair .message .kind) 255 e in subst R (sym (Y .drops F z)) (dropped (Y .code) examined F z)
+        go false e = let z = eqb-false (arrival .whole .pair .message .kind) 255 e in subst R (sym (Y .closes F z)) (closed (Y .code) examined F z)
 
     by-code : (Y .code ≡ 0) ⊎ ((Y .code ≡ 17) ⊎ ((Y .code ≡ 18) ⊎ ((Y .code ≡ 19) ⊎ (Y .code ≡ 34)))) → R n
-    by-code (inl e) = subst R (sym (Y .good e)) (executed (subst (UcExamined q regions entries p t) e examined) K)
+    by-code (inl e) = subst R (sym (Y .good e)) (executed (subst (UcExamined arrival t) e examined) K)
     by-code (inr (inl e)) = failed (inl e)
     by-code (inr (inr (inl e))) = failed (inr (inl e))
     by-code (inr (inr (inr (inl e)))) = failed (inr (inr e))
-    by-code (inr (inr (inr (inr e)))) = subst R (sym (Y .outside e)) (outside (subst (UcExamined q regions entries p t) e examined))
+    by-code (inr (inr (inr (inr e)))) = subst R (sym (Y .outside e)) (outside (subst (UcExamined arrival t) e examined))
 
-  checked-cause : (opened : OpenMessage) → CheckedUnder q k opened → R n
+  checked-cause : (opened : OpenMessage) → CheckedUnder (arrival .whole .pair) k opened → R n
   checked-cause opened M = let Y = X .checked opened M in by-code opened M Y (Y .judged .codes)
 
   onward-cause : GoesOn (k .place) → R n
-  onward-cause g = go (eqb (q .message .kind) 255) refl (eqb psn expected) refl (eqb (q .message .kind) (k .kind)) refl
+  onward-cause g = go (eqb (arrival .whole .pair .message .kind) 255) refl (eqb psn expected) refl (eqb (arrival .whole .pair .message .kind) (k .kind)) refl
     where
       psn : ℕ
-      psn = packetIn p .psn .0 % 16777216
+      psn = packetIn (arrival .packet) .psn .0 % 16777216
 
       expected : ℕ
-      expected = q .expected .0 % 16777216
+      expected = arrival .whole .pair .expected .0 % 16777216
 
-      astray : (q .message .kind ≡ 255 → ⊥) → Strays q (packetIn p) → R n
+      astray : (arrival .whole .pair .message .kind ≡ 255 → ⊥) → Strays (arrival .whole .pair) (packetIn (arrival .packet)) → R n
       astray o s = subst R (sym (X .stray g o s)) (stray f g o s)
 
-      go : (a : Bool) → eqb (q .message .kind) 255 ≡ a → (b : Bool) → eqb psn expected ≡ b → (c : Bool)
-          → eqb (q .message .kind) (packetIn p .kind) ≡ c
+      go : (a : Bool) → eqb (arrival .whole .pair .message .kind) 255 ≡ a → (b : Bool) → eqb psn expected ≡ b → (c : Bool)
+          → eqb (arrival .whole .pair .message .kind) (packetIn (arrival .packet) .kind) ≡ c
           → R n
-      go true x b y c z = let e = eqb-true (q .message .kind) 255 x in subst R (sym (X .orphan g e)) (orphan f g e)
-      go false x false y c z = astray (eqb-false (q .message .kind) 255 x) (inl (eqb-false psn expected y))
-      go false x true y false z = astray (eqb-false (q .message .kind) 255 x) (inr (eqb-false (q .message .kind) (packetIn p .kind) z))
+      go true x b y c z = let e = eqb-true (arrival .whole .pair .message .kind) 255 x in subst R (sym (X .orphan g e)) (orphan f g e)
+      go false x false y c z = astray (eqb-false (arrival .whole .pair .message .kind) 255 x) (inl (eqb-false psn expected y))
+      go false x true y false z = astray (eqb-false (arrival .whole .pair .message .kind) 255 x) (inr (eqb-false (arrival .whole .pair .message .kind) (packetIn (arrival .packet) .kind) z))
       go false x true y true z =
-          checked-cause (q .message) (onward g (eqb-true psn expected y) (eqb-true (q .message .kind) (packetIn p .kind) z))
+          checked-cause (arrival .whole .pair .message) (onward g (eqb-true psn expected y) (eqb-true (arrival .whole .pair .message .kind) (packetIn (arrival .packet) .kind) z))
 
   cause-by : Place (k .place) → R n
   cause-by (inl b) = checked-cause _ (begins b)
@@ -83,13 +84,13 @@ module _ (q : Pair) (regions entries : List (List ℕ)) (p : List ℕ) (t : Open
 
 pub uc-reason : UcReason
 unfolding admitted packetOf headerOf
-uc-reason q regions entries saved m p out W s t C = go (headerBy q p) refl
+uc-reason a W s t C = go (headerBy a) refl
   where
-    go : (r : HeaderRead) → headerBy q p ≡ r → UcCause q regions entries p t (statusNumber (inbound q regions entries saved m p out .status))
+    go : (r : HeaderRead) → headerBy a ≡ r → UcCause a t (inbound a .number)
     go (read.Dropped reason) e =
-        subst (UcCause q regions entries p t) (sym (header-dropped q regions entries saved m p out W reason e)) (unread reason e)
+        subst (UcCause a t) (sym (header-dropped a W reason e)) (unread reason e)
     go (read.Accepted h) e =
-        let i = accepted-by (headerReason (q .setup .service) (q .setup .ours) (q .setup .pkey) (eqb (q .state) 1) p) p h e .1 in
-        let f : headerBy q p ≡ read.Accepted (headerOf p) = subst (λ x. headerBy q p ≡ read.Accepted x) (sym i) e in
-        cause-by q regions entries p t (statusNumber (inbound q regions entries saved m p out .status)) f (uc-kinds q p (headerOf p) s f)
-        (uc-passed q regions entries saved m p out W s (headerOf p) f t C) (any-place (bthOf p .opcode))
+        let i = accepted-by (headerReason (a .whole .pair .setup .service) (a .whole .pair .setup .ours) (a .whole .pair .setup .pkey) (eqb (a .whole .pair .state) 1) (a .packet)) (a .packet) h e .1 in
+        let f : headerBy a ≡ read.Accepted (headerOf (a .packet)) = subst (λ x. headerBy a ≡ read.Accepted x) (sym i) e in
+        cause-by a t (inbound a .number) f (uc-kinds a (headerOf (a .packet)) s f)
+        (uc-passed a W s (headerOf (a .packet)) f t C) (any-place (bthOf (a .packet) .opcode))

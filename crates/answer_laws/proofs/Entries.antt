@@ -7,6 +7,7 @@ use native.Mathlib.Omega.{arith}
 use lib.Dec.{eqb}
 use lib.ListN.{length, take, drop, getD}
 use borrow.Author.Tests.{eq-eqb}
+use Rattle.responder_spec.specs.Arrival.{Arrival, Left}
 use Rattle.header.specs.Read.{headerOf}
 use Rattle.packet.specs.Packet.{payloadOf}
 use Rattle.table.specs.Table.{slotAt}
@@ -22,7 +23,7 @@ use Rattle.pair.proofs.Posting.{held-waiting, held-some, held-first}
 use Rattle.request_spec.specs.Packet.{packetOf}
 use Rattle.request_spec.specs.Claims.{Begins, GoesOn}
 use Rattle.responder_spec.specs.Inbound.{inbound}
-use Rattle.effect_laws.specs.Effects.{Left, inboundLeft, Unchanged, Abandons, StoresPacket, Table}
+use Rattle.effect_laws.specs.Effects.{Unchanged, Abandons, StoresPacket, Table}
 use Rattle.lemmas.specs.OneOf.{OneOf}
 use Rattle.answer_laws.specs.Answers.{entryAtHead, Completes, StoresPayload}
 use Rattle.request_spec.specs.Packet.{packetIn}
@@ -34,8 +35,8 @@ use Rattle.answer_laws.proofs.Answers.{head-first}
 use Rattle.answer_laws.proofs.Storing.{inbound-stores}
 
 -- by the row of each answer
-module _ (q : Pair) (rows : List (List ℕ)) (bytes p output : List ℕ) (l : Left) where
-  unchanged-keeps : Unchanged q rows bytes output l → UcKeeps q rows output l
+module _ (a : Arrival) (l : Left) where
+  unchanged-keeps : Unchanged a l → UcKeeps a l
   unchanged-keeps U =
       record {
         setup = ap (λ x. x .setup) (U .pair);
@@ -48,7 +49,7 @@ module _ (q : Pair) (rows : List (List ℕ)) (bytes p output : List ℕ) (l : Le
         out = U .out;
       }
 
-  abandons-keeps : Abandons q rows bytes output l → UcKeeps q rows output l
+  abandons-keeps : Abandons a l → UcKeeps a l
   abandons-keeps A =
       record {
         setup = A .setup;
@@ -61,7 +62,7 @@ module _ (q : Pair) (rows : List (List ℕ)) (bytes p output : List ℕ) (l : Le
         out = A .out;
       }
 
-  stores-keeps : StoresPacket q rows bytes p l → l .outgoing ≡ 0 → l .out ≡ output → UcKeeps q rows output l
+  stores-keeps : StoresPacket a l → l .outgoing ≡ 0 → l .out ≡ a .out → UcKeeps a l
   stores-keeps X s o =
       record {
         setup = X .executed .setup;
@@ -75,21 +76,21 @@ module _ (q : Pair) (rows : List (List ℕ)) (bytes p output : List ℕ) (l : Le
       }
 
 pub uc-leaves : UcLeaves
-uc-leaves q regions entries saved m p out s = go (uc-answers q regions entries saved m p out s)
+uc-leaves a s = go (uc-answers a s)
   where
     l : Left
-    l = inboundLeft q regions entries saved m p out
+    l = inbound a
 
-    T : Table q regions saved m p out (inboundLeft q regions entries saved m p out)
-    T = inbound-table q regions entries saved m p out
+    T : Table a (inbound a)
+    T = inbound-table a
 
-    quiet : (l .number ≡ 5) ⊎ (32 ≤ l .number) → UcKeeps q saved out l
-    quiet h = unchanged-keeps q saved m p out l (T .quiet h)
+    quiet : (l .number ≡ 5) ⊎ (32 ≤ l .number) → UcKeeps a l
+    quiet h = unchanged-keeps a l (T .quiet h)
 
-    go : OneOf (0 ∷ 5 ∷ 6 ∷ 32 ∷ 34 ∷ 35 ∷ []) (l .number) → UcKeeps q saved out l
-    go (inl e) = let E = T .executes e in stores-keeps q saved m p out l (E .0) (E .1) (E .2)
+    go : OneOf (0 ∷ 5 ∷ 6 ∷ 32 ∷ 34 ∷ 35 ∷ []) (l .number) → UcKeeps a l
+    go (inl e) = let E = T .executes e in stores-keeps a l (E .0) (E .1) (E .2)
     go (inr (inl e)) = quiet (inl e)
-    go (inr (inr (inl e))) = abandons-keeps q saved m p out l (T .abandons e)
+    go (inr (inr (inl e))) = abandons-keeps a l (T .abandons e)
     go (inr (inr (inr (inl e)))) = quiet (inr (omega (arith, e)))
     go (inr (inr (inr (inr (inl e))))) = quiet (inr (omega (arith, e)))
     go (inr (inr (inr (inr (inr (inl e)))))) = quiet (inr (omega (arith, e)))
@@ -108,10 +109,10 @@ unfolding heldOf waitingOf
 one-held r rows e = (rw (eq-eqb (r .message .kind) 0 e), rw (eq-eqb (r .message .kind) 0 e))
 
 pub entry-back : EntryBack
-entry-back q regions entries saved m p out e =
-    let A = inbound-table q regions entries saved m p out .abandons e in
-    let N = none-held (inbound q regions entries saved m p out .pair) entries (A .message) in
-    (N .0, N .1 ∙ (ap (inRing entries) (A .entries) ∙ sym (held-waiting q entries)))
+entry-back a e =
+    let A = inbound-table a .abandons e in
+    let N = none-held (inbound a .whole .pair) (a .whole .entries) (A .message) in
+    (N .0, N .1 ∙ (ap (inRing (a .whole .entries)) (A .entries) ∙ sym (held-waiting (a .whole .pair) (a .whole .entries))))
 
 -- a First or Only is no Middle or Last
 apart : (place : ℕ) → Begins place → GoesOn place → ⊥
@@ -128,64 +129,64 @@ rest-ring rows r some =
     let n : suc (r .count - 1) ≡ r .count = omega arith in
     takes rows (r .head) (r .count - 1) ∙ ap (λ c. drop 1 (inRing rows (record { head = r .head; count = c }))) n
 
-module _ (q : Pair) (regions entries saved : List (List ℕ)) (m p out : List ℕ) (open-send : q .message .kind ≡ 0) (send : packetIn p .kind ≡ 0)
-    (b : Begins (packetIn p .place)) (e : statusNumber (inbound q regions entries saved m p out .status) ≡ 0) where
+module _ (arrival : Arrival) (open-send : arrival .whole .pair .message .kind ≡ 0) (send : packetIn (arrival .packet) .kind ≡ 0)
+    (b : Begins (packetIn (arrival .packet) .place)) (e : inbound arrival .number ≡ 0) where
   abbrev l : Left
-  l = inboundLeft q regions entries saved m p out
+  l = inbound arrival
 
   abbrev own : OpenMessage
   own =
       record {
-        kind = packetIn p .kind;
+        kind = packetIn (arrival .packet) .kind;
         stored = 0;
-        address = packetIn p .operands .address;
-        key = packetIn p .operands .key;
-        length = packetIn p .operands .length;
+        address = packetIn (arrival .packet) .operands .address;
+        key = packetIn (arrival .packet) .operands .key;
+        length = packetIn (arrival .packet) .operands .length;
       }
 
-  stores-payload : StoresPayload q regions entries m p (packetIn p) own l
+  stores-payload : StoresPayload arrival (packetIn (arrival .packet)) own l
   stores-payload =
-      inbound-stores q regions entries saved m p out own
-      (record { own = λ g. refl; old = λ g. absurd (apart (packetIn p .place) b g) }) (inl e)
+      inbound-stores arrival own
+      (record { own = λ g. refl; old = λ g. absurd (apart (packetIn (arrival .packet) .place) b g) }) (inl e)
 
-  stores-packet : StoresPacket q saved m p l
-  stores-packet = inbound-table q regions entries saved m p out .executes e .0
+  stores-packet : StoresPacket arrival l
+  stores-packet = inbound-table arrival .executes e .0
 
-  sound : Sound q
-  sound = inbound-meant q regions entries saved m p out (omega (arith, e)) .2
+  sound : Sound (arrival .whole .pair)
+  sound = inbound-meant arrival (omega (arith, e)) .2
 
   -- a First: the ring is as before, and the SEND is open again
-  first-kept : packetIn p .place ≡ 0 → (heldOf (l .pair) entries ≡ heldOf q entries) × (waitingOf (l .pair) entries ≡ waitingOf q entries)
+  first-kept : packetIn (arrival .packet) .place ≡ 0 → (heldOf (l .whole .pair) (arrival .whole .entries) ≡ heldOf (arrival .whole .pair) (arrival .whole .entries)) × (waitingOf (l .whole .pair) (arrival .whole .entries) ≡ waitingOf (arrival .whole .pair) (arrival .whole .entries))
   first-kept z =
-      let H = one-held (l .pair) entries (ap (λ x. x .kind) (stores-payload .opens (inl z)) ∙ send) in
-      let G = one-held q entries open-send in
-      let s = ap (inRing entries) (stores-packet .silent (stores-payload .onward (inl z) .some)) in
+      let H = one-held (l .whole .pair) (arrival .whole .entries) (ap (λ x. x .kind) (stores-payload .opens (inl z)) ∙ send) in
+      let G = one-held (arrival .whole .pair) (arrival .whole .entries) open-send in
+      let s = ap (inRing (arrival .whole .entries)) (stores-packet .silent (stores-payload .onward (inl z) .some)) in
       (H .0 ∙ (ap (take 1) s ∙ sym (G .0)), H .1 ∙ (ap (drop 1) s ∙ sym (G .1)))
 
   -- an Only: the first of the ring is done with, and no message open
-  completed : packetIn p .place ≡ 4 → Completes (packetIn p) (getD (entryAtHead q entries) 0 0) (length (payloadOf p)) (l .completion)
+  completed : packetIn (arrival .packet) .place ≡ 4 → Completes (packetIn (arrival .packet)) (getD (entryAtHead (arrival .whole)) 0 0) (length (payloadOf (arrival .packet))) (l .completion)
   completed z =
-      let n : 0 + length (payloadOf p) ≡ length (payloadOf p) = omega arith in
-      subst (λ x. Completes (packetIn p) (getD (entryAtHead q entries) 0 0) x (l .completion)) n (stores-payload .sent-whole send (inr z))
+      let n : 0 + length (payloadOf (arrival .packet)) ≡ length (payloadOf (arrival .packet)) = omega arith in
+      subst (λ x. Completes (packetIn (arrival .packet)) (getD (entryAtHead (arrival .whole)) 0 0) x (l .completion)) n (stores-payload .sent-whole send (inr z))
 
-  only-taken : packetIn p .place ≡ 4 → (heldOf (l .pair) entries ≡ []) × (waitingOf (l .pair) entries ≡ waitingOf q entries)
+  only-taken : packetIn (arrival .packet) .place ≡ 4 → (heldOf (l .whole .pair) (arrival .whole .entries) ≡ []) × (waitingOf (l .whole .pair) (arrival .whole .entries) ≡ waitingOf (arrival .whole .pair) (arrival .whole .entries))
   unfolding packetOf headerOf
   only-taken z =
-      let N = none-held (l .pair) entries (stores-packet .ends (omega (arith, z)) .1) in
-      let s = ap (inRing entries) (stores-packet .completes (completed z .some)) in
-      (N .0, N .1 ∙ (s ∙ (rest-ring entries (q .entries) (held-some q sound open-send) ∙ sym (one-held q entries open-send .1))))
+      let N = none-held (l .whole .pair) (arrival .whole .entries) (stores-packet .ends (omega (arith, z)) .1) in
+      let s = ap (inRing (arrival .whole .entries)) (stores-packet .completes (completed z .some)) in
+      (N .0, N .1 ∙ (s ∙ (rest-ring (arrival .whole .entries) (arrival .whole .pair .entries) (held-some (arrival .whole .pair) sound open-send) ∙ sym (one-held (arrival .whole .pair) (arrival .whole .entries) open-send .1))))
 
 pub held-entry-taken : HeldEntryTaken
-held-entry-taken q regions entries saved m p out o k b e =
-    let S = sound q regions entries saved m p out o k b e in
+held-entry-taken a o k b e =
+    let S = sound a o k b e in
     record {
-      held = held-first q entries S o ∙ ap (λ x. x ∷ []) (head-first q entries S);
-      stands = stores-payload q regions entries saved m p out o k b e .sends k;
+      held = held-first (a .whole .pair) (a .whole .entries) S o ∙ ap (λ x. x ∷ []) (head-first (a .whole) S);
+      stands = stores-payload a o k b e .sends k;
       waiting = go b;
-      first = λ z. first-kept q regions entries saved m p out o k b e z .0;
-      only = λ z. (only-taken q regions entries saved m p out o k b e z .0, completed q regions entries saved m p out o k b e z);
+      first = λ z. first-kept a o k b e z .0;
+      only = λ z. (only-taken a o k b e z .0, completed a o k b e z);
     }
   where
-    go : Begins (packetIn p .place) → waitingOf (inbound q regions entries saved m p out .pair) entries ≡ waitingOf q entries
-    go (inl z) = first-kept q regions entries saved m p out o k b e z .1
-    go (inr z) = only-taken q regions entries saved m p out o k b e z .1
+    go : Begins (packetIn (a .packet) .place) → waitingOf (inbound a .whole .pair) (a .whole .entries) ≡ waitingOf (a .whole .pair) (a .whole .entries)
+    go (inl z) = first-kept a o k b e z .1
+    go (inr z) = only-taken a o k b e z .1

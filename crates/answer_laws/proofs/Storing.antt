@@ -8,6 +8,7 @@ use native.Mathlib.Omega.{arith}
 use lib.Dec.{eqb}
 use lib.ListN.{length, getD}
 use borrow.Author.Tests.{eq-eqb, ne-eqb}
+use Rattle.responder_spec.specs.Arrival.{Arrival}
 use Rattle.opcode.specs.Opcode as Opcode
 use Rattle.opcode.specs.Opcode.{followsOf, lowClass}
 use Rattle.header.specs.Read.{bthOf, extensionOf, headerOf}
@@ -33,27 +34,37 @@ use Rattle.request_spec.proofs.Order.{current-one, order}
 use Rattle.request_spec.proofs.Taken.{any-place}
 use Rattle.request_spec.specs.declared.Packet.{Packet}
 use Rattle.responder_spec.specs.declared.Decision.{Decision}
-use Rattle.responder_spec.specs.Decide.{completes, completionOf, messageAfter, targetOffset, storePayload, runAtomic, regionFor, headEntry, unanswered, decided}
+use Rattle.responder_spec.specs.Decide.{completes, completionOf, messageAfter, targetOffset, storePayload, runAtomic, regionFor, headEntry, unanswered, decision}
 use Rattle.responder_spec.specs.Apply.{savedBy, memoryBy, executedPair, pairByNumber, pairBy}
-use Rattle.responder_spec.specs.Inbound.{outcomeBy, decision, inbound, inboundMemory, inboundSaved, inboundOut}
+use Rattle.responder_spec.specs.Inbound.{leftBy, inbound}
 use Rattle.effect_laws.specs.Effects.{Silent}
 use Rattle.answer_laws.specs.Answers.{entryAtHead, Completes, StoresPayload, InboundStores, OnRegion, InboundSwaps}
 use Rattle.request_spec.specs.Packet.{packetIn}
 use Rattle.memory.specs.Claims.{OnlyBytes}
+use Rattle.decision_laws.proofs.Rows.{regionBy}
 use Rattle.decision_laws.proofs.Codes.Bare.{swaps, adds}
 use Rattle.decision_laws.proofs.Codes.{class-is}
 use Rattle.effect_laws.proofs.Refusals.{inbound-meant}
-use Rattle.effect_laws.proofs.Effects.{silent, leftBy}
+use Rattle.effect_laws.proofs.Effects.{silent}
 use Rattle.answer_laws.proofs.Answers.{head-first, code-by, high}
 use Rattle.decision_laws.proofs.Ways.Way.{away, places, exchanges, delivers}
-use Rattle.decision_laws.proofs.Ways.{acts, regionBy, codeBy, decided-way, only-by, only-stored, payload-size}
+use Rattle.decision_laws.proofs.Ways.{viewedIn, acts, codeBy, decided-way, only-by, only-stored, payload-size}
 use Rattle.decision_laws.proofs.Ways.{payload-is, ends-true, ends-false, few, which, which-atomic, region-is}
 use Rattle.decision_laws.proofs.Ways.{or-true, and-false, Way}
 use Rattle.decision_laws.proofs.Views.{viewed, viewed-sound, current-closed}
 
 -- Storing
-module _ (q : Pair) (regions entries saved : List (List ℕ)) (m p : List ℕ) (S : Sound q) (n : length m ≡ q .setup .memory)
-    (z : codeBy q regions entries (packetIn p) ≡ 0) where
+module _ (arrival : Arrival) (S : Sound (arrival .whole .pair)) (n : length (arrival .memory) ≡ arrival .whole .pair .setup .memory)
+    (z : codeBy (arrival .whole) (packetIn (arrival .packet)) ≡ 0) where
+  abbrev q : Pair
+  q = arrival .whole .pair
+
+  abbrev p : List ℕ
+  p = arrival .packet
+
+  abbrev m : List ℕ
+  m = arrival .memory
+
   abbrev k : Packet
   k = packetIn p
 
@@ -61,10 +72,10 @@ module _ (q : Pair) (regions entries saved : List (List ℕ)) (m p : List ℕ) (
   M = current (q .message) (packetIn p)
 
   abbrev entry : List ℕ
-  entry = entryAtHead q entries
+  entry = entryAtHead (arrival .whole)
 
   abbrev region : List ℕ
-  region = regionOf (current (q .message) (packetIn p) .key) regions
+  region = regionOf (current (q .message) (packetIn p) .key) (arrival .whole .regions)
 
   place-known : Place (packetIn p .place)
   unfolding packetOf headerOf
@@ -72,10 +83,10 @@ module _ (q : Pair) (regions entries saved : List (List ℕ)) (m p : List ℕ) (
 
   judged : JudgedBy (q .setup) (q .message) k M (q .entries .count) entry region 0
   judged =
-      subst (λ e. JudgedBy (q .setup) (q .message) k M (q .entries .count) e region 0) (head-first q entries S)
-      (subst (JudgedBy (q .setup) (q .message) k M (q .entries .count) (headEntry q entries) region)
-      (sym (code-by (q .setup) (q .message) k (q .entries .count) (headEntry q entries) regions) ∙ z)
-      (order (q .setup) (q .message) k M (q .entries .count) (headEntry q entries) region place-known (current-tested (q .message) k place-known)))
+      subst (λ e. JudgedBy (q .setup) (q .message) k M (q .entries .count) e region 0) (head-first (arrival .whole) S)
+      (subst (JudgedBy (q .setup) (q .message) k M (q .entries .count) (headEntry q (arrival .whole .entries)) region)
+      (sym (code-by (q .setup) (q .message) k (q .entries .count) (headEntry q (arrival .whole .entries)) (arrival .whole .regions)) ∙ z)
+      (order (q .setup) (q .message) k M (q .entries .count) (headEntry q (arrival .whole .entries)) region place-known (current-tested (q .message) k place-known)))
 
   -- the bytes of a WRITE are no more than those still to come
   rest : LengthsGood k (q .setup .pmtu) M (getD entry 2 0) → k .kind ≡ 6 → M .stored + (k .body - k .pad) ≤ M .length
@@ -88,24 +99,24 @@ module _ (q : Pair) (regions entries saved : List (List ℕ)) (m p : List ℕ) (
       go (inr (inr x)) = omega (arith, L .whole e (inl x))
 
   abbrev D : Decision
-  D = storePayload (packetIn p) (current (q .message) (packetIn p)) (headEntry q entries) (regionBy q regions (packetIn p))
+  D = storePayload (packetIn p) (current (q .message) (packetIn p)) (headEntry q (arrival .whole .entries)) (regionBy (arrival .whole) (packetIn p))
 
-  stored-memory : (at : ℕ) → targetOffset (k .kind) M (headEntry q entries) (regionBy q regions k) ≡ at → memoryBy D m p ≡ store m at (payloadOf p)
+  stored-memory : (at : ℕ) → targetOffset (k .kind) M (headEntry q (arrival .whole .entries)) (regionBy (arrival .whole) k) ≡ at → memoryBy D m p ≡ store m at (payloadOf p)
   unfolding memoryBy storePayload
   stored-memory at e = λ i. store m (e i) (payload-is p i)
 
-  at-entry : k .kind ≡ 0 → targetOffset (k .kind) M (headEntry q entries) (regionBy q regions k) ≡ getD entry 1 0 + M .stored
+  at-entry : k .kind ≡ 0 → targetOffset (k .kind) M (headEntry q (arrival .whole .entries)) (regionBy (arrival .whole) k) ≡ getD entry 1 0 + M .stored
   unfolding targetOffset
-  at-entry e = rw (eq-eqb (k .kind) 0 e) (ap (λ r. getD r 1 0 + M .stored) (head-first q entries S))
+  at-entry e = rw (eq-eqb (k .kind) 0 e) (ap (λ r. getD r 1 0 + M .stored) (head-first (arrival .whole) S))
 
   at-region : k .kind ≡ 6 → 0 < M .length - M .stored
-      → targetOffset (k .kind) M (headEntry q entries) (regionBy q regions k) ≡ getD region 3 0 + (M .address + M .stored - getD region 1 0)
+      → targetOffset (k .kind) M (headEntry q (arrival .whole .entries)) (regionBy (arrival .whole) k) ≡ getD region 3 0 + (M .address + M .stored - getD region 1 0)
   unfolding targetOffset memoryOffset bytesToCome
   at-region e h =
       rw (ne-eqb (k .kind) 0 (λ x. omega arith), ne-eqb (M .length - M .stored) 0 (λ x. omega arith))
-      (ap (λ r. getD r 3 0 + (M .address + M .stored - getD r 1 0)) (region-is (k .kind) (M .key) regions (λ x. omega arith)))
+      (ap (λ r. getD r 3 0 + (M .address + M .stored - getD r 1 0)) (region-is (k .kind) (M .key) (arrival .whole .regions) (λ x. omega arith)))
 
-  at-none : k .kind ≡ 6 → M .length - M .stored ≡ 0 → targetOffset (k .kind) M (headEntry q entries) (regionBy q regions k) ≡ 0
+  at-none : k .kind ≡ 6 → M .length - M .stored ≡ 0 → targetOffset (k .kind) M (headEntry q (arrival .whole .entries)) (regionBy (arrival .whole) k) ≡ 0
   unfolding targetOffset memoryOffset bytesToCome
   at-none e h = rw (ne-eqb (k .kind) 0 (λ x. omega arith), eq-eqb (M .length - M .stored) 0 h)
 
@@ -123,21 +134,21 @@ module _ (q : Pair) (regions entries saved : List (List ℕ)) (m p : List ℕ) (
   -- what completes
   completed : (length : ℕ) → Ends (k .place) → (k .kind ≡ 0) ⊎ (k .operands .immediate ≡ true)
       → cond (eqb (k .kind) 0) (M .stored + payloadSize k) (M .length) ≡ length
-      → Completes k (getD entry 0 0) length (completionOf k M (getD (headEntry q entries) 0 0))
+      → Completes k (getD entry 0 0) length (completionOf k M (getD (headEntry q (arrival .whole .entries)) 0 0))
   unfolding completionOf completes
   completed length h u e =
       rw (ends-true (k .place) h, uses u)
-      (record { some = refl; entry = ap (λ r. getD r 0 0) (head-first q entries S); length = e; immediate = refl; value = refl })
+      (record { some = refl; entry = ap (λ r. getD r 0 0) (head-first (arrival .whole) S); length = e; immediate = refl; value = refl })
     where
       uses : (k .kind ≡ 0) ⊎ (k .operands .immediate ≡ true) → (eqb (k .kind) 0 || k .operands .immediate) ≡ true
       uses (inl x) = rw (eq-eqb (k .kind) 0 x)
       uses (inr x) = rw x (or-true (eqb (k .kind) 0))
 
-  unreported-by : k .kind ≡ 6 → k .operands .immediate ≡ false → Silent (completionOf k M (getD (headEntry q entries) 0 0))
+  unreported-by : k .kind ≡ 6 → k .operands .immediate ≡ false → Silent (completionOf k M (getD (headEntry q (arrival .whole .entries)) 0 0))
   unfolding completionOf completes
   unreported-by e i = rw (ne-eqb (k .kind) 0 (λ x. omega arith), i, and-false (ends (k .place))) silent
 
-  onward-by : HasMore (k .place) → Silent (completionOf k M (getD (headEntry q entries) 0 0))
+  onward-by : HasMore (k .place) → Silent (completionOf k M (getD (headEntry q (arrival .whole .entries)) 0 0))
   unfolding completionOf completes
   onward-by h = rw (ends-false (k .place) h) silent
 
@@ -155,9 +166,9 @@ module _ (q : Pair) (regions entries saved : List (List ℕ)) (m p : List ℕ) (
   unfolding payloadSize
   payload-size-is = sym (payload-size p)
 
-  stores-by : (out : List ℕ) → carrying (k .kind) ≡ true → StoresPayload q regions entries m p k M (leftBy q saved m p out D)
-  unfolding leftBy outcomeBy storePayload
-  stores-by out c =
+  stores-by : carrying (k .kind) ≡ true → StoresPayload arrival k M (leftBy arrival D)
+  unfolding leftBy storePayload
+  stores-by c =
       let T = judged .only refl in
       let L = T .7 in
       let size = payload-size p in
@@ -226,31 +237,31 @@ module _ (q : Pair) (regions entries saved : List (List ℕ)) (m p : List ℕ) (
       }
 
   abbrev E : Decision
-  E = runAtomic (packetIn p) (current (q .message) (packetIn p)) (q .message) (regionBy q regions (packetIn p))
+  E = runAtomic (packetIn p) (current (q .message) (packetIn p)) (q .message) (regionBy (arrival .whole) (packetIn p))
 
   -- the region of the atomic's key
   abbrev word : List ℕ
-  word = regionOf (packetIn p .operands .key) regions
+  word = regionOf (packetIn p .operands .key) (arrival .whole .regions)
 
   abbrev at : ℕ
-  at = getD (regionOf (packetIn p .operands .key) regions) 3 0 + (packetIn p .operands .address - getD (regionOf (packetIn p .operands .key) regions) 1 0)
+  at = getD (regionOf (packetIn p .operands .key) (arrival .whole .regions)) 3 0 + (packetIn p .operands .address - getD (regionOf (packetIn p .operands .key) (arrival .whole .regions)) 1 0)
 
   own-message : IsAtomic (k .kind) → M ≡ owned
   own-message a = current-tested (q .message) k place-known .own (inr (atomic-form a .0))
 
-  at-word : IsAtomic (k .kind) → memoryOffset (regionBy q regions k) (M .address) (M .length) ≡ at
+  at-word : IsAtomic (k .kind) → memoryOffset (regionBy (arrival .whole) k) (M .address) (M .length) ≡ at
   unfolding memoryOffset
   at-word a =
       let h = high (k .kind) a in
       let eight = atomic-form a .1 in
-      ap (λ x. memoryOffset (regionFor (k .kind) (x .key) regions) (x .address) (x .length)) (own-message a)
-      ∙ (ap (λ r. memoryOffset r (k .operands .address) (k .operands .length)) (region-is (k .kind) (k .operands .key) regions (λ x. omega arith))
+      ap (λ x. memoryOffset (regionFor (k .kind) (x .key) (arrival .whole .regions)) (x .address) (x .length)) (own-message a)
+      ∙ (ap (λ r. memoryOffset r (k .operands .address) (k .operands .length)) (region-is (k .kind) (k .operands .key) (arrival .whole .regions) (λ x. omega arith))
       ∙ rw (ne-eqb (k .operands .length) 0 (λ x. omega arith)))
 
   gives-word : IsAtomic (k .kind) → GivesRest region 6 (q .setup .memory) M → Gives word 6 (q .setup .memory) (k .operands .address) 8
   gives-word a G =
       let eight = atomic-form a .1 in
-      let H : GivesRest word 6 (q .setup .memory) owned = subst (λ x. GivesRest (regionOf (x .key) regions) 6 (q .setup .memory) x) (own-message a) G in
+      let H : GivesRest word 6 (q .setup .memory) owned = subst (λ x. GivesRest (regionOf (x .key) (arrival .whole .regions)) 6 (q .setup .memory) x) (own-message a) G in
       let b : k .operands .address + 0 ≡ k .operands .address = omega arith in
       let s : k .operands .length - 0 ≡ 8 = omega arith in
       subst (λ x. Gives word 6 (q .setup .memory) x 8) b
@@ -265,18 +276,18 @@ module _ (q : Pair) (regions entries saved : List (List ℕ)) (m p : List ℕ) (
   swap-memory e =
       rw (ne-eqb (k .kind) 20 (λ x. omega arith)) (ap (λ x. swapped m x (k .operands .compare) (k .operands .swap)) (at-word (inl e)))
 
-  -- what it was is saved
-  saved-word : IsAtomic (k .kind) → savedBy (q .saved) E saved m ≡ savedRows saved (q .saved) (k .psn .0) (wordAt m at)
+  -- what it was is (arrival .whole .saved)
+  saved-word : IsAtomic (k .kind) → savedBy (q .saved) E (arrival .whole .saved) m ≡ savedRows (arrival .whole .saved) (q .saved) (k .psn .0) (wordAt m at)
   unfolding savedBy runAtomic
   saved-word a =
-      ap (λ b. cond b (savedRows saved (q .saved) (k .psn .0) (wordAt m (memoryOffset (regionBy q regions k) (M .address) (M .length)))) saved) (acts (eqb (k .kind) 20))
-      ∙ ap (λ x. savedRows saved (q .saved) (k .psn .0) (wordAt m x)) (at-word a)
+      ap (λ b. cond b (savedRows (arrival .whole .saved) (q .saved) (k .psn .0) (wordAt m (memoryOffset (regionBy (arrival .whole) k) (M .address) (M .length)))) (arrival .whole .saved)) (acts (eqb (k .kind) 20))
+      ∙ ap (λ x. savedRows (arrival .whole .saved) (q .saved) (k .psn .0) (wordAt m x)) (at-word a)
 
   one-word : IsAtomic (k .kind) → OnlyWord m (memoryBy E m p) at
   one-word (inl e) = subst (λ x. OnlyWord m x at) (sym (swap-memory e)) (swap-within m at (k .operands .compare) (k .operands .swap))
   one-word (inr e) = subst (λ x. OnlyWord m x at) (sym (fetch-memory e)) (fetch-within m at (k .operands .swap))
 
-  swaps-by : carrying (k .kind) ≡ false → eqb (k .kind) 12 ≡ false → OnRegion word q k m (memoryBy E m p) saved (savedBy (q .saved) E saved m)
+  swaps-by : carrying (k .kind) ≡ false → eqb (k .kind) 12 ≡ false → OnRegion word q k m (memoryBy E m p) (arrival .whole .saved) (savedBy (q .saved) E (arrival .whole .saved) m)
   swaps-by c r =
       let T = judged .only refl in
       let a = which-atomic (q .setup) (k .kind) (T .1) c r in
@@ -294,20 +305,24 @@ module _ (q : Pair) (regions entries saved : List (List ℕ)) (m p : List ℕ) (
       }
 
 -- On the unreliable connection the packet finds the message that it leaves open, and is not answered
-module _ (q : Pair) (regions entries saved : List (List ℕ)) (m p out : List ℕ) (n : ℕ) where
+module _ (a : Arrival) (n : ℕ) where
+  -- what arrives, with the pair as the packet finds it
+  abbrev seen : Arrival
+  seen = record { whole = viewedIn (packetIn (a .packet) .place) (a .whole); memory = a .memory; packet = a .packet; out = a .out }
+
   abbrev v : Pair
-  v = viewed (packetIn p .place) q
+  v = seen .whole .pair
 
   abbrev storedAt : OpenMessage → Decision
-  storedAt t = storePayload (packetIn p) t (headEntry q entries) (regionFor (packetIn p .kind) (t .key) regions)
+  storedAt t = storePayload (packetIn (a .packet)) t (headEntry (a .whole .pair) (a .whole .entries)) (regionFor (packetIn (a .packet) .kind) (t .key) (a .whole .regions))
 
-  same-message : (t : OpenMessage) → pairBy q (unanswered n (storedAt t)) .message ≡ pairBy v (storedAt t) .message
+  same-message : (t : OpenMessage) → pairBy (a .whole .pair) (unanswered n (storedAt t)) .message ≡ pairBy v (storedAt t) .message
   unfolding pairBy pairByNumber storePayload executedPair statusNumber
-  same-message t = sym (rw (few (packetIn p .ackreq)))
+  same-message t = sym (rw (few (packetIn (a .packet) .ackreq)))
 
-  unseen : (t : OpenMessage) → StoresPayload v regions entries m p (packetIn p) t (leftBy v saved m p out (storedAt t))
-      → StoresPayload q regions entries m p (packetIn p) t (leftBy q saved m p out (unanswered n (storedAt t)))
-  unfolding leftBy outcomeBy memoryBy
+  unseen : (t : OpenMessage) → StoresPayload seen (packetIn (a .packet)) t (leftBy seen (storedAt t))
+      → StoresPayload a (packetIn (a .packet)) t (leftBy a (unanswered n (storedAt t)))
+  unfolding leftBy memoryBy
   unseen t P =
       record {
         kind = P .kind;
@@ -322,55 +337,55 @@ module _ (q : Pair) (regions entries saved : List (List ℕ)) (m p out : List �
         opens = λ h. same-message t ∙ P .opens h;
       }
 
-  ucExecuted : Sound q → length m ≡ q .setup .memory → codeBy v regions entries (packetIn p) ≡ 0 → carrying (packetIn p .kind) ≡ true
-      → StoresPayload q regions entries m p (packetIn p) (current (q .message) (packetIn p)) (leftBy q saved m p out (unanswered n (storedAt (current (q .message) (packetIn p)))))
+  ucExecuted : Sound (a .whole .pair) → length (a .memory) ≡ a .whole .pair .setup .memory → codeBy (seen .whole) (packetIn (a .packet)) ≡ 0 → carrying (packetIn (a .packet) .kind) ≡ true
+      → StoresPayload a (packetIn (a .packet)) (current (a .whole .pair .message) (packetIn (a .packet))) (leftBy a (unanswered n (storedAt (current (a .whole .pair .message) (packetIn (a .packet))))))
   ucExecuted S w z c =
-      subst (λ t. StoresPayload q regions entries m p (packetIn p) t (leftBy q saved m p out (unanswered n (storedAt t)))) (current-closed (q .message) (packetIn p))
-      (unseen (current (v .message) (packetIn p)) (stores-by v regions entries saved m p (viewed-sound (packetIn p .place) q S) w z out c))
+      subst (λ t. StoresPayload a (packetIn (a .packet)) t (leftBy a (unanswered n (storedAt t)))) (current-closed (a .whole .pair .message) (packetIn (a .packet)))
+      (unseen (current (v .message) (packetIn (a .packet))) (stores-by seen (viewed-sound (packetIn (a .packet) .place) (a .whole .pair) S) w z c))
 
 -- the two claims: any other decision has another answer
-module _ (q : Pair) (regions entries saved : List (List ℕ)) (m p out : List ℕ) (w : length m ≡ q .setup .memory) where
-  stores-way : (d : Decision) → Way q regions entries (packetIn p) d → (statusNumber (d .status) ≡ 0) ⊎ (statusNumber (d .status) ≡ 1)
-      → StoresPayload q regions entries m p (packetIn p) (current (q .message) (packetIn p)) (leftBy q saved m p out d)
+module _ (a : Arrival) (w : length (a .memory) ≡ a .whole .pair .setup .memory) where
+  stores-way : (d : Decision) → Way (a .whole) (packetIn (a .packet)) d → (statusNumber (d .status) ≡ 0) ⊎ (statusNumber (d .status) ≡ 1)
+      → StoresPayload a (packetIn (a .packet)) (current (a .whole .pair .message) (packetIn (a .packet))) (leftBy a d)
   unfolding runAtomic statusNumber
   stores-way d (away e (inl x)) (inl y) = absurd (omega arith)
   stores-way d (away e (inl x)) (inr y) = absurd (omega arith)
   stores-way d (away e (inr x)) (inl y) = absurd (omega arith)
   stores-way d (away e (inr x)) (inr y) = absurd (omega arith)
-  stores-way d (places S z c) h = stores-by q regions entries saved m p S w z out c
+  stores-way d (places S z c) h = stores-by a S w z c
   stores-way d (exchanges S z c r) (inl y) = absurd (omega arith)
   stores-way d (exchanges S z c r) (inr y) = absurd (omega arith)
-  stores-way d (delivers S n z c) h = ucExecuted q regions entries saved m p out n S w z c
+  stores-way d (delivers S n z c) h = ucExecuted a n S w z c
 
   low-number : (b : Bool) → statusNumber (cond b status.Acknowledged status.Executed) ≡ 3 → ⊥
   unfolding statusNumber
   low-number true e = omega arith
   low-number false e = omega arith
 
-  swaps-way : (d : Decision) → Way q regions entries (packetIn p) d → statusNumber (d .status) ≡ 3
-      → OnRegion (regionOf (packetIn p .operands .key) regions) q (packetIn p) m (memoryBy d m p) saved (savedBy (q .saved) d saved m)
+  swaps-way : (d : Decision) → Way (a .whole) (packetIn (a .packet)) d → statusNumber (d .status) ≡ 3
+      → OnRegion (regionOf (packetIn (a .packet) .operands .key) (a .whole .regions)) (a .whole .pair) (packetIn (a .packet)) (a .memory) (memoryBy d (a .memory) (a .packet)) (a .whole .saved) (savedBy (a .whole .pair .saved) d (a .whole .saved) (a .memory))
   unfolding storePayload
   swaps-way d (away e (inl x)) y = absurd (omega arith)
   swaps-way d (away e (inr x)) y = absurd (omega arith)
-  swaps-way d (places S z c) y = absurd (low-number (packetIn p .ackreq) y)
+  swaps-way d (places S z c) y = absurd (low-number (packetIn (a .packet) .ackreq) y)
   swaps-way d (delivers S n z c) y = absurd (low-number false y)
-  swaps-way d (exchanges S z c r) y = swaps-by q regions entries saved m p S w z c r
+  swaps-way d (exchanges S z c r) y = swaps-by a S w z c r
 
 small : (n : ℕ) → (n ≡ 0) ⊎ (n ≡ 1) → n < 32
 small n (inl e) = omega arith
 small n (inr e) = omega arith
 
 pub inbound-stores : InboundStores
-unfolding inbound inboundMemory inboundSaved inboundOut decision leftBy outcomeBy packetOf headerOf
-inbound-stores q regions entries saved m p out t C h =
-    let d = decided q regions entries saved (length m) p (length out) in
-    let w = inbound-meant q regions entries saved m p out (small (statusNumber (d .status)) h) .1 in
-    subst (λ x. StoresPayload q regions entries m p (packetIn p) x (leftBy q saved m p out d)) (sym (current-one (q .message) (packetIn p) t (any-place (bthOf p .opcode)) C))
-    (stores-way q regions entries saved m p out w d (decided-way q regions entries saved (length m) p (length out)) h)
+unfolding inbound leftBy decision packetOf headerOf
+inbound-stores a t C h =
+    let d = decision a in
+    let w = inbound-meant a (small (statusNumber (d .status)) h) .1 in
+    subst (λ x. StoresPayload a (packetIn (a .packet)) x (leftBy a d)) (sym (current-one (a .whole .pair .message) (packetIn (a .packet)) t (any-place (bthOf (a .packet) .opcode)) C))
+    (stores-way a w d (decided-way a) h)
 
 pub inbound-swaps : InboundSwaps
-unfolding inbound inboundMemory inboundSaved decision outcomeBy
-inbound-swaps q regions entries saved m p out h =
-    let d = decided q regions entries saved (length m) p (length out) in
-    let w = inbound-meant q regions entries saved m p out (omega (arith, h)) .1 in
-    swaps-way q regions entries saved m p out w d (decided-way q regions entries saved (length m) p (length out)) h
+unfolding inbound leftBy decision
+inbound-swaps a h =
+    let d = decision a in
+    let w = inbound-meant a (omega (arith, h)) .1 in
+    swaps-way a w d (decided-way a) h

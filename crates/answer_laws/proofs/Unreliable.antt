@@ -8,6 +8,7 @@ use native.Mathlib.Omega.{arith}
 use lib.Dec.{eqb, ltb}
 use lib.ListN.{length}
 use borrow.Author.Tests.{eq-eqb, ne-eqb}
+use Rattle.pair.specs.Calls.{Whole}
 use Rattle.lemmas.proofs.Tests.{or-right, not-false}
 use Rattle.sequence.specs.Sequence.{distance}
 use Rattle.opcode.specs.Opcode.{serviceOf, lowOf, kindOf, lowClass, ucHas, classOf}
@@ -34,7 +35,7 @@ use Rattle.answer_laws.specs.Answers.{entryAtHead}
 use Rattle.answer_laws.specs.Unreliable.{UcKinds, Strays, CheckedUnder, Fails, UcChecked, UcComes, UcPassed}
 use Rattle.answer_laws.specs.Unreliable.CheckedUnder.{begins, onward}
 use Rattle.decision_laws.proofs.Views.{closed-starts, closed-onward, orphan-dropped, stray-abandoned, others-checked, current-closed, same-code}
-use Rattle.decision_laws.proofs.Ways.{regionBy}
+use Rattle.decision_laws.proofs.Rows.{regionBy}
 use Rattle.answer_laws.proofs.Answers.{looked, head-first, code-by, carry}
 
 -- Opcodes. A cascade that comes to 0 has failed no test
@@ -72,12 +73,12 @@ class-carries opcode w b =
 
 pub uc-kinds : UcKinds
 unfolding admitted packetOf headerOf
-uc-kinds q p h s e =
-    let A = accepted-by (headerReason (q .setup .service) (q .setup .ours) (q .setup .pkey) (eqb (q .state) 1) p) p h e in
-    let L = service-low (q .setup .service) (q .setup .ours) (q .setup .pkey) (eqb (q .state) 1) p (A .0) in
+uc-kinds a h s e =
+    let A = accepted-by (headerReason (a .whole .pair .setup .service) (a .whole .pair .setup .ours) (a .whole .pair .setup .pkey) (eqb (a .whole .pair .state) 1) (a .packet)) (a .packet) h e in
+    let L = service-low (a .whole .pair .setup .service) (a .whole .pair .setup .ours) (a .whole .pair .setup .pkey) (eqb (a .whole .pair .state) 1) (a .packet) (A .0) in
     subst (λ x. Carries (classOf (x .bth .opcode) .kind)) (A .1)
-    (class-carries (bthOf p .opcode) (subst (λ n. wrongService (serviceOf (bthOf p .opcode)) n ≡ false) s (L .0))
-    (subst (λ n. beyondService n (lowOf (bthOf p .opcode)) ≡ false) s (L .1)))
+    (class-carries (bthOf (a .packet) .opcode) (subst (λ n. wrongService (serviceOf (bthOf (a .packet) .opcode)) n ≡ false) s (L .0))
+    (subst (λ n. beyondService n (lowOf (bthOf (a .packet) .opcode)) ≡ false) s (L .1)))
 
 -- Places, PSNs and kinds, by the tests
 goes-starts : (place : ℕ) → GoesOn place → starts place ≡ false
@@ -139,49 +140,49 @@ module _ (q : Pair) (k : Packet) where
   meets-closed opened (begins b) = closed-starts (k .place) (q .message) (begins-starts (k .place) b)
   meets-closed opened (onward g n e) = closed-onward (k .place) (q .message) (goes-starts (k .place) g)
 
-module _ (q : Pair) (regions entries : List (List ℕ)) (k : Packet) (t : OpenMessage) (S : Sound q) (P : Place (k .place))
-    (C : IsCurrent (q .message) k t) (K : Carries (k .kind)) where
+module _ (w : Whole) (k : Packet) (t : OpenMessage) (S : Sound (w .pair)) (P : Place (k .place))
+    (C : IsCurrent (w .pair .message) k t) (K : Carries (k .kind)) where
   abbrev below : OpenMessage
-  below = closedBy (k .place) (q .message)
+  below = closedBy (k .place) (w .pair .message)
 
   abbrev entry : List ℕ
-  entry = headEntry q entries
+  entry = headEntry (w .pair) (w .entries)
 
   abbrev region : List ℕ
-  region = regionBy q regions k
+  region = regionBy w k
 
   abbrev numbered : Decision → ℕ
   numbered d = statusNumber (d .status)
 
   abbrev number : ℕ
-  number = numbered (ucDecision k (q .setup) (q .expected) (q .message) (q .entries .count) entry region)
+  number = numbered (ucDecision k (w .pair .setup) (w .pair .expected) (w .pair .message) (w .pair .entries .count) entry region)
 
   abbrev codeOf : ℕ
-  codeOf = requestCode (q .setup) below k (q .entries .count) entry region
+  codeOf = requestCode (w .pair .setup) below k (w .pair .entries .count) entry region
 
   abbrev checkedDecision : ℕ
-  checkedDecision = numbered (ucCheckedDecision codeOf k (q .expected) (q .message) entry region)
+  checkedDecision = numbered (ucCheckedDecision codeOf k (w .pair .expected) (w .pair .message) entry region)
 
   -- it is of the same message as before
   current-below : IsCurrent below k t
   current-below =
-      record { own = C .own; old = λ g. C .old g ∙ sym (closed-onward (k .place) (q .message) (goes-starts (k .place) g)) }
+      record { own = C .own; old = λ g. C .old g ∙ sym (closed-onward (k .place) (w .pair .message) (goes-starts (k .place) g)) }
 
   abbrev coded : OpenMessage → OpenMessage → ℕ
-  coded u x = expectedCode (q .setup) u k (q .entries .count) entry (regionOf (x .key) regions)
+  coded u x = expectedCode (w .pair .setup) u k (w .pair .entries .count) entry (regionOf (x .key) (w .regions))
 
-  code-is : strays k (q .expected) (q .message .kind) ≡ false → codeOf ≡ coded below t
+  code-is : strays k (w .pair .expected) (w .pair .message .kind) ≡ false → codeOf ≡ coded below t
   code-is s =
-      sym (same-code (q .setup) (q .message) k (q .expected) (q .entries .count) entry region s)
-      ∙ (ap (λ x. expectedCode (q .setup) below k (q .entries .count) entry (regionFor (k .kind) (x .key) regions)) (sym (current-closed (q .message) k))
-      ∙ (code-by (q .setup) below k (q .entries .count) entry regions ∙ ap (coded below) (sym (current-one below k t P current-below))))
+      sym (same-code (w .pair .setup) (w .pair .message) k (w .pair .expected) (w .pair .entries .count) entry region s)
+      ∙ (ap (λ x. expectedCode (w .pair .setup) below k (w .pair .entries .count) entry (regionFor (k .kind) (x .key) (w .regions))) (sym (current-closed (w .pair .message) k))
+      ∙ (code-by (w .pair .setup) below k (w .pair .entries .count) entry (w .regions) ∙ ap (coded below) (sym (current-one below k t P current-below))))
 
-  judged-by : strays k (q .expected) (q .message .kind) ≡ false
-      → JudgedBy (q .setup) below k t (q .entries .count) (entryAtHead q entries) (regionOf (t .key) regions) codeOf
+  judged-by : strays k (w .pair .expected) (w .pair .message .kind) ≡ false
+      → JudgedBy (w .pair .setup) below k t (w .pair .entries .count) (entryAtHead w) (regionOf (t .key) (w .regions)) codeOf
   judged-by s =
-      subst (λ x. JudgedBy (q .setup) below k t (q .entries .count) x (regionOf (t .key) regions) codeOf) (head-first q entries S)
-      (subst (JudgedBy (q .setup) below k t (q .entries .count) entry (regionOf (t .key) regions)) (sym (code-is s))
-      (order (q .setup) below k t (q .entries .count) entry (regionOf (t .key) regions) P current-below))
+      subst (λ x. JudgedBy (w .pair .setup) below k t (w .pair .entries .count) x (regionOf (t .key) (w .regions)) codeOf) (head-first w S)
+      (subst (JudgedBy (w .pair .setup) below k t (w .pair .entries .count) entry (regionOf (t .key) (w .regions))) (sym (code-is s))
+      (order (w .pair .setup) below k t (w .pair .entries .count) entry (regionOf (t .key) (w .regions)) P current-below))
 
   -- the number, by the code
   good-number : codeOf ≡ 0 → checkedDecision ≡ 0
@@ -197,48 +198,48 @@ module _ (q : Pair) (regions entries : List (List ℕ)) (k : Packet) (t : OpenMe
   failing (inr (inl e)) = (ne-eqb codeOf 0 (λ z. omega arith), ne-eqb codeOf 34 (λ z. omega arith))
   failing (inr (inr e)) = (ne-eqb codeOf 0 (λ z. omega arith), ne-eqb codeOf 34 (λ z. omega arith))
 
-  closes-number : Fails codeOf → (q .message .kind ≡ 255 → ⊥) → checkedDecision ≡ 6
+  closes-number : Fails codeOf → (w .pair .message .kind ≡ 255 → ⊥) → checkedDecision ≡ 6
   unfolding ucCheckedDecision abandoning noReply statusNumber
-  closes-number f n = let F = failing f in rw (F .0, F .1, ne-eqb (q .message .kind) 255 n)
+  closes-number f n = let F = failing f in rw (F .0, F .1, ne-eqb (w .pair .message .kind) 255 n)
 
-  drops-number : Fails codeOf → q .message .kind ≡ 255 → checkedDecision ≡ 5
+  drops-number : Fails codeOf → w .pair .message .kind ≡ 255 → checkedDecision ≡ 5
   unfolding ucCheckedDecision abandoning noReply statusNumber
-  drops-number f n = let F = failing f in rw (F .0, F .1, eq-eqb (q .message .kind) 255 n)
+  drops-number f n = let F = failing f in rw (F .0, F .1, eq-eqb (w .pair .message .kind) 255 n)
 
-  checked-by : (opened : OpenMessage) → CheckedUnder q k opened → UcChecked q regions entries opened k t number
+  checked-by : (opened : OpenMessage) → CheckedUnder (w .pair) k opened → UcChecked w opened k t number
   checked-by opened M =
       let e : number ≡ checkedDecision =
-      ap numbered (others-checked k (q .setup) (q .expected) (q .message) (q .entries .count) entry region (meets-orphaned q k K opened M) (meets-stray q k opened M)) in
+      ap numbered (others-checked k (w .pair .setup) (w .pair .expected) (w .pair .message) (w .pair .entries .count) entry region (meets-orphaned (w .pair) k K opened M) (meets-stray (w .pair) k opened M)) in
       record {
         code = codeOf;
         judged =
-            subst (λ u. JudgedBy (q .setup) u k t (q .entries .count) (entryAtHead q entries) (regionOf (t .key) regions) codeOf)
-            (meets-closed q k opened M) (judged-by (meets-stray q k opened M));
+            subst (λ u. JudgedBy (w .pair .setup) u k t (w .pair .entries .count) (entryAtHead w) (regionOf (t .key) (w .regions)) codeOf)
+            (meets-closed (w .pair) k opened M) (judged-by (meets-stray (w .pair) k opened M));
         good = λ z. e ∙ good-number z;
         outside = λ z. e ∙ outside-number z;
         closes = λ f n. e ∙ closes-number f n;
         drops = λ f n. e ∙ drops-number f n;
       }
 
-  comes-by : UcComes q regions entries k t number
+  comes-by : UcComes w k t number
   unfolding noReply statusNumber
   comes-by =
       record {
-        orphan = λ g n. ap numbered (orphan-dropped k (q .setup) (q .expected) (q .message) (q .entries .count) entry region (is-orphaned q k g n));
-        stray = λ g n s. ap numbered (stray-abandoned k (q .setup) (q .expected) (q .message) (q .entries .count) entry region (with-open q k n) (is-stray q k g s));
+        orphan = λ g n. ap numbered (orphan-dropped k (w .pair .setup) (w .pair .expected) (w .pair .message) (w .pair .entries .count) entry region (is-orphaned (w .pair) k g n));
+        stray = λ g n s. ap numbered (stray-abandoned k (w .pair .setup) (w .pair .expected) (w .pair .message) (w .pair .entries .count) entry region (with-open (w .pair) k n) (is-stray (w .pair) k g s));
         checked = checked-by;
       }
 
 -- by the service
-uc-number : (q : Pair) (regions entries saved : List (List ℕ)) (k : Packet) → q .setup .service ≡ 1
-    → statusNumber (packetDecision q regions entries saved k .status)
-    ≡ statusNumber (ucDecision k (q .setup) (q .expected) (q .message) (q .entries .count) (headEntry q entries) (regionBy q regions k) .status)
+uc-number : (w : Whole) (k : Packet) → w .pair .setup .service ≡ 1
+    → statusNumber (packetDecision w k .status)
+    ≡ statusNumber (ucDecision k (w .pair .setup) (w .pair .expected) (w .pair .message) (w .pair .entries .count) (headEntry (w .pair) (w .entries)) (regionBy w k) .status)
 unfolding packetDecision
-uc-number q regions entries saved k s = rw (eq-eqb (q .setup .service) 1 s)
+uc-number w k s = rw (eq-eqb (w .pair .setup .service) 1 s)
 
 pub uc-passed : UcPassed
 unfolding packetOf
-uc-passed q regions entries saved m p out W s h e t C =
-    let k = packetOf h (length p) in
-    subst (UcComes q regions entries k t) (sym (looked q regions entries saved m p out W h e ∙ uc-number q regions entries saved k s))
-    (comes-by q regions entries k t (W .sound) (any-place (h .bth .opcode)) C (uc-kinds q p h s e))
+uc-passed a W s h e t C =
+    let k = packetOf h (length (a .packet)) in
+    subst (UcComes (a .whole) k t) (sym (looked a W h e ∙ uc-number (a .whole) k s))
+    (comes-by (a .whole) k t (W .sound) (any-place (h .bth .opcode)) C (uc-kinds a h s e))

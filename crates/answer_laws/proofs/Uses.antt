@@ -7,6 +7,7 @@ use mathlib.Core.Logic.{inl, inr}
 use native.Mathlib.Omega.{arith}
 use lib.Dec.{eqb, leb}
 use lib.ListN.{length, getD}
+use Rattle.pair.specs.Calls.{Whole}
 use Rattle.opcode.specs.Place.{ends}
 use Rattle.table.specs.Table.{slotAt}
 use Rattle.table.specs.declared.Ring.{Ring}
@@ -19,9 +20,9 @@ use Rattle.request_spec.specs.Verdict.{usesEntry, payloadSize, current}
 use Rattle.request_spec.specs.declared.Packet.{Packet}
 use Rattle.responder_spec.specs.declared.Completion.{Completion}
 use Rattle.responder_spec.specs.declared.Decision.{Decision}
-use Rattle.responder_spec.specs.Decide.{noCompletion, noReply, acknowledging, completes, completionOf, storePayload, runAtomic, headEntry, decided}
+use Rattle.responder_spec.specs.Decide.{noCompletion, noReply, acknowledging, completes, completionOf, storePayload, runAtomic, headEntry, decision}
 use Rattle.responder_spec.specs.Apply.{ringTaken, entriesBy, executedPair, with, pairByNumber, pairBy}
-use Rattle.responder_spec.specs.Inbound.{outcomeBy, decision, inbound}
+use Rattle.responder_spec.specs.Inbound.{leftBy, inbound}
 use Rattle.responder_spec.specs.Response.{nextStatus, oneFewer, nextResponse}
 use Rattle.request_spec.specs.Packet.{packetIn}
 use Rattle.answer_laws.specs.Entries.{Uses, InboundUses, NextUses}
@@ -30,10 +31,10 @@ use Rattle.decision_laws.proofs.Checked.{checked}
 use Rattle.decision_laws.proofs.Rows.Row.{quiet, ahead, invalid, access, unready, ackDuplicate, readDuplicate, atomicDuplicate, stored, begin, swap}
 use Rattle.decision_laws.proofs.Rows.UcRow.{unheard, abandon, deliver}
 use Rattle.decision_laws.proofs.Rows.AnyRow.{reliable, unreliable}
-use Rattle.decision_laws.proofs.Rows.{Quiet, Row, UcRow, AnyRow, either, decided-row}
+use Rattle.decision_laws.proofs.Rows.{regionBy, Quiet, Row, UcRow, AnyRow, either, decided-row}
 use Rattle.decision_laws.proofs.Views.{viewed, viewed-sound}
 use Rattle.decision_laws.proofs.Ways.Way.{away, places, exchanges, delivers}
-use Rattle.decision_laws.proofs.Ways.{Way, Other, regionBy, codeBy, few, decided-way}
+use Rattle.decision_laws.proofs.Ways.{Way, viewedIn, Other, codeBy, few, decided-way}
 use Rattle.answer_laws.proofs.Answers.{head-first}
 
 -- what a decision leaves of the ring: with no completion it stays, and a packet that is executed with one moves it
@@ -95,79 +96,79 @@ few-apart true (inr h) = omega arith
 few-apart false (inl e) = omega arith
 few-apart false (inr h) = omega arith
 
-module _ (q : Pair) (regions entries : List (List ℕ)) (k : Packet) where
+module _ (w : Whole) (k : Packet) where
   abbrev M : OpenMessage
-  M = current (q .message) k
+  M = current (w .pair .message) k
 
   abbrev entry : List ℕ
-  entry = headEntry q entries
+  entry = headEntry (w .pair) (w .entries)
 
   -- one was there: it was held, or it waited
-  some : (v : Pair) → Sound v → codeBy v regions entries k ≡ 0 → uses k ≡ true → 1 ≤ v .entries .count
+  some : (v : Whole) → Sound (v .pair) → codeBy v k ≡ 0 → uses k ≡ true → 1 ≤ v .pair .entries .count
   some v S z u =
-      let C = checked (v .setup) (v .message) k (v .entries .count) (headEntry v entries) (regionBy v regions k) z in
-      some-entry v k S (C .sequence) (C .waiting) u
+      let C = checked (v .pair .setup) (v .pair .message) k (v .pair .entries .count) (headEntry (v .pair) (v .entries)) (regionBy v k) z in
+      some-entry (v .pair) k S (C .sequence) (C .waiting) u
 
   -- a payload stored, whatever the answer and however many PSNs are taken
-  store-uses : Sound q → (d : Decision) → leb (statusNumber (d .status)) 3 ≡ true
+  store-uses : Sound (w .pair) → (d : Decision) → leb (statusNumber (d .status)) 3 ≡ true
       → d .completion ≡ completionOf k M (getD entry 0 0)
-      → (uses k ≡ true → 1 ≤ q .entries .count)
-      → Uses (q .entries) entries (d .completion) (pairBy q d .entries)
+      → (uses k ≡ true → 1 ≤ w .pair .entries .count)
+      → Uses (w .pair .entries) (w .entries) (d .completion) (pairBy (w .pair) d .entries)
   unfolding ringTaken slotAt
   store-uses S d s c t =
       let known : d .completion .some ≡ true → (uses k ≡ true) × (d .completion .number ≡ getD entry 0 0) =
       subst (λ x. x .some ≡ true → (uses k ≡ true) × (x .number ≡ getD entry 0 0)) (sym c) (completed k M (getD entry 0 0)) in
       record {
         there = λ h. (S .entries .0, t (known h .0));
-        names = λ h. known h .1 ∙ ap (λ row. getD row 0 0) (head-first q entries S);
-        moves = λ h. taken q d s h;
-        stays = λ h. kept q d h;
+        names = λ h. known h .1 ∙ ap (λ row. getD row 0 0) (head-first w S);
+        moves = λ h. taken (w .pair) d s h;
+        stays = λ h. kept (w .pair) d h;
       }
 
   -- with every other answer nothing completes
-  silent : (saved : List (List ℕ)) (d : Decision) → Row Quiet q regions saved k d → Other (statusNumber (d .status))
+  silent : (d : Decision) → Row Quiet w k d → Other (statusNumber (d .status))
       → d .completion .some ≡ false
   unfolding noReply acknowledging runAtomic storePayload
-  silent saved d (quiet a x) o = refl
-  silent saved d ahead o = refl
-  silent saved d invalid o = refl
-  silent saved d access o = refl
-  silent saved d unready o = refl
-  silent saved d ackDuplicate o = refl
-  silent saved d (readDuplicate at n a s) o = refl
-  silent saved d (atomicDuplicate v e) o = refl
-  silent saved d (stored t row region w) o = absurd (few-apart (k .ackreq) o)
-  silent saved d (begin at n a s) o = refl
-  silent saved d (swap t region w) o = refl
+  silent d (quiet a x) o = refl
+  silent d ahead o = refl
+  silent d invalid o = refl
+  silent d access o = refl
+  silent d unready o = refl
+  silent d ackDuplicate o = refl
+  silent d (readDuplicate at n a s) o = refl
+  silent d (atomicDuplicate v e) o = refl
+  silent d (stored t row region x) o = absurd (few-apart (k .ackreq) o)
+  silent d (begin at n a s) o = refl
+  silent d (swap t region x) o = refl
 
-  uc-silent : (d : Decision) → UcRow Quiet q k d → Other (statusNumber (d .status)) → d .completion .some ≡ false
+  uc-silent : (d : Decision) → UcRow Quiet (w .pair) k d → Other (statusNumber (d .status)) → d .completion .some ≡ false
   unfolding noReply
   uc-silent d (unheard a x) o = refl
   uc-silent d (abandon h) o = refl
-  uc-silent d (deliver t row region w) o = absurd (few-apart false o)
+  uc-silent d (deliver t row region x) o = absurd (few-apart false o)
 
-  away-silent : (saved : List (List ℕ)) (d : Decision) → AnyRow Quiet q regions saved k d → Other (statusNumber (d .status))
+  away-silent : (d : Decision) → AnyRow Quiet w k d → Other (statusNumber (d .status))
       → d .completion .some ≡ false
-  away-silent saved d (reliable c r) = silent saved d r
-  away-silent saved d (unreliable c r) = uc-silent d r
+  away-silent d (reliable c r) = silent d r
+  away-silent d (unreliable c r) = uc-silent d r
 
-  unused : (d : Decision) → d .completion .some ≡ false → Uses (q .entries) entries (d .completion) (pairBy q d .entries)
-  unused d e = silent-uses (q .entries) entries (d .completion) (pairBy q d .entries) e (kept q d e)
+  unused : (d : Decision) → d .completion .some ≡ false → Uses (w .pair .entries) (w .entries) (d .completion) (pairBy (w .pair) d .entries)
+  unused d e = silent-uses (w .pair .entries) (w .entries) (d .completion) (pairBy (w .pair) d .entries) e (kept (w .pair) d e)
 
-  uses-by : (saved : List (List ℕ)) (d : Decision) → Way q regions entries k d → AnyRow Quiet q regions saved k d
-      → Uses (q .entries) entries (d .completion) (pairBy q d .entries)
+  uses-by : (d : Decision) → Way w k d → AnyRow Quiet w k d
+      → Uses (w .pair .entries) (w .entries) (d .completion) (pairBy (w .pair) d .entries)
   unfolding storePayload runAtomic statusNumber
-  uses-by saved d (away x o) r = unused x (away-silent saved x r o)
-  uses-by saved d (places S z c) r = store-uses S d (few (k .ackreq)) refl (some q S z)
-  uses-by saved d (exchanges S z c f) r = unused d refl
-  uses-by saved d (delivers S n z c) r = store-uses S d refl refl (some (viewed (k .place) q) (viewed-sound (k .place) q S) z)
+  uses-by d (away x o) r = unused x (away-silent x r o)
+  uses-by d (places S z c) r = store-uses S d (few (k .ackreq)) refl (some w S z)
+  uses-by d (exchanges S z c f) r = unused d refl
+  uses-by d (delivers S n z c) r = store-uses S d refl refl (some (viewedIn (k .place) w) (viewed-sound (k .place) (w .pair) S) z)
 
 pub inbound-uses : InboundUses
-unfolding inbound decision outcomeBy
-inbound-uses q regions entries saved m p out =
-    let d = decided q regions entries saved (length m) p (length out) in
-    uses-by q regions entries (packetIn p) saved d (decided-way q regions entries saved (length m) p (length out))
-    (decided-row q regions entries saved (length m) p (length out))
+unfolding inbound leftBy decision
+inbound-uses a =
+    let d = decision a in
+    uses-by (a .whole) (packetIn (a .packet)) d (decided-way a)
+    (decided-row a)
 
 pub next-uses : NextUses
 unfolding nextResponse

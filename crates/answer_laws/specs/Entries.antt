@@ -4,6 +4,7 @@ use mathlib.Core.Path.{_≡_}
 use mathlib.Core.Bool.{true, false}
 use mathlib.Core.List.{List, []}
 use lib.ListN.{getD}
+use Rattle.responder_spec.specs.Arrival.{Arrival}
 use Rattle.table.specs.declared.Ring.{Ring}
 use Rattle.pair.specs.declared.Pair.{Pair}
 use Rattle.responder_spec.specs.declared.Completion.{Completion}
@@ -22,9 +23,9 @@ pub record Uses (old : Ring) (entries : List (List ℕ)) (c : Completion) (new :
 -- completes.
 abbrev pub InboundUses : Type 0
 InboundUses =
-    (q : Pair) (regions entries saved : List (List ℕ)) (m p out : List ℕ)
-    → Uses (q .entries) entries (inbound q regions entries saved m p out .completion)
-    (inbound q regions entries saved m p out .pair .entries)
+    (a : Arrival)
+    → Uses (a .whole .pair .entries) (a .whole .entries) (inbound a .completion)
+    (inbound a .whole .pair .entries)
 
 abbrev pub NextUses : Type 0
 NextUses =

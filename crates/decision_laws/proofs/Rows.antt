@@ -29,6 +29,7 @@ use Rattle.pair.specs.Answer.{statusNumber, executed}
 use Rattle.pair.specs.Pair.{noMessage}
 use Rattle.pair.specs.Sound.{pairUnsound}
 use Rattle.pair.specs.Claims.{Sound}
+use Rattle.pair.specs.Calls.{Whole}
 use Rattle.pair.specs.declared.Setup.{Setup}
 use Rattle.pair.specs.declared.OpenMessage.{OpenMessage}
 use Rattle.pair.specs.declared.Pair.{Pair}
@@ -40,13 +41,15 @@ use Rattle.request_spec.specs.Verdict.{carrying, notEnabled, overLimit, keyFail
 use Rattle.table.specs.Table.{memoryOffset}
 use Rattle.request_spec.specs.declared.Packet.{Packet}
 use Rattle.responder_spec.specs.declared.Decision.{Decision}
+use Rattle.responder_spec.specs.Arrival.{Arrival}
+use Rattle.responder_spec.specs.Decide.{refusalOf, checkedHeader}
 use Rattle.responder_spec.specs.Decide.{replyOnly, noReply, acknowledging, aheadDecision, failed, targetOffset}
 use Rattle.responder_spec.specs.Decide.{storePayload, runAtomic, beginRead, acceptRead, execute}
 use Rattle.responder_spec.specs.Decide.{checkedDecision, expectedDecision, psnBefore, duplicateReadFails}
 use Rattle.responder_spec.specs.Decide.{duplicateRead, duplicateAtomic, isAtomic, duplicateDecision, regionFor}
 use Rattle.responder_spec.specs.Decide.{headEntry, decisionByClass, rcDecision, orphaned, strays, closedBy}
 use Rattle.responder_spec.specs.Decide.{abandoning, unanswered, ucExecute, ucCheckedDecision, ucDecision}
-use Rattle.responder_spec.specs.Decide.{packetDecision, orDrop, readsFull, inboundRefusal, decided}
+use Rattle.responder_spec.specs.Decide.{packetDecision, orDrop, readsFull, inboundRefusal, decision}
 use Rattle.decision_laws.proofs.Codes.Bare.{reads, swaps, adds}
 use Rattle.decision_laws.proofs.Codes.{Codes, codes, Passed, passes, Bare, class-is}
 use Rattle.decision_laws.proofs.Inside.{own-inside, target-inside}
@@ -71,22 +74,22 @@ pub record Asks (memory : ℕ) (regions : List (List ℕ)) (p : Packet) (spots n
   pub within : spots + n ≤ memory
 
 -- by which answers may be quiet, the pair, regions, the saved atomics and the packet
-pub data Row (Q : Status → Type 0) (q : Pair) (regions saved : List (List ℕ)) (p : Packet) : Decision → Type 0 where
-  quiet : (a : Status) → Q a → Row Q q regions saved p (noReply a)
-  ahead : Row Q q regions saved p (acknowledging status.SequenceNak (q .expected) 96)
-  invalid : Row Q q regions saved p (acknowledging status.InvalidRequestNak (p .psn) 97)
-  access : Row Q q regions saved p (acknowledging status.AccessNak (p .psn) 98)
-  unready : Row Q q regions saved p (acknowledging status.NotReadyNak (p .psn) (32 + q .setup .timer))
-  ackDuplicate : Row Q q regions saved p (acknowledging status.DuplicateAnswered (psnBefore (q .expected)) 31)
-  readDuplicate : (at n : ℕ) → Asks (q .setup .memory) regions p at n → 0 < pieces n (q .setup .pmtu)
-      → Row Q q regions saved p (beginRead status.DuplicateAnswered noMessage at n 0 false (pieces n (q .setup .pmtu)) (p .psn))
-  atomicDuplicate : (v : ℕ) → newestSaved (p .psn .0) saved (q .saved) ≡ Value v → Row Q q regions saved p (replyOnly status.DuplicateAnswered 24 (p .psn) 31 v)
-  stored : (m : OpenMessage) (entry region : List ℕ) → targetOffset (p .kind) m entry region + payloadSize p ≤ q .setup .memory
-      → Row Q q regions saved p (storePayload p m entry region)
-  begin : (at n : ℕ) → Asks (q .setup .memory) regions p at n → 0 < pieces n (q .setup .pmtu)
-      → Row Q q regions saved p (beginRead status.ReadAccepted (q .message) at n (pieces n (q .setup .pmtu)) true (pieces n (q .setup .pmtu)) (p .psn))
-  swap : (m : OpenMessage) (region : List ℕ) → memoryOffset region (m .address) (m .length) + 8 ≤ q .setup .memory
-      → Row Q q regions saved p (runAtomic p m (q .message) region)
+pub data Row (Q : Status → Type 0) (w : Whole) (p : Packet) : Decision → Type 0 where
+  quiet : (a : Status) → Q a → Row Q w p (noReply a)
+  ahead : Row Q w p (acknowledging status.SequenceNak (w .pair .expected) 96)
+  invalid : Row Q w p (acknowledging status.InvalidRequestNak (p .psn) 97)
+  access : Row Q w p (acknowledging status.AccessNak (p .psn) 98)
+  unready : Row Q w p (acknowledging status.NotReadyNak (p .psn) (32 + w .pair .setup .timer))
+  ackDuplicate : Row Q w p (acknowledging status.DuplicateAnswered (psnBefore (w .pair .expected)) 31)
+  readDuplicate : (at n : ℕ) → Asks (w .pair .setup .memory) (w .regions) p at n → 0 < pieces n (w .pair .setup .pmtu)
+      → Row Q w p (beginRead status.DuplicateAnswered noMessage at n 0 false (pieces n (w .pair .setup .pmtu)) (p .psn))
+  atomicDuplicate : (v : ℕ) → newestSaved (p .psn .0) (w .saved) (w .pair .saved) ≡ Value v → Row Q w p (replyOnly status.DuplicateAnswered 24 (p .psn) 31 v)
+  stored : (m : OpenMessage) (entry region : List ℕ) → targetOffset (p .kind) m entry region + payloadSize p ≤ w .pair .setup .memory
+      → Row Q w p (storePayload p m entry region)
+  begin : (at n : ℕ) → Asks (w .pair .setup .memory) (w .regions) p at n → 0 < pieces n (w .pair .setup .pmtu)
+      → Row Q w p (beginRead status.ReadAccepted (w .pair .message) at n (pieces n (w .pair .setup .pmtu)) true (pieces n (w .pair .setup .pmtu)) (p .psn))
+  swap : (m : OpenMessage) (region : List ℕ) → memoryOffset region (m .address) (m .length) + 8 ≤ w .pair .setup .memory
+      → Row Q w p (runAtomic p m (w .pair .message) region)
 
 -- a fact of both sides of a test is one of the test
 pub either : {A : Type 0} (P : A → Type 0) (b : Bool) {x y : A} → P x → P y → P (cond b x y)
@@ -108,8 +111,8 @@ Off Q q entries p =
     (region : List ℕ) → expectedCode (q .setup) (q .message) p (q .entries .count) (headEntry q entries) region ≡ 34 → Q status.OutOfRange
 
 -- the region of the packet's key
-abbrev regionBy : Pair → List (List ℕ) → Packet → List ℕ
-regionBy q regions p = regionFor (p .kind) (current (q .message) p .key) regions
+abbrev pub regionBy : Whole → Packet → List ℕ
+regionBy w p = regionFor (p .kind) (current (w .pair .message) p .key) (w .regions)
 
 -- READs and atomics are messages of one packet, and an atomic names 8 bytes
 record Formed (p : Packet) : Type 0 where
@@ -134,13 +137,13 @@ atomic-kind s kind h c n = go (eqb kind 0) (eqb kind 6) (eqb kind 12) (eqb kind 
     go false false false false true v w x y z t = inr (eqb-true kind 20 z)
     go false false false false false v w x y z t = absurd (true≢false t)
 
-module _ (Q : Status → Type 0) (shut : Q status.Dropped) (q : Pair) (regions entries saved : List (List ℕ)) (S : Sound q) (p : Packet)
-    (off : Off Q q entries p) (F : Formed p) where
+module _ (Q : Status → Type 0) (shut : Q status.Dropped) (w : Whole) (S : Sound (w .pair)) (p : Packet)
+    (off : Off Q (w .pair) (w .entries) p) (F : Formed p) where
   abbrev R : Decision → Type 0
-  R = Row Q q regions saved p
+  R = Row Q w p
 
   abbrev M : OpenMessage
-  M = current (q .message) p
+  M = current (w .pair .message) p
 
   own : starts (p .place) ≡ true
       → M ≡ (record { kind = p .kind; stored = 0; address = p .operands .address; key = p .operands .key; length = p .operands .length })
@@ -148,8 +151,8 @@ module _ (Q : Status → Type 0) (shut : Q status.Dropped) (q : Pair) (regions e
   own h = rw h
 
   -- a READ whose key is good
-  asks : p .kind ≡ 12 → (k : ℕ) → eqb k 0 ≡ false → keyFails (q .setup .memory) k M (regionBy q regions p) ≡ false
-      → Asks (q .setup .memory) regions p (memoryOffset (regionBy q regions p) (M .address) (M .length)) (M .length)
+  asks : p .kind ≡ 12 → (k : ℕ) → eqb k 0 ≡ false → keyFails (w .pair .setup .memory) k M (regionBy w p) ≡ false
+      → Asks (w .pair .setup .memory) (w .regions) p (memoryOffset (regionBy w p) (M .address) (M .length)) (M .length)
   unfolding regionFor
   asks e k n h =
       let c = own (F .one 12 reads e) in
@@ -157,18 +160,18 @@ module _ (Q : Status → Type 0) (shut : Q status.Dropped) (q : Pair) (regions e
         kind = e;
         length = ap (λ x. x .length) c;
         at =
-            ap (λ x. memoryOffset (regionFor (p .kind) (x .key) regions) (x .address) (x .length)) c
-            ∙ ap (λ k. memoryOffset (regionFor k (p .operands .key) regions) (p .operands .address) (p .operands .length)) e;
-        within = own-inside k (q .setup .memory) M (regionBy q regions p) n h (ap (λ x. x .stored) c);
+            ap (λ x. memoryOffset (regionFor (p .kind) (x .key) (w .regions)) (x .address) (x .length)) c
+            ∙ ap (λ k. memoryOffset (regionFor k (p .operands .key) (w .regions)) (p .operands .address) (p .operands .length)) e;
+        within = own-inside k (w .pair .setup .memory) M (regionBy w p) n h (ap (λ x. x .stored) c);
       }
 
   -- an atomic, whose key holds 8 bytes
-  eight-inside : (p .kind ≡ 19) ⊎ (p .kind ≡ 20) → keyFails (q .setup .memory) (p .kind) M (regionBy q regions p) ≡ false
-      → memoryOffset (regionBy q regions p) (M .address) (M .length) + 8 ≤ q .setup .memory
+  eight-inside : (p .kind ≡ 19) ⊎ (p .kind ≡ 20) → keyFails (w .pair .setup .memory) (p .kind) M (regionBy w p) ≡ false
+      → memoryOffset (regionBy w p) (M .address) (M .length) + 8 ≤ w .pair .setup .memory
   eight-inside e h =
       let c = own (first e) in
       let n : M .length ≡ 8 = ap (λ x. x .length) c ∙ F .eight e in
-      omega (arith, n, own-inside (p .kind) (q .setup .memory) M (regionBy q regions p) (not-send e) h (ap (λ x. x .stored) c))
+      omega (arith, n, own-inside (p .kind) (w .pair .setup .memory) M (regionBy w p) (not-send e) h (ap (λ x. x .stored) c))
     where
       first : (p .kind ≡ 19) ⊎ (p .kind ≡ 20) → starts (p .place) ≡ true
       first (inl x) = F .one 19 swaps x
@@ -178,68 +181,68 @@ module _ (Q : Status → Type 0) (shut : Q status.Dropped) (q : Pair) (regions e
       not-send (inl x) = ne-eqb (p .kind) 0 (λ z. omega arith)
       not-send (inr x) = ne-eqb (p .kind) 0 (λ z. omega arith)
 
-  execute-row : (entry : List ℕ) → Passed (q .setup) (q .message) p entry (regionBy q regions p)
-      → R (execute p M (q .message) entry (regionBy q regions p) (q .setup .pmtu))
+  execute-row : (entry : List ℕ) → Passed (w .pair .setup) (w .pair .message) p entry (regionBy w p)
+      → R (execute p M (w .pair .message) entry (regionBy w p) (w .pair .setup .pmtu))
   unfolding execute acceptRead
   execute-row entry P =
       branch R (carrying (p .kind))
-      (λ c. stored M entry (regionBy q regions p) (target-inside (q .setup) (q .message) p entry (regionBy q regions p) P c))
+      (λ c. stored M entry (regionBy w p) (target-inside (w .pair .setup) (w .pair .message) p entry (regionBy w p) P c))
       (λ c. branch R (eqb (p .kind) 12)
-      (λ e. begin (memoryOffset (regionBy q regions p) (M .address) (M .length)) (M .length) (asks (eqb-true (p .kind) 12 e) (p .kind) (not-send e) (P .key)) (count-some q S (M .length)))
-      (λ e. swap M (regionBy q regions p) (eight-inside (atomic-kind (q .setup) (p .kind) (P .enabled) c e) (P .key))))
+      (λ e. begin (memoryOffset (regionBy w p) (M .address) (M .length)) (M .length) (asks (eqb-true (p .kind) 12 e) (p .kind) (not-send e) (P .key)) (count-some (w .pair) S (M .length)))
+      (λ e. swap M (regionBy w p) (eight-inside (atomic-kind (w .pair .setup) (p .kind) (P .enabled) c e) (P .key))))
     where
       not-send : eqb (p .kind) 12 ≡ true → eqb (p .kind) 0 ≡ false
       not-send e = let k : p .kind ≡ 12 = eqb-true (p .kind) 12 e in ne-eqb (p .kind) 0 (λ z. omega arith)
 
-  checked-row : (entry : List ℕ) (code : ℕ) → Codes code → (code ≡ 0 → Passed (q .setup) (q .message) p entry (regionBy q regions p))
-      → (code ≡ 34 → Q status.OutOfRange) → R (checkedDecision code p (q .setup) (q .message) entry (regionBy q regions p))
+  checked-row : (entry : List ℕ) (code : ℕ) → Codes code → (code ≡ 0 → Passed (w .pair .setup) (w .pair .message) p entry (regionBy w p))
+      → (code ≡ 34 → Q status.OutOfRange) → R (checkedDecision code p (w .pair .setup) (w .pair .message) entry (regionBy w p))
   unfolding checkedDecision failed
   checked-row entry code (inl e) P o =
-      subst (λ c. R (checkedDecision c p (q .setup) (q .message) entry (regionBy q regions p))) (sym e) (execute-row entry (P e))
-  checked-row entry code (inr (inl e)) P o = subst (λ c. R (checkedDecision c p (q .setup) (q .message) entry (regionBy q regions p))) (sym e) invalid
-  checked-row entry code (inr (inr (inl e))) P o = subst (λ c. R (checkedDecision c p (q .setup) (q .message) entry (regionBy q regions p))) (sym e) access
-  checked-row entry code (inr (inr (inr (inl e)))) P o = subst (λ c. R (checkedDecision c p (q .setup) (q .message) entry (regionBy q regions p))) (sym e) unready
+      subst (λ c. R (checkedDecision c p (w .pair .setup) (w .pair .message) entry (regionBy w p))) (sym e) (execute-row entry (P e))
+  checked-row entry code (inr (inl e)) P o = subst (λ c. R (checkedDecision c p (w .pair .setup) (w .pair .message) entry (regionBy w p))) (sym e) invalid
+  checked-row entry code (inr (inr (inl e))) P o = subst (λ c. R (checkedDecision c p (w .pair .setup) (w .pair .message) entry (regionBy w p))) (sym e) access
+  checked-row entry code (inr (inr (inr (inl e)))) P o = subst (λ c. R (checkedDecision c p (w .pair .setup) (w .pair .message) entry (regionBy w p))) (sym e) unready
   checked-row entry code (inr (inr (inr (inr (inl e))))) P o =
-      subst (λ c. R (checkedDecision c p (q .setup) (q .message) entry (regionBy q regions p))) (sym e) (quiet status.OutOfRange (o e))
+      subst (λ c. R (checkedDecision c p (w .pair .setup) (w .pair .message) entry (regionBy w p))) (sym e) (quiet status.OutOfRange (o e))
 
-  expected-row : R (expectedDecision p (q .setup) (q .message) (q .entries .count) (headEntry q entries) (regionBy q regions p))
+  expected-row : R (expectedDecision p (w .pair .setup) (w .pair .message) (w .pair .entries .count) (headEntry (w .pair) (w .entries)) (regionBy w p))
   unfolding expectedDecision
   expected-row =
-      checked-row (headEntry q entries) (expectedCode (q .setup) (q .message) p (q .entries .count) (headEntry q entries) (regionBy q regions p))
-      (codes (q .setup) (q .message) p (q .entries .count) (headEntry q entries) (regionBy q regions p))
-      (passes (q .setup) (q .message) p (q .entries .count) (headEntry q entries) (regionBy q regions p)) (off (regionBy q regions p))
+      checked-row (headEntry (w .pair) (w .entries)) (expectedCode (w .pair .setup) (w .pair .message) p (w .pair .entries .count) (headEntry (w .pair) (w .entries)) (regionBy w p))
+      (codes (w .pair .setup) (w .pair .message) p (w .pair .entries .count) (headEntry (w .pair) (w .entries)) (regionBy w p))
+      (passes (w .pair .setup) (w .pair .message) p (w .pair .entries .count) (headEntry (w .pair) (w .entries)) (regionBy w p)) (off (regionBy w p))
 
-  ahead-row : R (aheadDecision (q .nakmark) (q .expected))
+  ahead-row : R (aheadDecision (w .pair .nakmark) (w .pair .expected))
   unfolding aheadDecision
-  ahead-row = either R (q .nakmark) (quiet status.Dropped shut) ahead
+  ahead-row = either R (w .pair .nakmark) (quiet status.Dropped shut) ahead
 
-  atomic-row : (s : Saved) → newestSaved (p .psn .0) saved (q .saved) ≡ s → R (duplicateAtomic s (p .psn))
+  atomic-row : (s : Saved) → newestSaved (p .psn .0) (w .saved) (w .pair .saved) ≡ s → R (duplicateAtomic s (p .psn))
   atomic-row (Value v) e = atomicDuplicate v e
   atomic-row Nothing e = quiet status.Dropped shut
 
-  duplicate-key : duplicateReadFails p (q .setup) M (q .expected) (regionBy q regions p) ≡ false → keyFails (q .setup .memory) 12 M (regionBy q regions p) ≡ false
+  duplicate-key : duplicateReadFails p (w .pair .setup) M (w .pair .expected) (regionBy w p) ≡ false → keyFails (w .pair .setup .memory) 12 M (regionBy w p) ≡ false
   unfolding duplicateReadFails
   duplicate-key h =
-      or-left (keyFails (q .setup .memory) 12 M (regionBy q regions p)) _
-      (or-right (not (eqb (p .pad) 0)) _ (or-right (not (eqb (p .body) 0)) _ (or-right (overLimit (M .length)) _ (or-right (notEnabled (q .setup) 12) _ h))))
+      or-left (keyFails (w .pair .setup .memory) 12 M (regionBy w p)) _
+      (or-right (not (eqb (p .pad) 0)) _ (or-right (not (eqb (p .body) 0)) _ (or-right (overLimit (M .length)) _ (or-right (notEnabled (w .pair .setup) 12) _ h))))
 
-  duplicate-row : R (duplicateDecision p (q .setup) (q .expected) M (regionBy q regions p) (newestSaved (p .psn .0) saved (q .saved)))
+  duplicate-row : R (duplicateDecision p (w .pair .setup) (w .pair .expected) M (regionBy w p) (newestSaved (p .psn .0) (w .saved) (w .pair .saved)))
   unfolding duplicateDecision duplicateRead
   duplicate-row =
       either R (carrying (p .kind)) ackDuplicate
       (branch R (eqb (p .kind) 12)
-      (λ e. branch R (duplicateReadFails p (q .setup) M (q .expected) (regionBy q regions p)) (λ f. quiet status.Dropped shut)
-      (λ f. readDuplicate (memoryOffset (regionBy q regions p) (M .address) (M .length)) (M .length) (asks (eqb-true (p .kind) 12 e) 12 refl (duplicate-key f)) (count-some q S (M .length))))
-      (λ e. either R (isAtomic (p .kind)) (atomic-row (newestSaved (p .psn .0) saved (q .saved)) refl) (quiet status.Dropped shut)))
+      (λ e. branch R (duplicateReadFails p (w .pair .setup) M (w .pair .expected) (regionBy w p)) (λ f. quiet status.Dropped shut)
+      (λ f. readDuplicate (memoryOffset (regionBy w p) (M .address) (M .length)) (M .length) (asks (eqb-true (p .kind) 12 e) 12 refl (duplicate-key f)) (count-some (w .pair) S (M .length))))
+      (λ e. either R (isAtomic (p .kind)) (atomic-row (newestSaved (p .psn .0) (w .saved) (w .pair .saved)) refl) (quiet status.Dropped shut)))
 
-  by-class-row : (c : Class) → R (decisionByClass c q p (headEntry q entries) (regionBy q regions p) (newestSaved (p .psn .0) saved (q .saved)))
+  by-class-row : (c : Class) → R (decisionByClass c (w .pair) p (headEntry (w .pair) (w .entries)) (regionBy w p) (newestSaved (p .psn .0) (w .saved) (w .pair .saved)))
   by-class-row class.Expected = expected-row
   by-class-row class.Ahead = ahead-row
   by-class-row class.Duplicate = duplicate-row
 
-  rc-row : R (rcDecision q regions entries saved p)
+  rc-row : R (rcDecision w p)
   unfolding rcDecision
-  rc-row = by-class-row (psnClass (p .psn .0) (q .expected .0))
+  rc-row = by-class-row (psnClass (p .psn .0) (w .pair .expected .0))
 
 -- on the unreliable connection: quiet, abandoned, or stored
 pub data UcRow (Q : Status → Type 0) (q : Pair) (p : Packet) : Decision → Type 0 where
@@ -248,62 +251,62 @@ pub data UcRow (Q : Status → Type 0) (q : Pair) (p : Packet) : Decision → Ty
   deliver : (m : OpenMessage) (entry region : List ℕ) → targetOffset (p .kind) m entry region + payloadSize p ≤ q .setup .memory
       → UcRow Q q p (unanswered (1 + distance (p .psn .0) (q .expected .0)) (storePayload p m entry region))
 
-module _ (Q : Status → Type 0) (shut : Q status.Dropped) (q : Pair) (regions entries : List (List ℕ)) (p : Packet)
-    (off : Off Q (viewed (p .place) q) entries p) where
+module _ (Q : Status → Type 0) (shut : Q status.Dropped) (w : Whole) (p : Packet)
+    (off : Off Q (viewed (p .place) (w .pair)) (w .entries) p) where
   abbrev U : Decision → Type 0
-  U = UcRow Q q p
+  U = UcRow Q (w .pair) p
 
-  uc-checked : (entry region : List ℕ) (code : ℕ) → (code ≡ 0 → Passed (q .setup) (closedBy (p .place) (q .message)) p entry region)
+  uc-checked : (entry region : List ℕ) (code : ℕ) → (code ≡ 0 → Passed (w .pair .setup) (closedBy (p .place) (w .pair .message)) p entry region)
       → (code ≡ 34 → Q status.OutOfRange)
-      → U (ucCheckedDecision code p (q .expected) (q .message) entry region)
+      → U (ucCheckedDecision code p (w .pair .expected) (w .pair .message) entry region)
   unfolding ucCheckedDecision ucExecute abandoning
   uc-checked entry region code P o =
       branch U (eqb code 0)
       (λ z. branch U (carrying (p .kind))
-      (λ c. deliver (current (q .message) p) entry region
-      (subst (λ m. targetOffset (p .kind) m entry region + payloadSize p ≤ q .setup .memory) (current-closed (q .message) p)
-      (target-inside (q .setup) (closedBy (p .place) (q .message)) p entry region (P (eqb-true code 0 z)) c)))
+      (λ c. deliver (current (w .pair .message) p) entry region
+      (subst (λ m. targetOffset (p .kind) m entry region + payloadSize p ≤ w .pair .setup .memory) (current-closed (w .pair .message) p)
+      (target-inside (w .pair .setup) (closedBy (p .place) (w .pair .message)) p entry region (P (eqb-true code 0 z)) c)))
       (λ c. unheard status.Dropped shut))
       (λ z. branch U (eqb code 34) (λ e. unheard status.OutOfRange (o (eqb-true code 34 e)))
-      (λ e. branch U (eqb (q .message .kind) 255) (λ f. unheard status.Dropped shut) (λ f. abandon (eqb-false (q .message .kind) 255 f))))
+      (λ e. branch U (eqb (w .pair .message .kind) 255) (λ f. unheard status.Dropped shut) (λ f. abandon (eqb-false (w .pair .message .kind) 255 f))))
 
-  uc-row : U (ucDecision p (q .setup) (q .expected) (q .message) (q .entries .count) (headEntry q entries) (regionBy q regions p))
+  uc-row : U (ucDecision p (w .pair .setup) (w .pair .expected) (w .pair .message) (w .pair .entries .count) (headEntry (w .pair) (w .entries)) (regionBy w p))
   unfolding ucDecision
   uc-row =
-      let entry = headEntry q entries in
-      let region = regionBy q regions p in
-      let opened = closedBy (p .place) (q .message) in
-      let code = requestCode (q .setup) opened p (q .entries .count) entry region in
-      branch U (orphaned (p .place) (q .message .kind)) (λ h. unheard status.Dropped shut)
-      (λ h. branch U (strays p (q .expected) (q .message .kind)) (λ t. abandon (stray-open p (q .expected) (q .message .kind) h t))
+      let entry = headEntry (w .pair) (w .entries) in
+      let region = regionBy w p in
+      let opened = closedBy (p .place) (w .pair .message) in
+      let code = requestCode (w .pair .setup) opened p (w .pair .entries .count) entry region in
+      branch U (orphaned (p .place) (w .pair .message .kind)) (λ h. unheard status.Dropped shut)
+      (λ h. branch U (strays p (w .pair .expected) (w .pair .message .kind)) (λ t. abandon (stray-open p (w .pair .expected) (w .pair .message .kind) h t))
       (λ t.
-      let e = same-code (q .setup) (q .message) p (q .expected) (q .entries .count) entry region t in
-      uc-checked entry region code (λ z. passes (q .setup) opened p (q .entries .count) entry region (e ∙ z)) (λ z. off region (e ∙ z))))
+      let e = same-code (w .pair .setup) (w .pair .message) p (w .pair .expected) (w .pair .entries .count) entry region t in
+      uc-checked entry region code (λ z. passes (w .pair .setup) opened p (w .pair .entries .count) entry region (e ∙ z)) (λ z. off region (e ∙ z))))
 
 -- by the service
-pub data AnyRow (Q : Status → Type 0) (q : Pair) (regions saved : List (List ℕ)) (p : Packet) (d : Decision) : Type 0 where
-  reliable : eqb (q .setup .service) 1 ≡ false → Row Q q regions saved p d → AnyRow Q q regions saved p d
-  unreliable : eqb (q .setup .service) 1 ≡ true → UcRow Q q p d → AnyRow Q q regions saved p d
+pub data AnyRow (Q : Status → Type 0) (w : Whole) (p : Packet) (d : Decision) : Type 0 where
+  reliable : eqb (w .pair .setup .service) 1 ≡ false → Row Q w p d → AnyRow Q w p d
+  unreliable : eqb (w .pair .setup .service) 1 ≡ true → UcRow Q (w .pair) p d → AnyRow Q w p d
 
 -- when 34 comes after the packet was looked at, by either service
-pub record AnyOff (Q : Status → Type 0) (q : Pair) (entries : List (List ℕ)) (p : Packet) : Type 0 where
-  pub rc : Off Q q entries p
-  pub uc : Off Q (viewed (p .place) q) entries p
+pub record AnyOff (Q : Status → Type 0) (w : Whole) (p : Packet) : Type 0 where
+  pub rc : Off Q (w .pair) (w .entries) p
+  pub uc : Off Q (viewed (p .place) (w .pair)) (w .entries) p
 
-quiet-row : (Q : Status → Type 0) (q : Pair) (regions saved : List (List ℕ)) (p : Packet) (a : Status) → Q a → AnyRow Q q regions saved p (noReply a)
-quiet-row Q q regions saved p a h = go (eqb (q .setup .service) 1) refl
+quiet-row : (Q : Status → Type 0) (w : Whole) (p : Packet) (a : Status) → Q a → AnyRow Q w p (noReply a)
+quiet-row Q w p a h = go (eqb (w .pair .setup .service) 1) refl
   where
-    go : (b : Bool) → eqb (q .setup .service) 1 ≡ b → AnyRow Q q regions saved p (noReply a)
+    go : (b : Bool) → eqb (w .pair .setup .service) 1 ≡ b → AnyRow Q w p (noReply a)
     go true e = unreliable e (unheard a h)
     go false e = reliable e (quiet a h)
 
-packet-row : (Q : Status → Type 0) → Q status.Dropped → (q : Pair) (regions entries saved : List (List ℕ)) → Sound q → (p : Packet)
-    → AnyOff Q q entries p → Formed p
-    → AnyRow Q q regions saved p (packetDecision q regions entries saved p)
+packet-row : (Q : Status → Type 0) → Q status.Dropped → (w : Whole) → Sound (w .pair) → (p : Packet)
+    → AnyOff Q w p → Formed p
+    → AnyRow Q w p (packetDecision w p)
 unfolding packetDecision
-packet-row Q shut q regions entries saved S p off F =
-    branch (AnyRow Q q regions saved p) (eqb (q .setup .service) 1) (λ e. unreliable e (uc-row Q shut q regions entries p (off .uc)))
-    (λ e. reliable e (rc-row Q shut q regions entries saved S p (off .rc) F))
+packet-row Q shut w S p off F =
+    branch (AnyRow Q w p) (eqb (w .pair .setup .service) 1) (λ e. unreliable e (uc-row Q shut w p (off .uc)))
+    (λ e. reliable e (rc-row Q shut w S p (off .rc) F))
 
 -- the tests before the packet is looked at
 pub passed : (q : Pair) (memory room : ℕ) → executed (inboundRefusal q memory room) ≡ true → (24 ≤ room) × Sound q
@@ -356,38 +359,37 @@ formed p = record { one = first; eight = eights }
     eights (inl e) = subst (λ c. operandsOf (extensionOf (c .follows) p) .length ≡ 8) (sym (class-is o 19 swaps e)) (atomic-eight p .0)
     eights (inr e) = subst (λ c. operandsOf (extensionOf (c .follows) p) .length ≡ 8) (sym (class-is o 20 adds e)) (atomic-eight p .1)
 
-admitted-row : (Q : Status → Type 0) → Q status.Dropped → (q : Pair) (regions entries saved : List (List ℕ)) → Sound q → (p : List ℕ)
-    → AnyOff Q q entries (packetIn p) → (r : HeaderRead)
-    → admitted (q .setup .service) (q .setup .ours) (q .setup .pkey) (eqb (q .state) 1) p ≡ r
-    → AnyRow Q q regions saved (packetIn p) (orDrop r (λ h. packetDecision q regions entries saved (packetOf h (length p))))
+admitted-row : (Q : Status → Type 0) → Q status.Dropped → (w : Whole) → Sound (w .pair) → (p : List ℕ)
+    → AnyOff Q w (packetIn p) → (r : HeaderRead)
+    → admitted (w .pair .setup .service) (w .pair .setup .ours) (w .pair .setup .pkey) (eqb (w .pair .state) 1) p ≡ r
+    → AnyRow Q w (packetIn p) (orDrop r (λ h. packetDecision w (packetOf h (length p))))
 unfolding admitted
-admitted-row Q shut q regions entries saved S p off (read.Accepted h) e =
-    let reason = headerReason (q .setup .service) (q .setup .ours) (q .setup .pkey) (eqb (q .state) 1) p in
-    subst (λ x. AnyRow Q q regions saved (packetIn p) (packetDecision q regions entries saved (packetOf x (length p)))) (accepted-by reason p h e .1)
-    (packet-row Q shut q regions entries saved S (packetIn p) off (formed p))
-admitted-row Q shut q regions entries saved S p off (read.Dropped reason) e = quiet-row Q q regions saved (packetIn p) status.Dropped shut
+admitted-row Q shut w S p off (read.Accepted h) e =
+    let reason = headerReason (w .pair .setup .service) (w .pair .setup .ours) (w .pair .setup .pkey) (eqb (w .pair .state) 1) p in
+    subst (λ x. AnyRow Q w (packetIn p) (packetDecision w (packetOf x (length p)))) (accepted-by reason p h e .1)
+    (packet-row Q shut w S (packetIn p) off (formed p))
+admitted-row Q shut w S p off (read.Dropped reason) e = quiet-row Q w (packetIn p) status.Dropped shut
 
-pub decided-row : (q : Pair) (regions entries saved : List (List ℕ)) (memory : ℕ) (p : List ℕ) (room : ℕ)
-    → AnyRow Quiet q regions saved (packetIn p) (decided q regions entries saved memory p room)
-unfolding decided
-decided-row q regions entries saved memory p room = go (executed (inboundRefusal q memory room)) refl
+pub decided-row : (a : Arrival) → AnyRow Quiet (a .whole) (packetIn (a .packet)) (decision a)
+unfolding decision
+decided-row a = go (executed (refusalOf a)) refl
   where
     D : HeaderRead → Decision
-    D r = orDrop r (λ h. packetDecision q regions entries saved (packetOf h (length p)))
+    D r = orDrop r (λ h. packetDecision (a .whole) (packetOf h (length (a .packet))))
 
-    A : HeaderRead
-    A = admitted (q .setup .service) (q .setup .ours) (q .setup .pkey) (eqb (q .state) 1) p
-
-    go : (b : Bool) → executed (inboundRefusal q memory room) ≡ b
-        → AnyRow Quiet q regions saved (packetIn p) (cond b (D A) (noReply (inboundRefusal q memory room)))
-    go true e = admitted-row Quiet dropped q regions entries saved (passed q memory room e .1) p (record { rc = λ region z. range; uc = λ region z. range }) A refl
-    go false e = quiet-row Quiet q regions saved (packetIn p) (inboundRefusal q memory room) (refusal-quiet q memory room e)
+    go : (b : Bool) → executed (refusalOf a) ≡ b
+        → AnyRow Quiet (a .whole) (packetIn (a .packet)) (cond b (D (checkedHeader a)) (noReply (refusalOf a)))
+    go true e =
+        admitted-row Quiet dropped (a .whole) (passed (a .whole .pair) (length (a .memory)) (length (a .out)) e .1) (a .packet)
+        (record { rc = λ region z. range; uc = λ region z. range }) (checkedHeader a) refl
+    go false e =
+        quiet-row Quiet (a .whole) (packetIn (a .packet)) (refusalOf a)
+        (refusal-quiet (a .whole .pair) (length (a .memory)) (length (a .out)) e)
 
 -- not refused at once
-pub taken-row : (Q : Status → Type 0) → Q status.Dropped → (q : Pair) (regions entries saved : List (List ℕ)) (memory : ℕ) (p : List ℕ) (room : ℕ)
-    → AnyOff Q q entries (packetIn p) → executed (inboundRefusal q memory room) ≡ true
-    → AnyRow Q q regions saved (packetIn p) (decided q regions entries saved memory p room)
-unfolding decided
-taken-row Q shut q regions entries saved memory p room off e =
+pub taken-row : (Q : Status → Type 0) → Q status.Dropped → (a : Arrival) → AnyOff Q (a .whole) (packetIn (a .packet)) → executed (refusalOf a) ≡ true
+    → AnyRow Q (a .whole) (packetIn (a .packet)) (decision a)
+unfolding decision
+taken-row Q shut a off e =
     rw e
-    (admitted-row Q shut q regions entries saved (passed q memory room e .1) p off (admitted (q .setup .service) (q .setup .ours) (q .setup .pkey) (eqb (q .state) 1) p) refl)
+    (admitted-row Q shut (a .whole) (passed (a .whole .pair) (length (a .memory)) (length (a .out)) e .1) (a .packet) off (checkedHeader a) refl)

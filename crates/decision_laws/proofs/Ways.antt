@@ -27,6 +27,7 @@ use Rattle.table.specs.declared.Saved.{Saved}
 use Rattle.table.specs.declared.Saved.the-variants.{Value, Nothing}
 use Rattle.pair.specs.Answer.{statusNumber, executed}
 use Rattle.pair.specs.Claims.{Sound}
+use Rattle.pair.specs.Calls.{Whole}
 use Rattle.pair.specs.declared.Setup.{Setup}
 use Rattle.pair.specs.declared.OpenMessage.{OpenMessage}
 use Rattle.pair.specs.declared.Pair.{Pair}
@@ -38,18 +39,20 @@ use Rattle.request_spec.specs.Claims.{Served, Enabled, HasMore, Ends, Carries, 
 use Rattle.request_spec.proofs.Order.{served}
 use Rattle.request_spec.specs.declared.Packet.{Packet}
 use Rattle.responder_spec.specs.declared.Decision.{Decision}
+use Rattle.responder_spec.specs.Arrival.{Arrival}
+use Rattle.responder_spec.specs.Decide.{refusalOf, checkedHeader}
 use Rattle.responder_spec.specs.Decide.{noReply, acknowledging, aheadDecision, failed, duplicateReadFails}
 use Rattle.responder_spec.specs.Decide.{storePayload, runAtomic, acceptRead, execute, checkedDecision}
 use Rattle.responder_spec.specs.Decide.{expectedDecision, duplicateRead, duplicateAtomic, isAtomic}
 use Rattle.responder_spec.specs.Decide.{duplicateDecision, regionFor, headEntry, decisionByClass, rcDecision}
 use Rattle.responder_spec.specs.Decide.{orphaned, strays, closedBy, abandoning, unanswered, ucExecute}
 use Rattle.responder_spec.specs.Decide.{ucCheckedDecision, ucDecision, packetDecision, orDrop, inboundRefusal}
-use Rattle.responder_spec.specs.Decide.{decided}
+use Rattle.responder_spec.specs.Decide.{decision}
 use Rattle.responder_spec.specs.Apply.{actsAtomic}
 use Rattle.request_spec.specs.Packet.{packetIn}
 use Rattle.memory.specs.Claims.{OnlyBytes}
 use Rattle.decision_laws.proofs.Rows.Quiet.{dropped, short, range, unfinished}
-use Rattle.decision_laws.proofs.Rows.{Quiet, refusal-quiet, passed}
+use Rattle.decision_laws.proofs.Rows.{Quiet, regionBy, refusal-quiet, passed}
 use Rattle.decision_laws.proofs.Views.{viewed, current-closed, same-code}
 
 -- either act of an atomic is one
@@ -62,34 +65,35 @@ acts false = refl
 abbrev pub Other : ℕ → Type 0
 Other n = (n ≡ 2) ⊎ (4 ≤ n)
 
-abbrev pub regionBy : Pair → List (List ℕ) → Packet → List ℕ
-regionBy q regions k = regionFor (k .kind) (current (q .message) k .key) regions
+abbrev pub codeBy : Whole → Packet → ℕ
+codeBy w k =
+    expectedCode (w .pair .setup) (w .pair .message) k (w .pair .entries .count) (headEntry (w .pair) (w .entries)) (regionBy w k)
 
-abbrev pub codeBy : Pair → List (List ℕ) → List (List ℕ) → Packet → ℕ
-codeBy q regions entries k =
-    expectedCode (q .setup) (q .message) k (q .entries .count) (headEntry q entries) (regionBy q regions k)
+-- the same tables, and the pair as the packet finds it
+abbrev pub viewedIn : ℕ → Whole → Whole
+viewedIn place w = record { pair = viewed place (w .pair); regions = w .regions; entries = w .entries; saved = w .saved }
 
-pub data Way (q : Pair) (regions entries : List (List ℕ)) (k : Packet) : Decision → Type 0 where
-  away : (d : Decision) → Other (statusNumber (d .status)) → Way q regions entries k d
-  places : Sound q → codeBy q regions entries k ≡ 0 → carrying (k .kind) ≡ true
-      → Way q regions entries k (storePayload k (current (q .message) k) (headEntry q entries) (regionBy q regions k))
-  exchanges : Sound q → codeBy q regions entries k ≡ 0 → carrying (k .kind) ≡ false → eqb (k .kind) 12 ≡ false
-      → Way q regions entries k (runAtomic k (current (q .message) k) (q .message) (regionBy q regions k))
-  delivers : Sound q → (n : ℕ) → codeBy (viewed (k .place) q) regions entries k ≡ 0 → carrying (k .kind) ≡ true
-      → Way q regions entries k (unanswered n (storePayload k (current (q .message) k) (headEntry q entries) (regionBy q regions k)))
+pub data Way (w : Whole) (k : Packet) : Decision → Type 0 where
+  away : (d : Decision) → Other (statusNumber (d .status)) → Way w k d
+  places : Sound (w .pair) → codeBy w k ≡ 0 → carrying (k .kind) ≡ true
+      → Way w k (storePayload k (current (w .pair .message) k) (headEntry (w .pair) (w .entries)) (regionBy w k))
+  exchanges : Sound (w .pair) → codeBy w k ≡ 0 → carrying (k .kind) ≡ false → eqb (k .kind) 12 ≡ false
+      → Way w k (runAtomic k (current (w .pair .message) k) (w .pair .message) (regionBy w k))
+  delivers : Sound (w .pair) → (n : ℕ) → codeBy (viewedIn (k .place) w) k ≡ 0 → carrying (k .kind) ≡ true
+      → Way w k (unanswered n (storePayload k (current (w .pair .message) k) (headEntry (w .pair) (w .entries)) (regionBy w k)))
 
 pub branch : {A : Type 0} (P : A → Type 0) (b : Bool) {x y : A} → (b ≡ true → P x) → (b ≡ false → P y) → P (cond b x y)
 branch P true h k = h refl
 branch P false h k = k refl
 
-module _ (q : Pair) (regions entries saved : List (List ℕ)) (S : Sound q) (k : Packet) where
+module _ (w : Whole) (S : Sound (w .pair)) (k : Packet) where
   abbrev pub W : Decision → Type 0
-  W = Way q regions entries k
+  W = Way w k
 
-  pub expected-way : W (expectedDecision k (q .setup) (q .message) (q .entries .count) (headEntry q entries) (regionBy q regions k))
+  pub expected-way : W (expectedDecision k (w .pair .setup) (w .pair .message) (w .pair .entries .count) (headEntry (w .pair) (w .entries)) (regionBy w k))
   unfolding expectedDecision checkedDecision execute acceptRead failed statusNumber acknowledging noReply
   expected-way =
-      let code = codeBy q regions entries k in
+      let code = codeBy w k in
       branch W (eqb code 0)
       (λ z. branch W (carrying (k .kind)) (λ c. places S (eqb-true code 0 z) c)
       (λ c. branch W (eqb (k .kind) 12) (λ r. away _ (inl refl)) (λ r. exchanges S (eqb-true code 0 z) c r)))
@@ -97,59 +101,59 @@ module _ (q : Pair) (regions entries saved : List (List ℕ)) (S : Sound q) (k :
       (λ e. branch W (eqb code 18) (λ e. away _ (inr (omega arith)))
       (λ e. branch W (eqb code 19) (λ e. away _ (inr (omega arith))) (λ e. away _ (inr (omega arith))))))
 
-  pub ahead-way : W (aheadDecision (q .nakmark) (q .expected))
+  pub ahead-way : W (aheadDecision (w .pair .nakmark) (w .pair .expected))
   unfolding aheadDecision statusNumber acknowledging noReply
-  ahead-way = branch W (q .nakmark) (λ e. away _ (inr (omega arith))) (λ e. away _ (inr (omega arith)))
+  ahead-way = branch W (w .pair .nakmark) (λ e. away _ (inr (omega arith))) (λ e. away _ (inr (omega arith)))
 
   pub atomic-way : (s : Saved) → W (duplicateAtomic s (k .psn))
   unfolding statusNumber noReply
   atomic-way (Value v) = away (duplicateAtomic (Value v) (k .psn)) (inr (omega arith))
   atomic-way Nothing = away (duplicateAtomic Nothing (k .psn)) (inr (omega arith))
 
-  pub duplicate-way : W (duplicateDecision k (q .setup) (q .expected) (current (q .message) k) (regionBy q regions k) (newestSaved (k .psn .0) saved (q .saved)))
+  pub duplicate-way : W (duplicateDecision k (w .pair .setup) (w .pair .expected) (current (w .pair .message) k) (regionBy w k) (newestSaved (k .psn .0) (w .saved) (w .pair .saved)))
   unfolding duplicateDecision duplicateRead statusNumber acknowledging noReply
   duplicate-way =
       branch W (carrying (k .kind)) (λ e. away _ (inr (omega arith)))
       (λ e. branch W (eqb (k .kind) 12)
-      (λ r. branch W (duplicateReadFails k (q .setup) (current (q .message) k) (q .expected) (regionBy q regions k)) (λ f. away _ (inr (omega arith))) (λ f. away _ (inr (omega arith))))
-      (λ r. branch W (isAtomic (k .kind)) (λ f. atomic-way (newestSaved (k .psn .0) saved (q .saved))) (λ f. away _ (inr (omega arith)))))
+      (λ r. branch W (duplicateReadFails k (w .pair .setup) (current (w .pair .message) k) (w .pair .expected) (regionBy w k)) (λ f. away _ (inr (omega arith))) (λ f. away _ (inr (omega arith))))
+      (λ r. branch W (isAtomic (k .kind)) (λ f. atomic-way (newestSaved (k .psn .0) (w .saved) (w .pair .saved))) (λ f. away _ (inr (omega arith)))))
 
-  pub by-class-way : (c : Class) → W (decisionByClass c q k (headEntry q entries) (regionBy q regions k) (newestSaved (k .psn .0) saved (q .saved)))
+  pub by-class-way : (c : Class) → W (decisionByClass c (w .pair) k (headEntry (w .pair) (w .entries)) (regionBy w k) (newestSaved (k .psn .0) (w .saved) (w .pair .saved)))
   by-class-way class.Expected = expected-way
   by-class-way class.Ahead = ahead-way
   by-class-way class.Duplicate = duplicate-way
 
-  pub rc-way : W (rcDecision q regions entries saved k)
+  pub rc-way : W (rcDecision w k)
   unfolding rcDecision
-  rc-way = by-class-way (psnClass (k .psn .0) (q .expected .0))
+  rc-way = by-class-way (psnClass (k .psn .0) (w .pair .expected .0))
 
   abbrev opened : OpenMessage
-  opened = closedBy (k .place) (q .message)
+  opened = closedBy (k .place) (w .pair .message)
 
   -- the code of the message that the packet leaves open is that of the same message's region
-  code-viewed : (m : OpenMessage) → current opened k ≡ m → strays k (q .expected) (q .message .kind) ≡ false
-      → requestCode (q .setup) opened k (q .entries .count) (headEntry q entries) (regionFor (k .kind) (m .key) regions) ≡ 0
-      → codeBy (viewed (k .place) q) regions entries k ≡ 0
+  code-viewed : (m : OpenMessage) → current opened k ≡ m → strays k (w .pair .expected) (w .pair .message .kind) ≡ false
+      → requestCode (w .pair .setup) opened k (w .pair .entries .count) (headEntry (w .pair) (w .entries)) (regionFor (k .kind) (m .key) (w .regions)) ≡ 0
+      → codeBy (viewedIn (k .place) w) k ≡ 0
   code-viewed m e t z =
-      ap (λ x. expectedCode (q .setup) opened k (q .entries .count) (headEntry q entries) (regionFor (k .kind) (x .key) regions)) e
-      ∙ (same-code (q .setup) (q .message) k (q .expected) (q .entries .count) (headEntry q entries) (regionFor (k .kind) (m .key) regions) t ∙ z)
+      ap (λ x. expectedCode (w .pair .setup) opened k (w .pair .entries .count) (headEntry (w .pair) (w .entries)) (regionFor (k .kind) (x .key) (w .regions))) e
+      ∙ (same-code (w .pair .setup) (w .pair .message) k (w .pair .expected) (w .pair .entries .count) (headEntry (w .pair) (w .entries)) (regionFor (k .kind) (m .key) (w .regions)) t ∙ z)
 
-  pub uc-way : W (ucDecision k (q .setup) (q .expected) (q .message) (q .entries .count) (headEntry q entries) (regionBy q regions k))
+  pub uc-way : W (ucDecision k (w .pair .setup) (w .pair .expected) (w .pair .message) (w .pair .entries .count) (headEntry (w .pair) (w .entries)) (regionBy w k))
   unfolding ucDecision ucCheckedDecision ucExecute abandoning statusNumber noReply
   uc-way =
-      let code = requestCode (q .setup) opened k (q .entries .count) (headEntry q entries) (regionBy q regions k) in
-      branch W (orphaned (k .place) (q .message .kind)) (λ o. away _ (inr (omega arith)))
-      (λ o. branch W (strays k (q .expected) (q .message .kind)) (λ t. away _ (inr (omega arith)))
+      let code = requestCode (w .pair .setup) opened k (w .pair .entries .count) (headEntry (w .pair) (w .entries)) (regionBy w k) in
+      branch W (orphaned (k .place) (w .pair .message .kind)) (λ o. away _ (inr (omega arith)))
+      (λ o. branch W (strays k (w .pair .expected) (w .pair .message .kind)) (λ t. away _ (inr (omega arith)))
       (λ t. branch W (eqb code 0)
       (λ z. branch W (carrying (k .kind))
-      (λ c. delivers S _ (code-viewed (current (q .message) k) (current-closed (q .message) k) t (eqb-true code 0 z)) c)
+      (λ c. delivers S _ (code-viewed (current (w .pair .message) k) (current-closed (w .pair .message) k) t (eqb-true code 0 z)) c)
       (λ c. away _ (inr (omega arith))))
       (λ z. branch W (eqb code 34) (λ e. away _ (inr (omega arith)))
-      (λ e. branch W (eqb (q .message .kind) 255) (λ f. away _ (inr (omega arith))) (λ f. away _ (inr (omega arith)))))))
+      (λ e. branch W (eqb (w .pair .message .kind) 255) (λ f. away _ (inr (omega arith))) (λ f. away _ (inr (omega arith)))))))
 
-  pub packet-way : W (packetDecision q regions entries saved k)
+  pub packet-way : W (packetDecision w k)
   unfolding packetDecision
-  packet-way = branch W (eqb (q .setup .service) 1) (λ e. uc-way) (λ e. rc-way)
+  packet-way = branch W (eqb (w .pair .setup .service) 1) (λ e. uc-way) (λ e. rc-way)
 
 pub quiet-number : (a : Status) → Quiet a → 4 ≤ statusNumber a
 unfolding statusNumber
@@ -158,23 +162,22 @@ quiet-number a short = omega arith
 quiet-number a range = omega arith
 quiet-number a unfinished = omega arith
 
-pub header-way : (q : Pair) (regions entries saved : List (List ℕ)) → Sound q → (p : List ℕ) → (r : HeaderRead)
-    → admitted (q .setup .service) (q .setup .ours) (q .setup .pkey) (eqb (q .state) 1) p ≡ r
-    → Way q regions entries (packetIn p) (orDrop r (λ h. packetDecision q regions entries saved (packetOf h (length p))))
+pub header-way : (w : Whole) → Sound (w .pair) → (p : List ℕ) → (r : HeaderRead)
+    → admitted (w .pair .setup .service) (w .pair .setup .ours) (w .pair .setup .pkey) (eqb (w .pair .state) 1) p ≡ r
+    → Way w (packetIn p) (orDrop r (λ h. packetDecision w (packetOf h (length p))))
 unfolding admitted statusNumber noReply
-header-way q regions entries saved S p (read.Accepted h) e =
-    let reason = headerReason (q .setup .service) (q .setup .ours) (q .setup .pkey) (eqb (q .state) 1) p in
-    subst (λ x. Way q regions entries (packetIn p) (packetDecision q regions entries saved (packetOf x (length p)))) (accepted-by reason p h e .1)
-    (packet-way q regions entries saved S (packetIn p))
-header-way q regions entries saved S p (read.Dropped reason) e = away (noReply status.Dropped) (inr (omega arith))
+header-way w S p (read.Accepted h) e =
+    let reason = headerReason (w .pair .setup .service) (w .pair .setup .ours) (w .pair .setup .pkey) (eqb (w .pair .state) 1) p in
+    subst (λ x. Way w (packetIn p) (packetDecision w (packetOf x (length p)))) (accepted-by reason p h e .1)
+    (packet-way w S (packetIn p))
+header-way w S p (read.Dropped reason) e = away (noReply status.Dropped) (inr (omega arith))
 
-pub decided-way : (q : Pair) (regions entries saved : List (List ℕ)) (memory : ℕ) (p : List ℕ) (room : ℕ)
-    → Way q regions entries (packetIn p) (decided q regions entries saved memory p room)
-unfolding decided noReply
-decided-way q regions entries saved memory p room =
-    branch (Way q regions entries (packetIn p)) (executed (inboundRefusal q memory room))
-    (λ e. header-way q regions entries saved (passed q memory room e .1) p (admitted (q .setup .service) (q .setup .ours) (q .setup .pkey) (eqb (q .state) 1) p) refl)
-    (λ e. away _ (inr (quiet-number (inboundRefusal q memory room) (refusal-quiet q memory room e))))
+pub decided-way : (a : Arrival) → Way (a .whole) (packetIn (a .packet)) (decision a)
+unfolding decision noReply
+decided-way a =
+    branch (Way (a .whole) (packetIn (a .packet))) (executed (refusalOf a))
+    (λ e. header-way (a .whole) (passed (a .whole .pair) (length (a .memory)) (length (a .out)) e .1) (a .packet) (checkedHeader a) refl)
+    (λ e. away _ (inr (quiet-number (refusalOf a) (refusal-quiet (a .whole .pair) (length (a .memory)) (length (a .out)) e))))
 
 -- bytes that lie in others change no byte outside them
 pub only-by : (old new : List ℕ) (at size offset n : ℕ) → length new ≡ length old → take at new ≡ take at old

@@ -8,6 +8,7 @@ use native.Mathlib.Omega.{arith}
 use lib.Dec.{eqb}
 use lib.ListN.{length, take, drop, getD}
 use borrow.Author.Tests.{eq-eqb, ne-eqb, lt-leb, le-leb, eqb-true, eqb-false}
+use Rattle.responder_spec.specs.Arrival.{Arrival, Left}
 use Rattle.sequence.specs.Sequence.{distance, psnAfter, msnNext}
 use Rattle.sequence.specs.declared.Psn.{Psn}
 use Rattle.sequence.specs.declared.Msn.{Msn}
@@ -38,11 +39,11 @@ use Rattle.request_spec.specs.declared.Packet.{Packet}
 use Rattle.responder_spec.specs.declared.Decision.{Decision}
 use Rattle.responder_spec.specs.Decide.{noCompletion, noPsn, replyOnly, noReply, acknowledging, psnBefore}
 use Rattle.responder_spec.specs.Decide.{completes, completionOf, messageAfter, targetOffset, beginRead}
-use Rattle.responder_spec.specs.Decide.{storePayload, runAtomic, unanswered, decided}
+use Rattle.responder_spec.specs.Decide.{storePayload, runAtomic, unanswered, decision}
 use Rattle.responder_spec.specs.Apply.{memoryBy, actsAtomic, savedBy, savedRingBy, ringTaken, entriesBy, msnBy, readAnswerBy, executedPair, with, pairByNumber, pairBy}
 use Rattle.responder_spec.specs.Reply.{answerBytes, valueBy, over, outBy}
-use Rattle.responder_spec.specs.Inbound.{outcomeBy, decision, inbound, inboundMemory, inboundSaved, inboundOut}
-use Rattle.effect_laws.specs.Effects.{Left, leaving, Silent, Unexecuted, Unchanged, Fixed, NakMarkAlone}
+use Rattle.responder_spec.specs.Inbound.{leftBy, inbound}
+use Rattle.effect_laws.specs.Effects.{Silent, Unexecuted, Unchanged, Fixed, NakMarkAlone}
 use Rattle.effect_laws.specs.Effects.{ErrorAlone, Begun, DuplicateLeaves, Abandons, Executes, StoresPacket, Accepts}
 use Rattle.effect_laws.specs.Effects.{OnWord, Swaps, Table, InboundTable}
 use Rattle.decision_laws.proofs.Codes.Bare.{reads, swaps, adds}
@@ -63,45 +64,48 @@ pub act-by : (P : ℕ → Type 0) → P 2 → P 3 → (b : Bool) → P (cond b 2
 act-by P x y true = x
 act-by P x y false = y
 
--- what a decision leaves
-module _ (q : Pair) (saved : List (List ℕ)) (m p out : List ℕ) where
-  unfoldable pub leftBy : Decision → Left
-  leftBy d =
-      leaving (outcomeBy q d) (memoryBy d m p) (savedBy (q .saved) d saved m) (outBy (q .setup) d (pairBy q d .msn) m out)
+module _ (arrival : Arrival) where
+  abbrev q : Pair
+  q = arrival .whole .pair
 
--- what it leaves, by the regions too
-module _ (q : Pair) (regions saved : List (List ℕ)) (m p out : List ℕ) where
+  abbrev p : List ℕ
+  p = arrival .packet
+
+  abbrev m : List ℕ
+  m = arrival .memory
+
+  -- what a decision leaves
   abbrev L : Decision → Left
-  L = leftBy q saved m p out
+  L = leftBy arrival
 
   -- the row of each answer; those that do not come have none
   abbrev Effect : Status → Left → Type 0
-  Effect status.Executed l = StoresPacket q saved m p l × (l .outgoing ≡ 0) × (l .out ≡ out)
-  Effect status.Acknowledged l = StoresPacket q saved m p l × (l .outgoing ≡ 16)
-  Effect status.ReadAccepted l = Accepts q regions saved m p out l
-  Effect status.AtomicExecuted l = Swaps q saved m p l
-  Effect status.DuplicateAnswered l = DuplicateLeaves q regions saved m p out l
-  Effect status.Dropped l = Unchanged q saved m out l
-  Effect status.Abandoned l = Abandons q saved m out l
-  Effect status.SequenceNak l = NakMarkAlone q saved m l
-  Effect status.InvalidRequestNak l = ErrorAlone q saved m l
-  Effect status.AccessNak l = ErrorAlone q saved m l
-  Effect status.NotReadyNak l = NakMarkAlone q saved m l
-  Effect status.ReadUnfinished l = Unchanged q saved m out l
+  Effect status.Executed l = StoresPacket arrival l × (l .outgoing ≡ 0) × (l .out ≡ arrival .out)
+  Effect status.Acknowledged l = StoresPacket arrival l × (l .outgoing ≡ 16)
+  Effect status.ReadAccepted l = Accepts arrival l
+  Effect status.AtomicExecuted l = Swaps arrival l
+  Effect status.DuplicateAnswered l = DuplicateLeaves arrival l
+  Effect status.Dropped l = Unchanged arrival l
+  Effect status.Abandoned l = Abandons arrival l
+  Effect status.SequenceNak l = NakMarkAlone arrival l
+  Effect status.InvalidRequestNak l = ErrorAlone arrival l
+  Effect status.AccessNak l = ErrorAlone arrival l
+  Effect status.NotReadyNak l = NakMarkAlone arrival l
+  Effect status.ReadUnfinished l = Unchanged arrival l
   Effect status.TableFull l = ⊥
-  Effect status.OutOfRange l = Unchanged q saved m out l
-  Effect status.OutputShort l = Unchanged q saved m out l
+  Effect status.OutOfRange l = Unchanged arrival l
+  Effect status.OutputShort l = Unchanged arrival l
   Effect status.WrongState l = ⊥
   Effect status.NoSuchKey l = ⊥
   Effect status.KeyInUse l = ⊥
   Effect status.BadNumber l = ⊥
 
-  unexecuted-by : (a : Status) (outgoing : ℕ) (psn : Psn) (syndrome value : ℕ) → Unexecuted saved m (L (replyOnly a outgoing psn syndrome value))
-  unfolding leftBy memoryBy savedBy actsAtomic outcomeBy
+  unexecuted-by : (a : Status) (outgoing : ℕ) (psn : Psn) (syndrome value : ℕ) → Unexecuted arrival (L (replyOnly a outgoing psn syndrome value))
+  unfolding leftBy memoryBy savedBy actsAtomic
   unexecuted-by a outgoing psn syndrome value = record { memory = refl; saved = refl; completion = silent }
 
   quiet-by : (a : Status) → Quiet a → Effect a (L (noReply a))
-  unfolding leftBy memoryBy savedBy actsAtomic outcomeBy pairBy pairByNumber statusNumber noReply outBy answerBytes over valueBy
+  unfolding leftBy memoryBy savedBy actsAtomic pairBy pairByNumber statusNumber noReply outBy answerBytes over valueBy
   quiet-by status.Dropped dropped = record { pair = refl; unexecuted = unexecuted-by status.Dropped 0 noPsn 0 0; outgoing = refl; out = refl }
   quiet-by status.OutputShort short = record { pair = refl; unexecuted = unexecuted-by status.OutputShort 0 noPsn 0 0; outgoing = refl; out = refl }
   quiet-by status.OutOfRange range = record { pair = refl; unexecuted = unexecuted-by status.OutOfRange 0 noPsn 0 0; outgoing = refl; out = refl }
@@ -133,14 +137,14 @@ module _ (q : Pair) (regions saved : List (List ℕ)) (m p out : List ℕ) where
   offset-none region address n h = rw (eq-eqb n 0 h)
 
   begun-by : (d : Decision) (old : ReadAnswer) (msn : Msn) → 0 < d .responses → d .responses ≡ pieces (d .length) (q .setup .pmtu)
-      → d .psn ≡ bthOf p .psn → Asks (q .setup .memory) regions (packetIn p) (d .at) (d .length)
-      → Begun regions (q .setup) p msn (readAnswerBy d old msn)
+      → d .psn ≡ bthOf p .psn → Asks (q .setup .memory) (arrival .whole .regions) (packetIn p) (d .at) (d .length)
+      → Begun (arrival .whole .regions) (q .setup) p msn (readAnswerBy d old msn)
   unfolding readAnswerBy
   begun-by d old msn h e n A =
       let o = operands-by (A .kind) in
       let l : d .length ≡ rethOf p .length = A .length ∙ ap (λ x. x .length) o in
-      let t : d .at ≡ memoryOffset (regionOf (rethOf p .key) regions) (rethOf p .address) (rethOf p .length) =
-      A .at ∙ ap (λ x. memoryOffset (regionOf (x .key) regions) (x .address) (x .length)) o in
+      let t : d .at ≡ memoryOffset (regionOf (rethOf p .key) (arrival .whole .regions)) (rethOf p .address) (rethOf p .length) =
+      A .at ∙ ap (λ x. memoryOffset (regionOf (x .key) (arrival .whole .regions)) (x .address) (x .length)) o in
       rw (ne-eqb (d .responses) 0 (λ z. omega arith))
       (record {
         some = h;
@@ -148,8 +152,8 @@ module _ (q : Pair) (regions saved : List (List ℕ)) (m p out : List ℕ) where
         psn = n;
         msn = refl;
         length = l;
-        offset = λ z. t ∙ offset-some (regionOf (rethOf p .key) regions) (rethOf p .address) (rethOf p .length) (omega arith);
-        empty = λ z. t ∙ offset-none (regionOf (rethOf p .key) regions) (rethOf p .address) (rethOf p .length) (omega arith);
+        offset = λ z. t ∙ offset-some (regionOf (rethOf p .key) (arrival .whole .regions)) (rethOf p .address) (rethOf p .length) (omega arith);
+        empty = λ z. t ∙ offset-none (regionOf (rethOf p .key) (arrival .whole .regions)) (rethOf p .address) (rethOf p .length) (omega arith);
         within = A .within;
       })
 
@@ -180,7 +184,7 @@ module _ (q : Pair) (regions saved : List (List ℕ)) (m p out : List ℕ) where
         value = d .value;
       }
 
-  status-of : (ackreq : Bool) (l : Left) → StoresPacket q saved m p l → l .outgoing ≡ cond ackreq 16 0 → (ackreq ≡ false → l .out ≡ out)
+  status-of : (ackreq : Bool) (l : Left) → StoresPacket arrival l → l .outgoing ≡ cond ackreq 16 0 → (ackreq ≡ false → l .out ≡ arrival .out)
       → Effect (cond ackreq status.Acknowledged status.Executed) l
   status-of true l P s o = (P, s)
   status-of false l P s o = (P, s, o refl)
@@ -194,7 +198,7 @@ module _ (q : Pair) (regions saved : List (List ℕ)) (m p out : List ℕ) where
   unfolding executedPair
   executes-by d = record { nakmark = refl; setup = refl; state = refl }
 
-  nothing-out : (d : Decision) (msn : Msn) → d .outgoing ≡ 0 → outBy (q .setup) d msn m out ≡ out
+  nothing-out : (d : Decision) (msn : Msn) → d .outgoing ≡ 0 → outBy (q .setup) d msn m (arrival .out) ≡ arrival .out
   unfolding outBy over answerBytes
   nothing-out d msn e = rw e
 
@@ -234,8 +238,8 @@ module _ (q : Pair) (regions saved : List (List ℕ)) (m p out : List ℕ) where
       → ((q .setup .service ≡ 1 → ⊥) → psnAfter (q .expected) n ≡ psnAfter (q .expected) 1)
       → (q .setup .service ≡ 1 → psnAfter (q .expected) n ≡ psnAfter (bthOf p .psn) 1)
       → targetOffset (packetIn p .kind) t entry region + payloadSize (packetIn p) ≤ q .setup .memory
-      → StoresPacket q saved m p (L (answering a n outgoing (storePayload (packetIn p) t entry region)))
-  unfolding leftBy outcomeBy storePayload executedPair readAnswerBy savedRingBy savedBy actsAtomic memoryBy ringTaken slotAt packetOf headerOf
+      → StoresPacket arrival (L (answering a n outgoing (storePayload (packetIn p) t entry region)))
+  unfolding leftBy storePayload executedPair readAnswerBy savedRingBy savedBy actsAtomic memoryBy ringTaken slotAt packetOf headerOf
   stores-packet-by a n outgoing t entry region few rc uc w =
       let k = packetIn p in
       let d = answering a n outgoing (storePayload k t entry region) in
@@ -257,7 +261,7 @@ module _ (q : Pair) (regions saved : List (List ℕ)) (m p out : List ℕ) where
   stored-by : eqb (q .setup .service) 1 ≡ false → (t : OpenMessage) (entry region : List ℕ)
       → targetOffset (packetIn p .kind) t entry region + payloadSize (packetIn p) ≤ q .setup .memory
       → Effect (cond (packetIn p .ackreq) status.Acknowledged status.Executed) (L (storePayload (packetIn p) t entry region))
-  unfolding leftBy outcomeBy storePayload
+  unfolding leftBy storePayload
   stored-by r t entry region w =
       let k = packetIn p in
       let d = storePayload k t entry region in
@@ -268,7 +272,7 @@ module _ (q : Pair) (regions saved : List (List ℕ)) (m p out : List ℕ) where
   deliver-by : eqb (q .setup .service) 1 ≡ true → (t : OpenMessage) (entry region : List ℕ)
       → targetOffset (packetIn p .kind) t entry region + payloadSize (packetIn p) ≤ q .setup .memory
       → Effect status.Executed (L (unanswered (1 + distance (bthOf p .psn .0) (q .expected .0)) (storePayload (packetIn p) t entry region)))
-  unfolding leftBy outcomeBy statusNumber
+  unfolding leftBy statusNumber
   deliver-by r t entry region w =
       let n = 1 + distance (bthOf p .psn .0) (q .expected .0) in
       let d = unanswered n (storePayload (packetIn p) t entry region) in (
@@ -283,7 +287,7 @@ module _ (q : Pair) (regions saved : List (List ℕ)) (m p out : List ℕ) where
   operand-by f k B e = ap (λ c. f (operandsOf (extensionOf (c .follows) p))) (class-is (bthOf p .opcode) k B e)
 
   word-by : (t : OpenMessage) (region : List ℕ) → memoryOffset region (t .address) (t .length) + 8 ≤ q .setup .memory
-      → OnWord q saved m p (L (runAtomic (packetIn p) t (q .message) region)) (memoryOffset region (t .address) (t .length))
+      → OnWord arrival (L (runAtomic (packetIn p) t (q .message) region)) (memoryOffset region (t .address) (t .length))
   unfolding leftBy runAtomic memoryBy savedBy actsAtomic packetOf headerOf lowClass followsOf extensionOf operandsOf
   word-by t region w =
       let k = packetIn p in
@@ -296,7 +300,7 @@ module _ (q : Pair) (regions saved : List (List ℕ)) (m p out : List ℕ) where
             ∙ (λ i. swapped m (d .at) (operand-by (λ o. o .compare) 19 swaps e i) (operand-by (λ o. o .swap) 19 swaps e i));
         saved =
             act-by
-            (λ a. cond (actsAtomic a) (savedRows saved (q .saved) (d .psn .0) (wordAt m (d .at))) saved ≡ savedRows saved (q .saved) (d .psn .0) (wordAt m (d .at)))
+            (λ a. cond (actsAtomic a) (savedRows (arrival .whole .saved) (q .saved) (d .psn .0) (wordAt m (d .at))) (arrival .whole .saved) ≡ savedRows (arrival .whole .saved) (q .saved) (d .psn .0) (wordAt m (d .at)))
             refl refl (eqb (k .kind) 20);
       }
     where
@@ -307,8 +311,8 @@ module _ (q : Pair) (regions saved : List (List ℕ)) (m p out : List ℕ) where
           (cond (eqb a 2) (fetchAdded m (d .at) (d .swap)) (cond (eqb a 3) (swapped m (d .at) (d .compare) (d .swap)) m))
 
   swap-by : (t : OpenMessage) (region : List ℕ) → memoryOffset region (t .address) (t .length) + 8 ≤ q .setup .memory
-      → Swaps q saved m p (L (runAtomic (packetIn p) t (q .message) region))
-  unfolding leftBy outcomeBy runAtomic pairBy pairByNumber statusNumber executedPair readAnswerBy msnBy entriesBy savedRingBy actsAtomic
+      → Swaps arrival (L (runAtomic (packetIn p) t (q .message) region))
+  unfolding leftBy runAtomic pairBy pairByNumber statusNumber executedPair readAnswerBy msnBy entriesBy savedRingBy actsAtomic
   swap-by t region w =
       record {
         executed = executes-by (runAtomic (packetIn p) t (q .message) region);
@@ -323,9 +327,9 @@ module _ (q : Pair) (regions saved : List (List ℕ)) (m p out : List ℕ) where
         outgoing = refl;
       }
 
-  begin-by : (at n : ℕ) → Asks (q .setup .memory) regions (packetIn p) at n → 0 < pieces n (q .setup .pmtu) → Accepts q regions saved m p out
+  begin-by : (at n : ℕ) → Asks (q .setup .memory) (arrival .whole .regions) (packetIn p) at n → 0 < pieces n (q .setup .pmtu) → Accepts arrival
       (L (beginRead status.ReadAccepted (q .message) at n (pieces n (q .setup .pmtu)) true (pieces n (q .setup .pmtu)) (bthOf p .psn)))
-  unfolding leftBy outcomeBy pairBy pairByNumber statusNumber executedPair msnBy entriesBy savedRingBy actsAtomic memoryBy savedBy outBy over answerBytes
+  unfolding leftBy pairBy pairByNumber statusNumber executedPair msnBy entriesBy savedRingBy actsAtomic memoryBy savedBy outBy over answerBytes
   begin-by at n a s =
       let k = pieces n (q .setup .pmtu) in
       let d = beginRead status.ReadAccepted (q .message) at n k true k (bthOf p .psn) in
@@ -342,8 +346,8 @@ module _ (q : Pair) (regions saved : List (List ℕ)) (m p out : List ℕ) where
         out = refl;
       }
 
-  effect : eqb (q .setup .service) 1 ≡ false → (d : Decision) → Row Quiet q regions saved (packetIn p) d → Effect (d .status) (L d)
-  unfolding leftBy outcomeBy acknowledging pairBy pairByNumber statusNumber memoryBy savedBy actsAtomic noReply storePayload runAtomic outBy over answerBytes readAnswerBy packetOf headerOf
+  effect : eqb (q .setup .service) 1 ≡ false → (d : Decision) → Row Quiet (arrival .whole) (packetIn p) d → Effect (d .status) (L d)
+  unfolding leftBy acknowledging pairBy pairByNumber statusNumber memoryBy savedBy actsAtomic noReply storePayload runAtomic outBy over answerBytes readAnswerBy packetOf headerOf
   effect c d (quiet a k) = quiet-by a k
   effect c d ahead =
       record {
@@ -410,12 +414,12 @@ module _ (q : Pair) (regions saved : List (List ℕ)) (m p out : List ℕ) where
   effect c d (swap t region w) = swap-by t region w
 
   -- and on the unreliable connection
-  abandoned : Unexecuted saved m (L (noReply status.Abandoned))
+  abandoned : Unexecuted arrival (L (noReply status.Abandoned))
   unfolding noReply
   abandoned = unexecuted-by status.Abandoned 0 noPsn 0 0
 
   uc-effect : eqb (q .setup .service) 1 ≡ true → (d : Decision) → UcRow Quiet q (packetIn p) d → Effect (d .status) (L d)
-  unfolding leftBy outcomeBy pairBy pairByNumber statusNumber noReply outBy over answerBytes packetOf headerOf
+  unfolding leftBy pairBy pairByNumber statusNumber noReply outBy over answerBytes packetOf headerOf
   uc-effect c d (unheard a k) = quiet-by a k
   uc-effect c d (abandon h) =
       record {
@@ -435,7 +439,7 @@ module _ (q : Pair) (regions saved : List (List ℕ)) (m p out : List ℕ) where
       }
   uc-effect c d (deliver t entry region w) = deliver-by c t entry region w
 
-  any-effect : (d : Decision) → AnyRow Quiet q regions saved (packetIn p) d → Effect (d .status) (L d)
+  any-effect : (d : Decision) → AnyRow Quiet (arrival .whole) (packetIn p) d → Effect (d .status) (L d)
   any-effect d (reliable c r) = effect c d r
   any-effect d (unreliable c r) = uc-effect c d r
 
@@ -443,7 +447,7 @@ module _ (q : Pair) (regions saved : List (List ℕ)) (m p out : List ℕ) where
   is : (a : Status) (l : Left) (n : ℕ) → statusNumber a ≡ n → Effect a l → Effect (statusOf n) l
   is a l n e x = subst (λ b. Effect b l) (sym (number-back a) ∙ ap statusOf e) x
 
-  over-32 : (a : Status) (l : Left) → 32 ≤ statusNumber a → Effect a l → Unchanged q saved m out l
+  over-32 : (a : Status) (l : Left) → 32 ≤ statusNumber a → Effect a l → Unchanged arrival l
   unfolding statusNumber
   over-32 status.Executed l h x = absurd (omega arith)
   over-32 status.Acknowledged l h x = absurd (omega arith)
@@ -465,7 +469,7 @@ module _ (q : Pair) (regions saved : List (List ℕ)) (m p out : List ℕ) where
   over-32 status.KeyInUse l h x = absurd x
   over-32 status.BadNumber l h x = absurd x
 
-  table : (a : Status) (l : Left) → l .number ≡ statusNumber a → Effect a l → Table q regions saved m p out l
+  table : (a : Status) (l : Left) → l .number ≡ statusNumber a → Effect a l → Table arrival l
   unfolding statusOf
   table a l e x =
       record {
@@ -480,21 +484,18 @@ module _ (q : Pair) (regions saved : List (List ℕ)) (m p out : List ℕ) where
         executes = λ h. is a l 0 (sym e ∙ h) x;
       }
     where
-      quiets : (l .number ≡ 5) ⊎ (32 ≤ l .number) → Unchanged q saved m out l
+      quiets : (l .number ≡ 5) ⊎ (32 ≤ l .number) → Unchanged arrival l
       quiets (inl h) = is a l 5 (sym e ∙ h) x
       quiets (inr h) = over-32 a l (subst (λ n. 32 ≤ n) e h) x
 
-      nakmark : (l .number ≡ 16) ⊎ (l .number ≡ 19) → NakMarkAlone q saved m l
+      nakmark : (l .number ≡ 16) ⊎ (l .number ≡ 19) → NakMarkAlone arrival l
       nakmark (inl h) = is a l 16 (sym e ∙ h) x
       nakmark (inr h) = is a l 19 (sym e ∙ h) x
 
-      err : (l .number ≡ 17) ⊎ (l .number ≡ 18) → ErrorAlone q saved m l
+      err : (l .number ≡ 17) ⊎ (l .number ≡ 18) → ErrorAlone arrival l
       err (inl h) = is a l 17 (sym e ∙ h) x
       err (inr h) = is a l 18 (sym e ∙ h) x
 
 pub inbound-table : InboundTable
-unfolding inbound inboundMemory inboundSaved inboundOut decision leftBy outcomeBy
-inbound-table q regions entries saved m p out =
-    let d = decided q regions entries saved (length m) p (length out) in
-    table q regions saved m p out (d .status) (leftBy q saved m p out d) refl
-    (any-effect q regions saved m p out d (decided-row q regions entries saved (length m) p (length out)))
+unfolding inbound leftBy
+inbound-table a = let d = decision a in table a (d .status) (leftBy a d) refl (any-effect a d (decided-row a))

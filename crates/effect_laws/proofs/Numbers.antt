@@ -6,6 +6,7 @@ use mathlib.Core.List.{List, [], _∷_}
 use mathlib.Core.Logic.{inl, inr}
 use lib.ListN.{length}
 use borrow.Author.Tests.{eqb-true, eqb-false}
+use Rattle.pair.specs.Calls.{Whole}
 use Rattle.request_spec.specs.Packet.{packetIn}
 use Rattle.pair.specs.Answer.{statusNumber}
 use Rattle.pair.specs.declared.Pair.{Pair}
@@ -13,8 +14,8 @@ use Rattle.pair.specs.declared.Status.{Status}
 use Rattle.pair.specs.declared.Status.the-variants as status
 use Rattle.request_spec.specs.declared.Packet.{Packet}
 use Rattle.responder_spec.specs.declared.Decision.{Decision}
-use Rattle.responder_spec.specs.Decide.{noReply, acknowledging, storePayload, runAtomic, decided}
-use Rattle.responder_spec.specs.Inbound.{outcomeBy, decision, inbound}
+use Rattle.responder_spec.specs.Decide.{noReply, acknowledging, storePayload, runAtomic, decision}
+use Rattle.responder_spec.specs.Inbound.{leftBy, inbound}
 use Rattle.effect_laws.specs.Effects.{InboundNumbers, UcNumbers}
 use Rattle.lemmas.specs.OneOf.{OneOf}
 use Rattle.decision_laws.proofs.Rows.Quiet.{dropped, short, range, unfinished}
@@ -42,8 +43,8 @@ unfolding statusNumber
 stored-numbers true = inr (inl refl)
 stored-numbers false = inl refl
 
-module _ (q : Pair) (regions saved : List (List ℕ)) (k : Packet) where
-  rc-numbers : (d : Decision) → Row Quiet q regions saved k d → Rc (statusNumber (d .status))
+module _ (w : Whole) (k : Packet) where
+  rc-numbers : (d : Decision) → Row Quiet w k d → Rc (statusNumber (d .status))
   unfolding statusNumber noReply acknowledging storePayload runAtomic
   rc-numbers d (quiet a z) = quiet-numbers a z .0
   rc-numbers d ahead = inr (inr (inr (inr (inr (inr (inl refl))))))
@@ -57,25 +58,25 @@ module _ (q : Pair) (regions saved : List (List ℕ)) (k : Packet) where
   rc-numbers d (begin at n a s) = inr (inr (inl refl))
   rc-numbers d (swap t region w) = inr (inr (inr (inl refl)))
 
-  uc-numbers : (d : Decision) → UcRow Quiet q k d → Uc (statusNumber (d .status))
+  uc-numbers : (d : Decision) → UcRow Quiet (w .pair) k d → Uc (statusNumber (d .status))
   unfolding statusNumber noReply
   uc-numbers d (unheard a z) = quiet-numbers a z .1
   uc-numbers d (abandon h) = inr (inr (inl refl))
   uc-numbers d (deliver t entry region w) = inl refl
 
-  any-numbers : (d : Decision) → AnyRow Quiet q regions saved k d
-      → ((q .setup .service ≡ 1 → ⊥) → Rc (statusNumber (d .status))) × (q .setup .service ≡ 1 → Uc (statusNumber (d .status)))
-  any-numbers d (reliable c r) = (λ h. rc-numbers d r, λ h. absurd (eqb-false (q .setup .service) 1 c h))
-  any-numbers d (unreliable c r) = (λ h. absurd (h (eqb-true (q .setup .service) 1 c)), λ h. uc-numbers d r)
+  any-numbers : (d : Decision) → AnyRow Quiet w k d
+      → ((w .pair .setup .service ≡ 1 → ⊥) → Rc (statusNumber (d .status))) × (w .pair .setup .service ≡ 1 → Uc (statusNumber (d .status)))
+  any-numbers d (reliable c r) = (λ h. rc-numbers d r, λ h. absurd (eqb-false (w .pair .setup .service) 1 c h))
+  any-numbers d (unreliable c r) = (λ h. absurd (h (eqb-true (w .pair .setup .service) 1 c)), λ h. uc-numbers d r)
 
 pub inbound-numbers : InboundNumbers
-unfolding inbound decision outcomeBy
-inbound-numbers q regions entries saved m p out =
-    let d = decided q regions entries saved (length m) p (length out) in
-    any-numbers q regions saved (packetIn p) d (decided-row q regions entries saved (length m) p (length out)) .0
+unfolding inbound leftBy decision
+inbound-numbers a =
+    let d = decision a in
+    any-numbers (a .whole) (packetIn (a .packet)) d (decided-row a) .0
 
 pub uc-answers : UcNumbers
-unfolding inbound decision outcomeBy
-uc-answers q regions entries saved m p out =
-    let d = decided q regions entries saved (length m) p (length out) in
-    any-numbers q regions saved (packetIn p) d (decided-row q regions entries saved (length m) p (length out)) .1
+unfolding inbound leftBy decision
+uc-answers a =
+    let d = decision a in
+    any-numbers (a .whole) (packetIn (a .packet)) d (decided-row a) .1

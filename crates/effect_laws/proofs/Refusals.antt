@@ -8,6 +8,9 @@ use native.Mathlib.Omega.{arith}
 use lib.Dec.{eqb, ltb}
 use lib.ListN.{length}
 use borrow.Author.Tests.{lt-ltb, le-ltb, eq-eqb, ne-eqb, ltb-true, ltb-false, eqb-true, eqb-false}
+use Rattle.pair.specs.Calls.{Whole}
+use Rattle.responder_spec.specs.Arrival.{Arrival}
+use Rattle.responder_spec.specs.Decide.{refusalOf}
 use Rattle.request_spec.specs.Packet.{packetIn}
 use Rattle.pair.specs.Answer.{statusNumber, executed}
 use Rattle.pair.specs.Sound.{pairUnsound}
@@ -19,10 +22,10 @@ use Rattle.pair.proofs.Known.{unsound, sound}
 use Rattle.pair.proofs.Tests.{tested}
 use Rattle.request_spec.specs.declared.Packet.{Packet}
 use Rattle.responder_spec.specs.declared.Decision.{Decision}
-use Rattle.responder_spec.specs.Decide.{noReply, acknowledging, storePayload, runAtomic, readsFull, inboundRefusal, decided}
+use Rattle.responder_spec.specs.Decide.{noReply, acknowledging, storePayload, runAtomic, readsFull, inboundRefusal, decision}
 use Rattle.responder_spec.specs.Reply.{over}
 use Rattle.responder_spec.specs.Response.{nextStatus, nextResponse, nextOut}
-use Rattle.responder_spec.specs.Inbound.{outcomeBy, decision, inbound}
+use Rattle.responder_spec.specs.Inbound.{leftBy, inbound}
 use Rattle.effect_laws.specs.Effects.{InboundShort, InboundRange, InboundUnfinished, InboundTaken}
 use Rattle.effect_laws.specs.Effects.{InboundAnswered, InboundMeant, NextRefused, NextNone, NextShort}
 use Rattle.effect_laws.specs.Effects.{NextRange, NextDone, NextAnswers}
@@ -36,11 +39,11 @@ use Rattle.decision_laws.proofs.Codes.{never-34}
 use Rattle.effect_laws.proofs.Effects.{silent}
 
 -- a refusal is the answer
-refused : (q : Pair) (regions entries saved : List (List ℕ)) (m p out : List ℕ) (a : Status)
-    → inboundRefusal q (length m) (length out) ≡ a → executed a ≡ false
-    → statusNumber (inbound q regions entries saved m p out .status) ≡ statusNumber a
-unfolding inbound outcomeBy decision decided noReply
-refused q regions entries saved m p out a e n = rw (e, n)
+refused : (arrival : Arrival) (a : Status)
+    → refusalOf arrival ≡ a → executed a ≡ false
+    → inbound arrival .number ≡ statusNumber a
+unfolding inbound leftBy decision noReply
+refused arrival a e n = rw (e, n)
 
 -- both ways to 34
 range-either : (memory : ℕ) (q : Pair) → (memory ≡ q .setup .memory → ⊥) ⊎ (Sound q → ⊥) → (s : Status)
@@ -54,40 +57,40 @@ range-either memory q (inr h) s = rw (unsound q h) (go (eqb memory (q .setup .me
 
 pub inbound-short : InboundShort
 unfolding inboundRefusal executed statusNumber
-inbound-short q regions entries saved m p out h =
-    refused q regions entries saved m p out status.OutputShort (rw (lt-ltb (length out) 24 h)) refl
+inbound-short a h =
+    refused a status.OutputShort (rw (lt-ltb (length (a .out)) 24 h)) refl
 
 pub inbound-range : InboundRange
 unfolding inboundRefusal executed statusNumber
-inbound-range q regions entries saved m p out h k =
-    refused q regions entries saved m p out status.OutOfRange
-    (rw (le-ltb (length out) 24 h) (range-either (length m) q k (cond (readsFull q) status.ReadUnfinished status.Executed))) refl
+inbound-range a h k =
+    refused a status.OutOfRange
+    (rw (le-ltb (length (a .out)) 24 h) (range-either (length (a .memory)) (a .whole .pair) k (cond (readsFull (a .whole .pair)) status.ReadUnfinished status.Executed))) refl
 
 pub inbound-unfinished : InboundUnfinished
 unfolding inboundRefusal executed statusNumber readsFull
-inbound-unfinished q regions entries saved m p out h e S r =
-    refused q regions entries saved m p out status.ReadUnfinished
-    (rw (le-ltb (length out) 24 h, eq-eqb (length m) (q .setup .memory) e, sound q S, ne-eqb (q .read .remaining) 0 r)) refl
+inbound-unfinished a h e S r =
+    refused a status.ReadUnfinished
+    (rw (le-ltb (length (a .out)) 24 h, eq-eqb (length (a .memory)) (a .whole .pair .setup .memory) e, sound (a .whole .pair) S, ne-eqb (a .whole .pair .read .remaining) 0 r)) refl
 
 -- the answer of a packet that is looked at: a quiet one, or one up to 19
 late : (Q T : Status → Type 0) → ((a : Status) → Q a → T a) → ((a : Status) → statusNumber a ≤ 19 → T a)
-    → (q : Pair) (regions saved : List (List ℕ)) (k : Packet) (d : Decision) → Row Q q regions saved k d → T (d .status)
+    → (arrived : Whole) (k : Packet) (d : Decision) → Row Q arrived k d → T (d .status)
 unfolding statusNumber noReply acknowledging storePayload runAtomic
-late Q T f g q regions saved k d (quiet a x) = f a x
-late Q T f g q regions saved k d ahead = g status.SequenceNak (omega arith)
-late Q T f g q regions saved k d invalid = g status.InvalidRequestNak (omega arith)
-late Q T f g q regions saved k d access = g status.AccessNak (omega arith)
-late Q T f g q regions saved k d unready = g status.NotReadyNak (omega arith)
-late Q T f g q regions saved k d ackDuplicate = g status.DuplicateAnswered (omega arith)
-late Q T f g q regions saved k d (readDuplicate at n a s) = g status.DuplicateAnswered (omega arith)
-late Q T f g q regions saved k d (atomicDuplicate v e) = g status.DuplicateAnswered (omega arith)
-late Q T f g q regions saved k d (stored t entry region w) = go (k .ackreq)
+late Q T f g arrived k d (quiet a x) = f a x
+late Q T f g arrived k d ahead = g status.SequenceNak (omega arith)
+late Q T f g arrived k d invalid = g status.InvalidRequestNak (omega arith)
+late Q T f g arrived k d access = g status.AccessNak (omega arith)
+late Q T f g arrived k d unready = g status.NotReadyNak (omega arith)
+late Q T f g arrived k d ackDuplicate = g status.DuplicateAnswered (omega arith)
+late Q T f g arrived k d (readDuplicate at n a s) = g status.DuplicateAnswered (omega arith)
+late Q T f g arrived k d (atomicDuplicate v e) = g status.DuplicateAnswered (omega arith)
+late Q T f g arrived k d (stored t entry region w) = go (k .ackreq)
   where
     go : (b : Bool) → T (cond b status.Acknowledged status.Executed)
     go true = g status.Acknowledged (omega arith)
     go false = g status.Executed (omega arith)
-late Q T f g q regions saved k d (begin at n a s) = g status.ReadAccepted (omega arith)
-late Q T f g q regions saved k d (swap t region w) = g status.AtomicExecuted (omega arith)
+late Q T f g arrived k d (begin at n a s) = g status.ReadAccepted (omega arith)
+late Q T f g arrived k d (swap t region w) = g status.AtomicExecuted (omega arith)
 
 uc-late : (Q T : Status → Type 0) → ((a : Status) → Q a → T a) → ((a : Status) → statusNumber a ≤ 19 → T a)
     → (q : Pair) (k : Packet) (d : Decision) → UcRow Q q k d → T (d .status)
@@ -97,9 +100,9 @@ uc-late Q T f g q k d (abandon h) = g status.Abandoned (omega arith)
 uc-late Q T f g q k d (deliver t entry region w) = g status.Executed (omega arith)
 
 any-late : (Q T : Status → Type 0) → ((a : Status) → Q a → T a) → ((a : Status) → statusNumber a ≤ 19 → T a)
-    → (q : Pair) (regions saved : List (List ℕ)) (k : Packet) (d : Decision) → AnyRow Q q regions saved k d → T (d .status)
-any-late Q T f g q regions saved k d (reliable e r) = late Q T f g q regions saved k d r
-any-late Q T f g q regions saved k d (unreliable e r) = uc-late Q T f g q k d r
+    → (arrived : Whole) (k : Packet) (d : Decision) → AnyRow Q arrived k d → T (d .status)
+any-late Q T f g arrived k d (reliable e r) = late Q T f g arrived k d r
+any-late Q T f g arrived k d (unreliable e r) = uc-late Q T f g (arrived .pair) k d r
 
 goes : (q : Pair) (m out : List ℕ) → 24 ≤ length out → length m ≡ q .setup .memory → Sound q → q .read .remaining ≡ 0
     → executed (inboundRefusal q (length m) (length out)) ≡ true
@@ -113,11 +116,11 @@ late-number a unread = inl (omega arith)
 late-number a outside = inr refl
 
 pub inbound-taken : InboundTaken
-unfolding inbound outcomeBy decision
-inbound-taken q regions entries saved m p out h e S r =
-    any-late Late (λ a. (statusNumber a ≤ 19) ⊎ (statusNumber a ≡ 34)) late-number (λ a z. inl z) q regions saved (packetIn p)
-    (decided q regions entries saved (length m) p (length out))
-    (taken-row Late unread q regions entries saved (length m) p (length out) (record { rc = λ region z. outside; uc = λ region z. outside }) (goes q m out h e S r))
+unfolding inbound leftBy decision
+inbound-taken arrival h e S r =
+    any-late Late (λ a. (statusNumber a ≤ 19) ⊎ (statusNumber a ≡ 34)) late-number (λ a z. inl z) (arrival .whole) (packetIn (arrival .packet))
+    (decision arrival)
+    (taken-row Late unread arrival (record { rc = λ region z. outside; uc = λ region z. outside }) (goes (arrival .whole .pair) (arrival .memory) (arrival .out) h e S r))
 
 data Unread : Status → Type 0 where
   away : Unread status.Dropped
@@ -127,41 +130,41 @@ unfolding statusNumber
 unread-number a away = omega arith
 
 pub inbound-answered : InboundAnswered
-unfolding inbound outcomeBy decision
-inbound-answered q regions entries saved m p out h e S r E =
-    any-late Unread (λ a. statusNumber a ≤ 19) unread-number (λ a z. z) q regions saved (packetIn p) (decided q regions entries saved (length m) p (length out))
-    (taken-row Unread away q regions entries saved (length m) p (length out) (record {
-      rc = λ region z. absurd (never-34 q entries (packetIn p) region S E z);
+unfolding inbound leftBy decision
+inbound-answered arrival h e S r E =
+    any-late Unread (λ a. statusNumber a ≤ 19) unread-number (λ a z. z) (arrival .whole) (packetIn (arrival .packet)) (decision arrival)
+    (taken-row Unread away arrival (record {
+      rc = λ region z. absurd (never-34 (arrival .whole .pair) (arrival .whole .entries) (packetIn (arrival .packet)) region S E z);
       uc =
           λ region z. absurd
-          (never-34 (viewed (packetIn p .place) q) entries (packetIn p) region (viewed-sound (packetIn p .place) q S)
+          (never-34 (viewed (packetIn (arrival .packet) .place) (arrival .whole .pair)) (arrival .whole .entries) (packetIn (arrival .packet)) region (viewed-sound (packetIn (arrival .packet) .place) (arrival .whole .pair) S)
           (record { rows16 = E .rows16; each = E .each }) z);
     })
-    (goes q m out h e S r))
+    (goes (arrival .whole .pair) (arrival .memory) (arrival .out) h e S r))
 
 -- the other way round: what was not refused
 pub inbound-meant : InboundMeant
-inbound-meant q regions entries saved m p out h = go (ltb (length out) 24) (eqb (length m) (q .setup .memory)) (pairUnsound q) (eqb (q .read .remaining) 0) refl refl refl refl
+inbound-meant arrival h = go (ltb (length (arrival .out)) 24) (eqb (length (arrival .memory)) (arrival .whole .pair .setup .memory)) (pairUnsound (arrival .whole .pair)) (eqb (arrival .whole .pair .read .remaining) 0) refl refl refl refl
   where
     N : ℕ
-    N = statusNumber (inbound q regions entries saved m p out .status)
+    N = inbound arrival .number
 
     no : {A : Type 0} (k : ℕ) → N ≡ k → 32 ≤ k → A
     no k e l = absurd (omega (arith, h))
 
-    go : (a b c d : Bool) → ltb (length out) 24 ≡ a → eqb (length m) (q .setup .memory) ≡ b → pairUnsound q ≡ c → eqb (q .read .remaining) 0 ≡ d
-        → (24 ≤ length out) × (length m ≡ q .setup .memory) × Sound q × (q .read .remaining ≡ 0)
-    go true b c d w x y z = no 35 (inbound-short q regions entries saved m p out (ltb-true (length out) 24 w)) (omega arith)
+    go : (a b c d : Bool) → ltb (length (arrival .out)) 24 ≡ a → eqb (length (arrival .memory)) (arrival .whole .pair .setup .memory) ≡ b → pairUnsound (arrival .whole .pair) ≡ c → eqb (arrival .whole .pair .read .remaining) 0 ≡ d
+        → (24 ≤ length (arrival .out)) × (length (arrival .memory) ≡ arrival .whole .pair .setup .memory) × Sound (arrival .whole .pair) × (arrival .whole .pair .read .remaining ≡ 0)
+    go true b c d w x y z = no 35 (inbound-short arrival (ltb-true (length (arrival .out)) 24 w)) (omega arith)
     go false false c d w x y z =
-        no 34 (inbound-range q regions entries saved m p out (ltb-false (length out) 24 w) (inl (eqb-false (length m) (q .setup .memory) x))) (omega arith)
+        no 34 (inbound-range arrival (ltb-false (length (arrival .out)) 24 w) (inl (eqb-false (length (arrival .memory)) (arrival .whole .pair .setup .memory) x))) (omega arith)
     go false true true d w x y z =
-        no 34 (inbound-range q regions entries saved m p out (ltb-false (length out) 24 w) (inr (λ S. true≢false (sym y ∙ sound q S)))) (omega arith)
+        no 34 (inbound-range arrival (ltb-false (length (arrival .out)) 24 w) (inr (λ S. true≢false (sym y ∙ sound (arrival .whole .pair) S)))) (omega arith)
     go false true false false w x y z =
         no 32
-        (inbound-unfinished q regions entries saved m p out (ltb-false (length out) 24 w) (eqb-true (length m) (q .setup .memory) x) (tested q .0 y) (eqb-false (q .read .remaining) 0 z))
+        (inbound-unfinished arrival (ltb-false (length (arrival .out)) 24 w) (eqb-true (length (arrival .memory)) (arrival .whole .pair .setup .memory) x) (tested (arrival .whole .pair) .0 y) (eqb-false (arrival .whole .pair .read .remaining) 0 z))
         (omega arith)
     go false true false true w x y z =
-        (ltb-false (length out) 24 w, eqb-true (length m) (q .setup .memory) x, tested q .0 y, eqb-true (q .read .remaining) 0 z)
+        (ltb-false (length (arrival .out)) 24 w, eqb-true (length (arrival .memory)) (arrival .whole .pair .setup .memory) x, tested (arrival .whole .pair) .0 y, eqb-true (arrival .whole .pair .read .remaining) 0 z)
 
 -- next response
 module _ (q : Pair) (m out : List ℕ) where

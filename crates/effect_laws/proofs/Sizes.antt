@@ -6,6 +6,8 @@ use mathlib.Core.List.{List, []}
 use native.Mathlib.Omega.{arith}
 use lib.Dec.{eqb}
 use lib.ListN.{length, take, drop, length-append, length-drop}
+use Rattle.responder_spec.specs.Arrival.{Arrival}
+use Rattle.responder_spec.specs.Decide.{refusalOf}
 use Rattle.sequence.specs.declared.Msn.{Msn}
 use Rattle.header.specs.Write.{bthBytes, aethBytes, extensionBytes, headerBytes}
 use Rattle.memory.specs.Memory.{store}
@@ -16,10 +18,10 @@ use Rattle.pair.specs.Answer.{executed}
 use Rattle.pair.specs.declared.Setup.{Setup}
 use Rattle.pair.specs.declared.Pair.{Pair}
 use Rattle.responder_spec.specs.declared.Decision.{Decision}
-use Rattle.responder_spec.specs.Decide.{noReply, decided, inboundRefusal}
+use Rattle.responder_spec.specs.Decide.{noReply, decision}
 use Rattle.responder_spec.specs.Apply.{memoryBy}
 use Rattle.responder_spec.specs.Reply.{replyHeader, ackHeader, atomicHeader, answerBytes, valueBy, over, outBy}
-use Rattle.responder_spec.specs.Inbound.{decision, inboundMemory, inboundOut}
+use Rattle.responder_spec.specs.Inbound.{inbound, leftBy}
 use Rattle.effect_laws.specs.Effects.{InboundLengths}
 use Rattle.decision_laws.proofs.Rows.{passed}
 
@@ -50,31 +52,29 @@ answer-short s d msn value = go (eqb (d .outgoing) 16) (eqb (d .outgoing) 24)
     go false true = omega arith
     go false false = omega arith
 
-nothing : (q : Pair) (regions entries saved : List (List ℕ)) (memory : ℕ) (p : List ℕ) (room : ℕ) (msn : Msn) (value : ℕ)
-    → executed (inboundRefusal q memory room) ≡ false
-    → length (answerBytes (q .setup) (decided q regions entries saved memory p room) msn value) ≡ 0
-unfolding decided answerBytes noReply
-nothing q regions entries saved memory p room msn value e = rw e
+nothing : (a : Arrival) (msn : Msn) (value : ℕ) → executed (refusalOf a) ≡ false → length (answerBytes (a .whole .pair .setup) (decision a) msn value) ≡ 0
+unfolding decision answerBytes noReply
+nothing a msn value e = rw e
 
 -- the output has 24 bytes, or nothing is written
-out-kept : (q : Pair) (regions entries saved : List (List ℕ)) (p : List ℕ) (m out : List ℕ) (msn : Msn)
-    → length (outBy (q .setup) (decided q regions entries saved (length m) p (length out)) msn m out) ≡ length out
+out-kept : (a : Arrival) (msn : Msn)
+    → length (outBy (a .whole .pair .setup) (decision a) msn (a .memory) (a .out)) ≡ length (a .out)
 unfolding outBy
-out-kept q regions entries saved p m out msn = go (executed (inboundRefusal q (length m) (length out))) refl
+out-kept a msn = go (executed (refusalOf a)) refl
   where
     d : Decision
-    d = decided q regions entries saved (length m) p (length out)
+    d = decision a
 
-    go : (b : Bool) → executed (inboundRefusal q (length m) (length out)) ≡ b
-        → length (over (answerBytes (q .setup) d msn (valueBy d m)) out) ≡ length out
+    go : (b : Bool) → executed (refusalOf a) ≡ b
+        → length (over (answerBytes (a .whole .pair .setup) d msn (valueBy d (a .memory))) (a .out)) ≡ length (a .out)
     go true e =
-        let r : 24 ≤ length out = passed q (length m) (length out) e .0 in
-        over-kept (answerBytes (q .setup) d msn (valueBy d m)) out (omega (arith, answer-short (q .setup) d msn (valueBy d m)))
+        let r : 24 ≤ length (a .out) = passed (a .whole .pair) (length (a .memory)) (length (a .out)) e .0 in
+        over-kept (answerBytes (a .whole .pair .setup) d msn (valueBy d (a .memory))) (a .out) (omega (arith, answer-short (a .whole .pair .setup) d msn (valueBy d (a .memory))))
     go false e =
-        let z = nothing q regions entries saved (length m) p (length out) msn (valueBy d m) e in
-        over-kept (answerBytes (q .setup) d msn (valueBy d m)) out (omega (arith, z))
+        let z = nothing a msn (valueBy d (a .memory)) e in
+        over-kept (answerBytes (a .whole .pair .setup) d msn (valueBy d (a .memory))) (a .out) (omega (arith, z))
 
 pub inbound-lengths : InboundLengths
-unfolding inboundMemory inboundOut decision
-inbound-lengths q regions entries saved m p out =
-    (memory-kept (decided q regions entries saved (length m) p (length out)) m p, out-kept q regions entries saved p m out _)
+unfolding inbound leftBy decision
+inbound-lengths a =
+    (memory-kept (decision a) (a .memory) (a .packet), out-kept a _)

@@ -1,5 +1,6 @@
 pub mod Act
 pub mod Syndrome
+pub mod Arrival
 pub mod Decide
 pub mod Apply
 pub mod Reply

@@ -10,7 +10,9 @@ use Rattle.table.specs.declared.Entry.{Entry}
 use Rattle.pair.specs.Calls.HostCall.{PostEntry}
 use Rattle.pair.specs.Calls.{Whole, called}
 use Rattle.pair.specs.Claims.{Sound}
-use Rattle.responder_spec.specs.Calls.{received, drained}
+use Rattle.responder_spec.specs.Arrival.{Arrival}
+use Rattle.responder_spec.specs.Inbound.{inbound}
+use Rattle.responder_spec.specs.Calls.{drained}
 
 -- Sound but for the values that are saved, which are those found in memory: so of memory nothing is asked, and of the
 -- packet only that its PSN has 24 bits.
@@ -21,7 +23,7 @@ pub record Steady (w : Whole) : Type 0 where
   pub held : w .pair .message .kind ≡ 0 → w .pair .message .stored ≤ getD (getD (w .entries) (slotAt (w .pair .entries .head) 0) []) 2 0
 
 abbrev pub InboundSteady : Type 0
-InboundSteady = (w : Whole) (m p out : List ℕ) → bthOf p .psn .0 < 2 ^ 24 → Steady w → Steady (received w m p out)
+InboundSteady = (a : Arrival) → bthOf (a .packet) .psn .0 < 2 ^ 24 → Steady (a .whole) → Steady (inbound a .whole)
 
 abbrev pub NextSteady : Type 0
 NextSteady = (w : Whole) (m out : List ℕ) → Steady w → Steady (drained w m out)
