@@ -27,7 +27,7 @@ use Rattle.table.specs.declared.Saved.{Saved}
 use Rattle.table.specs.declared.Saved.the-variants.{Value, Nothing}
 use Rattle.pair.specs.Answer.{statusNumber, executed}
 use Rattle.pair.specs.Claims.{Sound}
-use Rattle.pair.specs.Calls.{Whole}
+use Rattle.pair.specs.Calls.{Whole, withPair}
 use Rattle.pair.specs.declared.Setup.{Setup}
 use Rattle.pair.specs.declared.OpenMessage.{OpenMessage}
 use Rattle.pair.specs.declared.Pair.{Pair}
@@ -71,7 +71,7 @@ codeBy w k =
 
 -- the same tables, and the pair as the packet finds it
 abbrev pub viewedIn : ℕ → Whole → Whole
-viewedIn place w = record { pair = viewed place (w .pair); regions = w .regions; entries = w .entries; saved = w .saved }
+viewedIn place w = withPair w (viewed place (w .pair))
 
 pub data Way (w : Whole) (k : Packet) : Decision → Type 0 where
   away : (d : Decision) → Other (statusNumber (d .status)) → Way w k d

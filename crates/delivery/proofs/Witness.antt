@@ -15,7 +15,7 @@ use Rattle.table.specs.declared.Entry.{Entry}
 use Rattle.pair.specs.Claims.{SetupFit}
 use Rattle.pair.specs.declared.Setup.{Setup}
 use Rattle.responder_spec.specs.Apply.{memoryBy}
-use Rattle.responder_spec.specs.Inbound.{inboundMemory}
+use Rattle.responder_spec.specs.Inbound.{inbound, leftBy}
 use Rattle.responder_spec.specs.Steady.{Steady}
 use Rattle.responder_spec.specs.declared.Decision.{Decision}
 use Rattle.sound_laws.proofs.Kept.{inbound-steady, next-steady, post-steady}
@@ -42,7 +42,7 @@ memory-long d m b =
     (long-either (eqb (d .act) 3) _ _ (length m) (swap-within m (d .at) (d .compare) (d .swap) .kept) refl))
 
 step-long : (S : List Slot) (x : Run) (c : Call) → length (step S x c .memory) ≡ length (x .memory)
-unfolding step inboundMemory
+unfolding step inbound leftBy
 step-long S x (Hand j out) = memory-long _ (x .memory) _
 step-long S x (Next out) = refl
 step-long S x (Post e) = refl

@@ -22,16 +22,16 @@ use Rattle.pair.specs.declared.Status.the-variants as status
 use Rattle.pair.proofs.Known.{sound}
 use Rattle.request_spec.specs.Packet.{packetOf}
 use Rattle.responder_spec.specs.Steady.{Steady}
-use Rattle.responder_spec.specs.Decide.{noReply, readsFull, inboundRefusal, orDrop, packetDecision, decided}
+use Rattle.responder_spec.specs.Decide.{noReply, readsFull, inboundRefusal, orDrop, packetDecision, decision}
 use Rattle.responder_spec.specs.Apply.{memoryBy, actsAtomic, savedBy, pairBy, with, pairByNumber}
-use Rattle.responder_spec.specs.Inbound.{decision, outcomeBy, inbound, inboundMemory, inboundSaved}
+use Rattle.responder_spec.specs.Inbound.{leftBy, inbound}
 use Rattle.responder_spec.specs.Response.{nextStatus, oneFewer, nextResponse}
-use Rattle.responder_spec.specs.Calls.{received, drained}
+use Rattle.responder_spec.specs.Calls.{drained}
 use Rattle.responder_spec.specs.declared.Decision.{Decision}
 use Rattle.delivery_spec.specs.Stream.{Message, Slot, slot, packetAt}
 use Rattle.delivery_spec.specs.Plain.{Plain, withResponses, withWaiting, deliver, plainStep}
 use Rattle.delivery_spec.specs.Plain.Call.{Hand, Next, Post}
-use Rattle.delivery_spec.specs.Demand.{Run, step, LongEnough, AllLongEnough, Handed, Posted, entryOf}
+use Rattle.delivery_spec.specs.Demand.{handing, Run, step, LongEnough, AllLongEnough, Handed, Posted, entryOf}
 use Rattle.delivery_spec.proofs.Chain.{Good}
 use Rattle.delivery_spec.proofs.Cutting.{cutPacket, admits, is-packet}
 use Rattle.delivery_spec.proofs.Rel.{Link, stepBy, eased, eases}
@@ -54,10 +54,10 @@ module _ (ms : List Message) (S : List Slot) (p : Plain) (x : Run) (L : Link ms 
   unsound-no = sound (x .whole .pair) (Y .pair)
 
   abbrev deciding : ℕ → List ℕ → Decision
-  deciding j out = decision (x .whole .pair) (x .whole .regions) (x .whole .entries) (x .whole .saved) (x .memory) (packetAt (slot S j)) out
+  deciding j out = decision (handing x (packetAt (slot S j)) out)
 
   hand-is : (j : ℕ) (out : List ℕ) → step S x (Hand j out) ≡ stepBy x (deciding j out) (packetAt (slot S j))
-  unfolding step received inbound outcomeBy inboundMemory inboundSaved
+  unfolding step inbound leftBy
   hand-is j out = refl
 
   -- a refusal changes nothing
@@ -90,17 +90,17 @@ module _ (ms : List Message) (S : List Slot) (p : Plain) (x : Run) (L : Link ms 
   -- a packet of the stream passes the header checks
   permitted : (j : ℕ) → j < length S
       → orDrop (admitted (x .whole .pair .setup .service) (x .whole .pair .setup .ours) (x .whole .pair .setup .pkey) (eqb (x .whole .pair .state) 1) (packetAt (slot S j)))
-      (λ h. packetDecision (x .whole .pair) (x .whole .regions) (x .whole .entries) (x .whole .saved) (packetOf h (length (packetAt (slot S j)))))
-      ≡ packetDecision (x .whole .pair) (x .whole .regions) (x .whole .entries) (x .whole .saved) (cutPacket (slot S j))
+      (λ h. packetDecision (x .whole) (packetOf h (length (packetAt (slot S j)))))
+      ≡ packetDecision (x .whole) (cutPacket (slot S j))
   permitted j i =
       let H = G .stands j i in
       let f = Y .pair .setup .0 in
       rw (eq-eqb (x .whole .pair .state) 1 (L .ready), admits (x .whole .pair .setup) f (slot S j) (H .outgoing))
-      (ap (packetDecision (x .whole .pair) (x .whole .regions) (x .whole .entries) (x .whole .saved)) (is-packet (x .whole .pair .setup) f (slot S j) (H .outgoing)))
+      (ap (packetDecision (x .whole)) (is-packet (x .whole .pair .setup) f (slot S j) (H .outgoing)))
 
   pub hand : x .whole .pair .setup .service ≡ 0 → (j : ℕ) (out : List ℕ) → Handed (x .whole .pair .setup) S p j out
       → Link ms S (plainStep (x .whole .pair .setup) (x .whole .regions) S p (Hand j out)) (step S x (Hand j out))
-  unfolding decision decided executed statusNumber
+  unfolding decision executed statusNumber
   hand R j out D =
       subst (λ y. Link ms S (plainStep (x .whole .pair .setup) (x .whole .regions) S p (Hand j out)) y) (sym (hand-is j out))
       (subst (λ r. Link ms S (plainStep (x .whole .pair .setup) (x .whole .regions) S p (Hand j out)) (stepBy x (by r) (packetAt (slot S j)))) (sym (refusal-is out))
@@ -110,7 +110,7 @@ module _ (ms : List Message) (S : List Slot) (p : Plain) (x : Run) (L : Link ms 
       by r =
           cond (executed r)
           (orDrop (admitted (x .whole .pair .setup .service) (x .whole .pair .setup .ours) (x .whole .pair .setup .pkey) (eqb (x .whole .pair .state) 1) (packetAt (slot S j)))
-          (λ h. packetDecision (x .whole .pair) (x .whole .regions) (x .whole .entries) (x .whole .saved) (packetOf h (length (packetAt (slot S j))))))
+          (λ h. packetDecision (x .whole) (packetOf h (length (packetAt (slot S j))))))
           (noReply r)
 
       go : (a b c : Bool) → ltb (length out) 24 ≡ a → eqb (length (p .memory)) (x .whole .pair .setup .memory) ≡ b → eqb (p .r) 0 ≡ c

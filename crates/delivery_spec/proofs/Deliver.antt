@@ -209,7 +209,7 @@ module _ (ms : List Message) (S : List Slot) (p : Plain) (x : Run) (L : Link ms 
         go (FetchAdd y n) e = late-atomic v b (ap (λ r. carrying (kindNumber r)) e) (ap (λ r. eqb (kindNumber r) 12) e) (ap (λ r. isAtomic (kindNumber r)) e) (ap isRead e)
 
     abbrev decides : Decision
-    decides = packetDecision (x .whole .pair) (x .whole .regions) (x .whole .entries) (x .whole .saved) (cutPacket t)
+    decides = packetDecision (x .whole) (cutPacket t)
 
     -- by the class of its number
     class-is : Near (numberAlong S j) (numberAlong S (p .k)) → psnClass (cutPacket t .psn .0) (x .whole .pair .expected .0) ≡ order (numberAlong S j) (numberAlong S (p .k))

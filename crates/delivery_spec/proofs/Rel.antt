@@ -13,7 +13,9 @@ use Rattle.pair.specs.declared.ReadAnswer.{ReadAnswer}
 use Rattle.cut_spec.specs.Claims.{kindNumber}
 use Rattle.cut_spec.specs.declared.Request.{Request}
 use Rattle.cut_spec.specs.declared.Request.the-variants.{Send, SendImmediate, Write, WriteImmediate, Read, CmpSwap, FetchAdd}
-use Rattle.responder_spec.specs.Apply.{pairBy, memoryBy, savedBy, with}
+use Rattle.pair.specs.Calls.{withPair}
+use Rattle.responder_spec.specs.Apply.{memoryBy, with}
+use Rattle.responder_spec.specs.Inbound.{wholeBy}
 use Rattle.responder_spec.specs.Calls.{reports}
 use Rattle.responder_spec.specs.declared.Completion.{Completion}
 use Rattle.responder_spec.specs.declared.Decision.{Decision}
@@ -68,13 +70,7 @@ pub record Link (ms : List Message) (S : List Slot) (p : Plain) (x : Run) : Type
 abbrev pub stepBy : Run → Decision → List ℕ → Run
 stepBy x d b =
     record {
-      whole =
-          record {
-            pair = pairBy (x .whole .pair) d;
-            regions = x .whole .regions;
-            entries = x .whole .entries;
-            saved = savedBy (x .whole .pair .saved) d (x .whole .saved) (x .memory);
-          };
+      whole = wholeBy (x .whole) d (x .memory);
       memory = memoryBy d (x .memory) b;
       completions = x .completions ++ reports (d .completion);
     }
@@ -83,13 +79,7 @@ stepBy x d b =
 abbrev pub eased : Run → Bool → ReadAnswer → List Completion → Run
 eased x nakmark reads completions =
     record {
-      whole =
-          record {
-            pair = with (x .whole .pair) (x .whole .pair .state) nakmark reads;
-            regions = x .whole .regions;
-            entries = x .whole .entries;
-            saved = x .whole .saved;
-          };
+      whole = withPair (x .whole) (with (x .whole .pair) (x .whole .pair .state) nakmark reads);
       memory = x .memory;
       completions = completions;
     }

@@ -14,15 +14,15 @@ use Rattle.pair.specs.Claims.{WholeSound}
 use Rattle.pair.specs.declared.Setup.{Setup}
 use Rattle.pair.specs.declared.Pair.{Pair}
 use Rattle.responder_spec.specs.Apply.{pairBy, executedPair, pairByNumber}
-use Rattle.responder_spec.specs.Inbound.{outcomeBy, inbound}
+use Rattle.responder_spec.specs.Inbound.{leftBy, inbound}
 use Rattle.responder_spec.specs.Response.{nextStatus, nextResponse}
-use Rattle.responder_spec.specs.Calls.{received, drained}
+use Rattle.responder_spec.specs.Calls.{drained}
 use Rattle.responder_spec.specs.Steady.{Steady, InboundSteady, NextSteady, PostSteady}
 use Rattle.responder_spec.specs.declared.Decision.{Decision}
 use Rattle.delivery_spec.specs.Stream.{Message, Slot, slot, stream, packetAt}
 use Rattle.delivery_spec.specs.Plain.{Plain, Call, plainStep, plain, start}
 use Rattle.delivery_spec.specs.Plain.Call.{Hand, Next, Post}
-use Rattle.delivery_spec.specs.Demand.{Run, step, run, Fresh, AllLongEnough, CallPermitted, AllCallsPermitted, waitingAt, Agree, Delivery}
+use Rattle.delivery_spec.specs.Demand.{Run, handing, step, run, Fresh, AllLongEnough, CallPermitted, AllCallsPermitted, waitingAt, Agree, Delivery}
 use Rattle.delivery_spec.proofs.Chain.{Good, good, along-zero, reliable-serves}
 use Rattle.delivery_spec.proofs.Cutting.{psn-small}
 use Rattle.delivery_spec.proofs.Rel.{Link, OpenedFor}
@@ -44,13 +44,13 @@ number-setup q d n =
     (either (eqb n 16 || eqb n 19) (record { is = refl }) (either (eqb n 17 || eqb n 18) (record { is = refl }) (either (eqb n 6) (record { is = refl }) (record { is = refl })))))
 
 pub setup-kept : (S : List Slot) (x : Run) (c : Call) → Same (x .whole .pair .setup) (step S x c .whole .pair)
-unfolding step received inbound outcomeBy pairBy drained nextResponse called posted
+unfolding step inbound leftBy pairBy drained nextResponse called posted
 setup-kept S x (Hand j out) = number-setup (x .whole .pair) _ _
 setup-kept S x (Next out) = either (executed (nextStatus (x .whole .pair) (length (x .memory)) (length out))) (record { is = refl }) (record { is = refl })
 setup-kept S x (Post e) = either (executed (postStatus (x .whole .pair) e)) (record { is = refl }) (record { is = refl })
 
 pub regions-kept : (S : List Slot) (x : Run) (c : Call) → step S x c .whole .regions ≡ x .whole .regions
-unfolding step received drained called
+unfolding step inbound leftBy drained called
 regions-kept S x (Hand j out) = refl
 regions-kept S x (Next out) = refl
 regions-kept S x (Post e) = refl
@@ -63,7 +63,7 @@ module _ (inbound-steady : InboundSteady) (next-steady : NextSteady) (post-stead
       → Steady (step S x c .whole)
   unfolding step
   steady-next p x Y G (Hand j out) m =
-      inbound-steady (x .whole) (x .memory) (packetAt (slot S j)) out
+      inbound-steady (handing x (packetAt (slot S j)) out)
       (psn-small (x .whole .pair .setup) (Y .pair .setup .0) (slot S j) ((G .stands j (m .inside)) .outgoing)) Y
   steady-next p x Y G (Next out) m = next-steady (x .whole) (x .memory) out Y
   steady-next p x Y G (Post e) m = post-steady (x .whole) e Y

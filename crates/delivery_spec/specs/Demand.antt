@@ -5,6 +5,7 @@ use mathlib.Core.Bool.{Bool, true, false}
 use mathlib.Core.List.{List, [], _∷_, _++_, map}
 use mathlib.Core.Logic.{_⊎_}
 use lib.ListN.{length}
+use Rattle.responder_spec.specs.Arrival.{Arrival}
 use Rattle.header.specs.Check.{pkeysMatch}
 use Rattle.table.specs.EntryRow as EntryRow
 use Rattle.table.specs.Table.{regionRow}
@@ -19,9 +20,9 @@ use Rattle.pair.specs.declared.Setup.{Setup}
 use Rattle.cut_spec.specs.Claims.{InLimit, RequestWidths}
 use Rattle.cut_spec.specs.declared.Request.{Request}
 use Rattle.cut_spec.specs.declared.Request.the-variants.{Send, SendImmediate, Write, WriteImmediate, Read, CmpSwap, FetchAdd}
-use Rattle.responder_spec.specs.Inbound.{inbound, inboundMemory}
+use Rattle.responder_spec.specs.Inbound.{inbound}
 use Rattle.responder_spec.specs.Response.{nextResponse}
-use Rattle.responder_spec.specs.Calls.{received, drained, reports}
+use Rattle.responder_spec.specs.Calls.{drained, reports}
 use Rattle.responder_spec.specs.declared.Completion.{Completion}
 use Rattle.delivery_spec.specs.Stream.{Message, Slot, slot, stream, packetAt, numberAlong}
 use Rattle.delivery_spec.specs.Plain.{Plain, Call, answerRoom, plainStep, plain, start}
@@ -34,12 +35,15 @@ pub record Run : Type 0 where
   pub completions : List Completion
 
 -- the bytes p are handed in
+abbrev pub handing : Run → List ℕ → List ℕ → Arrival
+handing x p out = record { whole = x .whole; memory = x .memory; packet = p; out = out }
+
 abbrev pub taken : Run → List ℕ → List ℕ → Run
 taken x p out =
     record {
-      whole = received (x .whole) (x .memory) p out;
-      memory = inboundMemory (x .whole .pair) (x .whole .regions) (x .whole .entries) (x .whole .saved) (x .memory) p out;
-      completions = x .completions ++ reports (inbound (x .whole .pair) (x .whole .regions) (x .whole .entries) (x .whole .saved) (x .memory) p out .completion);
+      whole = inbound (handing x p out) .whole;
+      memory = inbound (handing x p out) .memory;
+      completions = x .completions ++ reports (inbound (handing x p out) .completion);
     }
 
 -- A call goes on from what the one before has left, and nothing else writes there.

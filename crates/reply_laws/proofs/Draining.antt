@@ -6,6 +6,8 @@ use mathlib.Core.Logic.{_⊎_, inl, inr}
 use native.Mathlib.Omega.{arith}
 use lib.ListN.{length, take, drop, getD}
 use lib.Seq.{take-at}
+use Rattle.responder_spec.specs.Arrival.{Left}
+use Rattle.responder_spec.specs.Inbound.{inbound}
 use Rattle.sequence.specs.Sequence.{msnNext}
 use Rattle.sequence.specs.declared.Msn.{Msn}
 use Rattle.packet.specs.Packet.{payloadOf}
@@ -15,7 +17,7 @@ use Rattle.pair.specs.Claims.{Sound, ReadSound}
 use Rattle.pair.specs.declared.Pair.{Pair}
 use Rattle.responder_spec.specs.Apply.{with}
 use Rattle.responder_spec.specs.Response.{indexOf, responseExtension, responsePayload, responseHeader, responseBytes, oneFewer, nextBytes, nextResponse, nextOut}
-use Rattle.effect_laws.specs.Effects.{Left, inboundLeft, Fixed, Begun, AnsweredOr, Table, NextDone}
+use Rattle.effect_laws.specs.Effects.{Fixed, Begun, AnsweredOr, Table, NextDone}
 use Rattle.response_laws.specs.Responses.{Answering}
 use Rattle.reply_laws.specs.Reads.{Drain, drain, flat, Drains, ReadDrained, ReadServed}
 use Rattle.decision_laws.proofs.Views.{sound-with}
@@ -144,26 +146,26 @@ read-drained q m outs A all n R =
     }
 
 pub read-served : ReadServed
-read-served q regions entries saved m p out outs h S P e n R = go h
+read-served a outs h S P e n R = go h
   where
     l : Left
-    l = inboundLeft q regions entries saved m p out
+    l = inbound a
 
-    T : Table q regions saved m p out l
-    T = inbound-table q regions entries saved m p out
+    T : Table a l
+    T = inbound-table a
 
-    serve : (number : Msn) → l .pair .setup ≡ q .setup → Begun regions (q .setup) p number (l .pair .read) → Drains (l .pair) m outs
+    serve : (number : Msn) → l .whole .pair .setup ≡ a .whole .pair .setup → Begun (a .whole .regions) (a .whole .pair .setup) (a .packet) number (l .whole .pair .read) → Drains (l .whole .pair) (a .memory) outs
     serve number s B =
-        let A : Answering (l .pair) m = record { sound = S; pkey = subst (λ x. x .pkey < 2 ^ 16) (sym s) P; some = B .some; memory = subst (λ x. length m ≡ x .memory) (sym s) e } in
-        read-drained (l .pair) m outs A (subst (λ x. l .pair .read .remaining ≡ pieces (l .pair .read .length) (x .pmtu)) (sym s) (B .all))
-        (n ∙ (ap (λ k. pieces k (q .setup .pmtu)) (sym (B .length)) ∙ sym (B .all)))
+        let A : Answering (l .whole .pair) (a .memory) = record { sound = S; pkey = subst (λ x. x .pkey < 2 ^ 16) (sym s) P; some = B .some; memory = subst (λ x. length (a .memory) ≡ x .memory) (sym s) e } in
+        read-drained (l .whole .pair) (a .memory) outs A (subst (λ x. l .whole .pair .read .remaining ≡ pieces (l .whole .pair .read .length) (x .pmtu)) (sym s) (B .all))
+        (n ∙ (ap (λ k. pieces k (a .whole .pair .setup .pmtu)) (sym (B .length)) ∙ sym (B .all)))
         (subst (λ x. (i : ℕ) → i < length outs → 16 + x .pmtu ≤ length (getD outs i [])) (sym s) R)
 
-    go : (l .number ≡ 2) ⊎ ((l .number ≡ 4) × (l .outgoing ≡ 0)) → Drains (l .pair) m outs
-    go (inl two) = serve (msnNext (q .msn)) (T .accepts two .executed .setup) (T .accepts two .begun)
+    go : (l .number ≡ 2) ⊎ ((l .number ≡ 4) × (l .outgoing ≡ 0)) → Drains (l .whole .pair) (a .memory) outs
+    go (inl two) = serve (msnNext (a .whole .pair .msn)) (T .accepts two .executed .setup) (T .accepts two .begun)
     go (inr (four, none)) = again (T .duplicates four .answer)
       where
-        again : AnsweredOr q regions p out l → Drains (l .pair) m outs
+        again : AnsweredOr a l → Drains (l .whole .pair) (a .memory) outs
         again (inl (inl x, y)) = absurd (omega arith)
         again (inl (inr x, y)) = absurd (omega arith)
-        again (inr z) = serve (q .msn) (T .duplicates four .fixed .setup) (z .2)
+        again (inr z) = serve (a .whole .pair .msn) (T .duplicates four .fixed .setup) (z .2)

@@ -8,6 +8,8 @@ use native.Mathlib.Omega.{arith}
 use lib.Dec.{eqb, leb, ltb}
 use lib.ListN.{length, take, drop, getD}
 use lib.Seq.{take-at, drop-at}
+use Rattle.responder_spec.specs.Arrival.{Arrival, Left}
+use Rattle.responder_spec.specs.Decide.{refusalOf}
 use Rattle.sequence.specs.Sequence.{psnAfter, msnNext}
 use Rattle.sequence.specs.declared.Psn.{Psn}
 use Rattle.sequence.specs.declared.Msn.{Msn}
@@ -43,8 +45,7 @@ use Rattle.pair.specs.declared.Pair.{Pair}
 use Rattle.request_spec.specs.Packet.{packetOf, packetIn}
 use Rattle.responder_spec.specs.declared.Decision.{Decision}
 use Rattle.responder_spec.specs.Apply.{actsAtomic, savedBy, msnBy, executedPair, pairByNumber, pairBy}
-use Rattle.responder_spec.specs.Inbound.{outcomeBy, decision, inbound, inboundMemory, inboundSaved, inboundOut}
-use Rattle.effect_laws.specs.Effects.{Left}
+use Rattle.responder_spec.specs.Inbound.{leftBy, inbound}
 use Rattle.reply_laws.specs.Replies.{AckSent, ValueSent, Replies, InboundReplies}
 use Rattle.decision_laws.proofs.Rows.Quiet.{dropped, short, range, unfinished}
 use Rattle.decision_laws.proofs.Rows.Late.{unread, outside}
@@ -52,8 +53,8 @@ use Rattle.decision_laws.proofs.Rows.Row.{quiet, ahead, invalid, access, unread
 use Rattle.decision_laws.proofs.Rows.UcRow.{unheard, abandon, deliver}
 use Rattle.decision_laws.proofs.Rows.AnyRow.{reliable, unreliable}
 use Rattle.decision_laws.proofs.Rows.{UcRow, AnyRow, Quiet, Late, Row, either, passed, refusal-quiet, taken-row}
-use Rattle.effect_laws.proofs.Effects.{leftBy, act-by}
-use Rattle.responder_spec.specs.Decide.{acknowledging, replyOnly, psnBefore, storePayload, runAtomic, noReply, inboundRefusal, decided}
+use Rattle.effect_laws.proofs.Effects.{act-by}
+use Rattle.responder_spec.specs.Decide.{acknowledging, replyOnly, psnBefore, storePayload, runAtomic, noReply, decision}
 use Rattle.responder_spec.specs.Reply.{replyHeader, ackHeader, atomicHeader, answerBytes, valueBy, over, outBy}
 
 -- a header alone, written into an output: it reads back, and the rest stays
@@ -174,50 +175,50 @@ msn-small q d S =
     either Fine (leb n 3) (executed-small q d S)
     (either Fine (eqb n 4) (S .msn) (either Fine (eqb n 16 || eqb n 19) (S .msn) (either Fine (eqb n 17 || eqb n 18) (S .msn) (either Fine (eqb n 6) (S .msn) (S .msn)))))
 
-module _ (q : Pair) (saved : List (List ℕ)) (m p out : List ℕ) (S : Sound q) (P : q .setup .pkey < 2 ^ 16) where
-  wide : (d : Decision) → d .psn .0 < 2 ^ 24 → d .syndrome < 2 ^ 8 → Wide (q .setup) (d .psn) (d .syndrome) (pairBy q d .msn)
+module _ (arrival : Arrival) (S : Sound (arrival .whole .pair)) (P : arrival .whole .pair .setup .pkey < 2 ^ 16) where
+  wide : (d : Decision) → d .psn .0 < 2 ^ 24 → d .syndrome < 2 ^ 8 → Wide (arrival .whole .pair .setup) (d .psn) (d .syndrome) (pairBy (arrival .whole .pair) d .msn)
   wide d x y =
-      record { pkey = P; dest = S .setup .0 .theirs; psn24 = x; byte = y; msn24 = msn-small q d S }
+      record { pkey = P; dest = S .setup .0 .theirs; psn24 = x; byte = y; msn24 = msn-small (arrival .whole .pair) d S }
 
   ack-sent : (d : Decision) → d .outgoing ≡ 16 → d .psn .0 < 2 ^ 24 → d .syndrome < 2 ^ 8
-      → AckSent q out (leftBy q saved m p out d) (d .psn) (d .syndrome)
-  unfolding leftBy outcomeBy ackHeader replyHeader
+      → AckSent arrival (leftBy arrival d) (d .psn) (d .syndrome)
+  unfolding leftBy ackHeader replyHeader
   ack-sent d e x y =
-      let O = ack-out (q .setup) d (pairBy q d .msn) m out e (wide d x y) in
+      let O = ack-out (arrival .whole .pair .setup) d (pairBy (arrival .whole .pair) d .msn) (arrival .memory) (arrival .out) e (wide d x y) in
       record { outgoing = e; packet = O .0; behind = O .1 }
 
-  value-sent : (d : Decision) (v : ℕ) → d .outgoing ≡ 24 → d .psn .0 < 2 ^ 24 → d .syndrome ≡ 31 → valueBy d m ≡ v → v < 2 ^ 64
-      → ValueSent q out (leftBy q saved m p out d) (d .psn) v
-  unfolding leftBy outcomeBy atomicHeader replyHeader
+  value-sent : (d : Decision) (v : ℕ) → d .outgoing ≡ 24 → d .psn .0 < 2 ^ 24 → d .syndrome ≡ 31 → valueBy d (arrival .memory) ≡ v → v < 2 ^ 64
+      → ValueSent arrival (leftBy arrival d) (d .psn) v
+  unfolding leftBy atomicHeader replyHeader
   value-sent d v e x y ev b =
-      let O = value-out (q .setup) d (pairBy q d .msn) m out e (wide d x (omega arith)) (subst (λ z. z < 2 ^ 64) (sym ev) b) in
-      let h : Accepted (atomicHeader (q .setup) (d .psn) (d .syndrome) (pairBy q d .msn) (valueBy d m)) ≡ Accepted (atomicHeader (q .setup) (d .psn) 31 (pairBy q d .msn) v) =
-      λ i. Accepted (atomicHeader (q .setup) (d .psn) (y i) (pairBy q d .msn) (ev i)) in
+      let O = value-out (arrival .whole .pair .setup) d (pairBy (arrival .whole .pair) d .msn) (arrival .memory) (arrival .out) e (wide d x (omega arith)) (subst (λ z. z < 2 ^ 64) (sym ev) b) in
+      let h : Accepted (atomicHeader (arrival .whole .pair .setup) (d .psn) (d .syndrome) (pairBy (arrival .whole .pair) d .msn) (valueBy d (arrival .memory))) ≡ Accepted (atomicHeader (arrival .whole .pair .setup) (d .psn) 31 (pairBy (arrival .whole .pair) d .msn) v) =
+      λ i. Accepted (atomicHeader (arrival .whole .pair .setup) (d .psn) (y i) (pairBy (arrival .whole .pair) d .msn) (ev i)) in
       record { outgoing = e; packet = O .0 ∙ h; behind = O .1 }
 
 -- what each answer sends
-module _ (q : Pair) (saved : List (List ℕ)) (m p out : List ℕ) where
+module _ (arrival : Arrival) where
   abbrev Swapped : Left → Type 0
   Swapped l =
-      (at : ℕ) × ValueSent q out l (bthOf p .psn) (wordAt m at) × (l .saved ≡ savedRows saved (q .saved) (bthOf p .psn .0) (wordAt m at))
+      (at : ℕ) × ValueSent arrival l (bthOf (arrival .packet) .psn) (wordAt (arrival .memory) at) × (l .whole .saved ≡ savedRows (arrival .whole .saved) (arrival .whole .pair .saved) (bthOf (arrival .packet) .psn .0) (wordAt (arrival .memory) at))
 
   abbrev DuplicateLeaves : Left → Type 0
   DuplicateLeaves l =
-      AckSent q out l (psnAfter (q .expected) 16777215) 31
-      ⊎ (((v : ℕ) × (newestSaved (bthOf p .psn .0) saved (q .saved) ≡ Value v) × ValueSent q out l (bthOf p .psn) v) ⊎ (l .outgoing ≡ 0))
+      AckSent arrival l (psnAfter (arrival .whole .pair .expected) 16777215) 31
+      ⊎ (((v : ℕ) × (newestSaved (bthOf (arrival .packet) .psn .0) (arrival .whole .saved) (arrival .whole .pair .saved) ≡ Value v) × ValueSent arrival l (bthOf (arrival .packet) .psn) v) ⊎ (l .outgoing ≡ 0))
 
   abbrev Reply : Status → Left → Type 0
   Reply status.Executed l = Unit {0}
-  Reply status.Acknowledged l = AckSent q out l (bthOf p .psn) 31
+  Reply status.Acknowledged l = AckSent arrival l (bthOf (arrival .packet) .psn) 31
   Reply status.ReadAccepted l = Unit {0}
   Reply status.AtomicExecuted l = Swapped l
   Reply status.DuplicateAnswered l = DuplicateLeaves l
   Reply status.Dropped l = Unit {0}
   Reply status.Abandoned l = Unit {0}
-  Reply status.SequenceNak l = AckSent q out l (q .expected) 96
-  Reply status.InvalidRequestNak l = AckSent q out l (bthOf p .psn) 97
-  Reply status.AccessNak l = AckSent q out l (bthOf p .psn) 98
-  Reply status.NotReadyNak l = AckSent q out l (bthOf p .psn) (32 + q .setup .timer)
+  Reply status.SequenceNak l = AckSent arrival l (arrival .whole .pair .expected) 96
+  Reply status.InvalidRequestNak l = AckSent arrival l (bthOf (arrival .packet) .psn) 97
+  Reply status.AccessNak l = AckSent arrival l (bthOf (arrival .packet) .psn) 98
+  Reply status.NotReadyNak l = AckSent arrival l (bthOf (arrival .packet) .psn) (32 + arrival .whole .pair .setup .timer)
   Reply status.ReadUnfinished l = Unit {0}
   Reply status.TableFull l = Unit {0}
   Reply status.OutOfRange l = Unit {0}
@@ -227,60 +228,60 @@ module _ (q : Pair) (saved : List (List ℕ)) (m p out : List ℕ) where
   Reply status.KeyInUse l = Unit {0}
   Reply status.BadNumber l = Unit {0}
 
-  module _ (S : Sound q) (P : q .setup .pkey < 2 ^ 16) (M : Bytes m) (B : Bytes p) (W : SavedSound saved (q .saved)) where
-    store-reply : (t : OpenMessage) (entry region : List ℕ) (b : Bool) → packetIn p .ackreq ≡ b
-        → Reply (cond b status.Acknowledged status.Executed) (leftBy q saved m p out (storePayload (packetIn p) t entry region))
+  module _ (S : Sound (arrival .whole .pair)) (P : arrival .whole .pair .setup .pkey < 2 ^ 16) (M : Bytes (arrival .memory)) (B : Bytes (arrival .packet)) (W : SavedSound (arrival .whole .saved) (arrival .whole .pair .saved)) where
+    store-reply : (t : OpenMessage) (entry region : List ℕ) (b : Bool) → packetIn (arrival .packet) .ackreq ≡ b
+        → Reply (cond b status.Acknowledged status.Executed) (leftBy arrival (storePayload (packetIn (arrival .packet)) t entry region))
     unfolding storePayload packetOf headerOf
     store-reply t entry region true e =
-        ack-sent q saved m p out S P (storePayload (packetIn p) t entry region) (ap (λ b. cond b 16 0) e) (psn-small p B) (omega arith)
+        ack-sent arrival S P (storePayload (packetIn (arrival .packet)) t entry region) (ap (λ b. cond b 16 0) e) (psn-small (arrival .packet) B) (omega arith)
     store-reply t entry region false e = tt
 
-    swap-reply : (t : OpenMessage) (region : List ℕ) → Swapped (leftBy q saved m p out (runAtomic (packetIn p) t (q .message) region))
+    swap-reply : (t : OpenMessage) (region : List ℕ) → Swapped (leftBy arrival (runAtomic (packetIn (arrival .packet)) t (arrival .whole .pair .message) region))
     unfolding leftBy valueBy savedBy actsAtomic runAtomic packetOf headerOf
     swap-reply t region =
-        let k = packetIn p in
-        let d = runAtomic k t (q .message) region in
-        let w = wordAt m (d .at) in (
+        let k = packetIn (arrival .packet) in
+        let d = runAtomic k t (arrival .whole .pair .message) region in
+        let w = wordAt (arrival .memory) (d .at) in (
           d .at,
-          value-sent q saved m p out S P d w refl (psn-small p B) refl (act-by (λ a. cond (actsAtomic a) w 0 ≡ w) refl refl (eqb (k .kind) 20)) (word-below m (d .at) M),
-          act-by (λ a. cond (actsAtomic a) (savedRows saved (q .saved) (d .psn .0) w) saved ≡ savedRows saved (q .saved) (d .psn .0) w) refl refl (eqb (k .kind) 20),
+          value-sent arrival S P d w refl (psn-small (arrival .packet) B) refl (act-by (λ a. cond (actsAtomic a) w 0 ≡ w) refl refl (eqb (k .kind) 20)) (word-below (arrival .memory) (d .at) M),
+          act-by (λ a. cond (actsAtomic a) (savedRows (arrival .whole .saved) (arrival .whole .pair .saved) (d .psn .0) w) (arrival .whole .saved) ≡ savedRows (arrival .whole .saved) (arrival .whole .pair .saved) (d .psn .0) w) refl refl (eqb (k .kind) 20),
         )
 
-    reply : (regions : List (List ℕ)) (d : Decision) → Row Late q regions saved (packetIn p) d → Reply (d .status) (leftBy q saved m p out d)
-    unfolding noReply acknowledging storePayload runAtomic packetOf headerOf leftBy outcomeBy psnBefore valueBy actsAtomic
-    reply regions d (quiet a unread) = tt
-    reply regions d (quiet a outside) = tt
-    reply regions d ahead = ack-sent q saved m p out S P (acknowledging status.SequenceNak (q .expected) 96) refl (S .expected) (omega arith)
-    reply regions d invalid = ack-sent q saved m p out S P (acknowledging status.InvalidRequestNak (bthOf p .psn) 97) refl (psn-small p B) (omega arith)
-    reply regions d access = ack-sent q saved m p out S P (acknowledging status.AccessNak (bthOf p .psn) 98) refl (psn-small p B) (omega arith)
-    reply regions d unready =
-        ack-sent q saved m p out S P (acknowledging status.NotReadyNak (bthOf p .psn) (32 + q .setup .timer)) refl (psn-small p B)
+    reply : (d : Decision) → Row Late (arrival .whole) (packetIn (arrival .packet)) d → Reply (d .status) (leftBy arrival d)
+    unfolding noReply acknowledging storePayload runAtomic packetOf headerOf leftBy psnBefore valueBy actsAtomic
+    reply d (quiet a unread) = tt
+    reply d (quiet a outside) = tt
+    reply d ahead = ack-sent arrival S P (acknowledging status.SequenceNak (arrival .whole .pair .expected) 96) refl (S .expected) (omega arith)
+    reply d invalid = ack-sent arrival S P (acknowledging status.InvalidRequestNak (bthOf (arrival .packet) .psn) 97) refl (psn-small (arrival .packet) B) (omega arith)
+    reply d access = ack-sent arrival S P (acknowledging status.AccessNak (bthOf (arrival .packet) .psn) 98) refl (psn-small (arrival .packet) B) (omega arith)
+    reply d unready =
+        ack-sent arrival S P (acknowledging status.NotReadyNak (bthOf (arrival .packet) .psn) (32 + arrival .whole .pair .setup .timer)) refl (psn-small (arrival .packet) B)
         (omega (arith, S .setup .0 .timer))
-    reply regions d ackDuplicate =
-        inl (ack-sent q saved m p out S P (acknowledging status.DuplicateAnswered (psnBefore (q .expected)) 31) refl (after-below (q .expected) _) (omega arith))
-    reply regions d (readDuplicate at n a s) = inr (inr refl)
-    reply regions d (atomicDuplicate v e) =
+    reply d ackDuplicate =
+        inl (ack-sent arrival S P (acknowledging status.DuplicateAnswered (psnBefore (arrival .whole .pair .expected)) 31) refl (after-below (arrival .whole .pair .expected) _) (omega arith))
+    reply d (readDuplicate at n a s) = inr (inr refl)
+    reply d (atomicDuplicate v e) =
         inr (inl (
           v,
           e,
-          value-sent q saved m p out S P (replyOnly status.DuplicateAnswered 24 (bthOf p .psn) 31 v) v refl (psn-small p B)
-              refl refl (subst Small e (saved-small (bthOf p .psn .0) saved (q .saved) W)),
+          value-sent arrival S P (replyOnly status.DuplicateAnswered 24 (bthOf (arrival .packet) .psn) 31 v) v refl (psn-small (arrival .packet) B)
+              refl refl (subst Small e (saved-small (bthOf (arrival .packet) .psn .0) (arrival .whole .saved) (arrival .whole .pair .saved) W)),
         ))
-    reply regions d (stored t entry region w) = store-reply t entry region (packetIn p .ackreq) refl
-    reply regions d (begin at n a s) = tt
-    reply regions d (swap t region w) = swap-reply t region
+    reply d (stored t entry region w) = store-reply t entry region (packetIn (arrival .packet) .ackreq) refl
+    reply d (begin at n a s) = tt
+    reply d (swap t region w) = swap-reply t region
 
     -- the unreliable connection sends nothing
-    uc-reply : (d : Decision) → UcRow Late q (packetIn p) d → Reply (d .status) (leftBy q saved m p out d)
+    uc-reply : (d : Decision) → UcRow Late (arrival .whole .pair) (packetIn (arrival .packet)) d → Reply (d .status) (leftBy arrival d)
     unfolding noReply
     uc-reply d (unheard a unread) = tt
     uc-reply d (unheard a outside) = tt
     uc-reply d (abandon h) = tt
     uc-reply d (deliver t entry region w) = tt
 
-    any-reply : (regions : List (List ℕ)) (d : Decision) → AnyRow Late q regions saved (packetIn p) d → Reply (d .status) (leftBy q saved m p out d)
-    any-reply regions d (reliable e r) = reply regions d r
-    any-reply regions d (unreliable e r) = uc-reply d r
+    any-reply : (d : Decision) → AnyRow Late (arrival .whole) (packetIn (arrival .packet)) d → Reply (d .status) (leftBy arrival d)
+    any-reply d (reliable e r) = reply d r
+    any-reply d (unreliable e r) = uc-reply d r
 
   -- refused at once, nothing is sent
   quiet-reply : (a : Status) (l : Left) → Quiet a → Reply a l
@@ -292,7 +293,7 @@ module _ (q : Pair) (saved : List (List ℕ)) (m p out : List ℕ) where
   is : (a : Status) (l : Left) (n : ℕ) → statusNumber a ≡ n → Reply a l → Reply (statusOf n) l
   is a l n e x = subst (λ b. Reply b l) (sym (number-back a) ∙ ap statusOf e) x
 
-  replies : (a : Status) (l : Left) → l .number ≡ statusNumber a → Reply a l → Replies q saved m p out l
+  replies : (a : Status) (l : Left) → l .number ≡ statusNumber a → Reply a l → Replies arrival l
   unfolding statusOf
   replies a l e x =
       record {
@@ -305,24 +306,21 @@ module _ (q : Pair) (saved : List (List ℕ)) (m p out : List ℕ) where
         unready = λ h. is a l 19 (sym e ∙ h) x;
       }
 
-refused-status : (q : Pair) (regions entries saved : List (List ℕ)) (memory : ℕ) (p : List ℕ) (room : ℕ)
-    → executed (inboundRefusal q memory room) ≡ false
-    → decided q regions entries saved memory p room .status ≡ inboundRefusal q memory room
-unfolding decided noReply
-refused-status q regions entries saved memory p room e = rw e
+refused-status : (a : Arrival) → executed (refusalOf a) ≡ false → decision a .status ≡ refusalOf a
+unfolding decision noReply
+refused-status a e = rw e
 
 pub inbound-replies : InboundReplies
-unfolding inbound inboundMemory inboundSaved inboundOut decision leftBy outcomeBy
-inbound-replies q regions entries saved m p out P M B W =
-    replies q saved m p out (d .status) (leftBy q saved m p out d) refl (go (executed (inboundRefusal q (length m) (length out))) refl)
+unfolding inbound leftBy
+inbound-replies a P M B W = replies a (d .status) (leftBy a d) refl (go (executed (refusalOf a)) refl)
   where
     d : Decision
-    d = decided q regions entries saved (length m) p (length out)
+    d = decision a
 
-    go : (b : Bool) → executed (inboundRefusal q (length m) (length out)) ≡ b → Reply q saved m p out (d .status) (leftBy q saved m p out d)
+    go : (b : Bool) → executed (refusalOf a) ≡ b → Reply a (d .status) (leftBy a d)
     go true e =
-        any-reply q saved m p out (passed q (length m) (length out) e .1) P M B W regions d
-        (taken-row Late unread q regions entries saved (length m) p (length out) (record { rc = λ region z. outside; uc = λ region z. outside }) e)
+        any-reply a (passed (a .whole .pair) (length (a .memory)) (length (a .out)) e .1) P M B W d
+        (taken-row Late unread a (record { rc = λ region z. outside; uc = λ region z. outside }) e)
     go false e =
-        subst (λ a. Reply q saved m p out a (leftBy q saved m p out d)) (sym (refused-status q regions entries saved (length m) p (length out) e))
-        (quiet-reply q saved m p out (inboundRefusal q (length m) (length out)) (leftBy q saved m p out d) (refusal-quiet q (length m) (length out) e))
+        subst (λ s. Reply a s (leftBy a d)) (sym (refused-status a e))
+        (quiet-reply a (refusalOf a) (leftBy a d) (refusal-quiet (a .whole .pair) (length (a .memory)) (length (a .out)) e))

@@ -4,6 +4,8 @@ use mathlib.Core.Path.{_≡_}
 use mathlib.Core.List.{List, [], _∷_, _++_, map}
 use mathlib.Core.Logic.{_⊎_}
 use lib.ListN.{length, take, getD}
+use Rattle.responder_spec.specs.Arrival.{Arrival}
+use Rattle.responder_spec.specs.Inbound.{inbound}
 use Rattle.header.specs.Read.{rethOf}
 use Rattle.packet.specs.Packet.{payloadOf}
 use Rattle.pmtu.specs.Pieces.{pieces}
@@ -12,7 +14,7 @@ use Rattle.pair.specs.Claims.{Sound}
 use Rattle.pair.specs.declared.Pair.{Pair}
 use Rattle.responder_spec.specs.Response.{responseBytes, nextResponse, nextOut}
 use Rattle.response_laws.specs.Responses.{Answering, asked}
-use Rattle.effect_laws.specs.Effects.{Fixed, inboundLeft}
+use Rattle.effect_laws.specs.Effects.{Fixed}
 
 -- Calls of next response with nothing between, each with an output of its own: the answers, the packets, the pair.
 pub record Drain : Type 0 where
@@ -56,12 +58,12 @@ ReadDrained =
 -- responses, from memory as it was when it was accepted. That the pair left is sound is proved on its own.
 abbrev pub ReadServed : Type 0
 ReadServed =
-    (q : Pair) (regions entries saved : List (List ℕ)) (m p out : List ℕ) (outs : List (List ℕ))
-    → (inboundLeft q regions entries saved m p out .number ≡ 2)
-    ⊎ ((inboundLeft q regions entries saved m p out .number ≡ 4) × (inboundLeft q regions entries saved m p out .outgoing ≡ 0))
-    → Sound (inboundLeft q regions entries saved m p out .pair)
-    → q .setup .pkey < 2 ^ 16
-    → length m ≡ q .setup .memory
-    → length outs ≡ pieces (rethOf p .length) (q .setup .pmtu)
-    → ((i : ℕ) → i < length outs → 16 + q .setup .pmtu ≤ length (getD outs i []))
-    → Drains (inboundLeft q regions entries saved m p out .pair) m outs
+    (a : Arrival) (outs : List (List ℕ))
+    → (inbound a .number ≡ 2)
+    ⊎ ((inbound a .number ≡ 4) × (inbound a .outgoing ≡ 0))
+    → Sound (inbound a .whole .pair)
+    → a .whole .pair .setup .pkey < 2 ^ 16
+    → length (a .memory) ≡ a .whole .pair .setup .memory
+    → length outs ≡ pieces (rethOf (a .packet) .length) (a .whole .pair .setup .pmtu)
+    → ((i : ℕ) → i < length outs → 16 + a .whole .pair .setup .pmtu ≤ length (getD outs i []))
+    → Drains (inbound a .whole .pair) (a .memory) outs

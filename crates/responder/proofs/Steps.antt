@@ -6,6 +6,8 @@ use mathlib.Core.List.{List}
 use lib.Dec.{eqb, ltb}
 use lib.ListN.{length}
 use borrow.Author.Tests.{eqb-true, eq-eqb, ne-eqb, le-ltb}
+use Rattle.responder_spec.specs.Arrival.{Arrival, leaving}
+use Rattle.responder_spec.specs.Decide.{refusalOf, checkedHeader}
 use Rattle.opcode.specs.Opcode.{placeOf, lowClass, classOf}
 use Rattle.opcode.specs.declared.OpcodeClass.{OpcodeClass}
 use Rattle.header.specs.Check.{admitted, withClass}
@@ -30,70 +32,61 @@ use Rattle.decision_laws.proofs.Codes.{Bare, class-is}
 use Rattle.decision_laws.proofs.Codes.Bare.{reads, swaps, adds}
 use Rattle.responder_spec.specs.declared.Decision.{Decision}
 use Rattle.responder_spec.specs.declared.Outcome.{Outcome}
-use Rattle.responder_spec.specs.Decide.{noReply, packetDecision, orDrop, inboundRefusal, decided}
+use Rattle.responder_spec.specs.Decide.{noReply, packetDecision, orDrop, decision}
 use Rattle.responder_spec.specs.Apply.{memoryBy, actsAtomic, savedBy, pairByNumber, pairBy}
 use Rattle.responder_spec.specs.Reply.{answerBytes, valueBy, over, outBy}
-use Rattle.responder_spec.specs.Inbound.{outcomeBy, decision, inbound, inboundMemory, inboundSaved, inboundOut}
+use Rattle.responder_spec.specs.Inbound.{Leaves, leftBy, inbound}
 use Rattle.decision_laws.proofs.Rows.Quiet.{dropped, short, range, unfinished}
 use Rattle.decision_laws.proofs.Rows.{Quiet, passed, refusal-quiet}
 use Rattle.execute.specs.Fits.{unformed}
 use Rattle.responder.specs.Unchanged.{unchanged, outcomeWith}
 
--- outcome, memory, saved atomics and output, as the promise lists them
-abbrev pub Leaves : Pair → List (List ℕ) → List (List ℕ) → List (List ℕ) → List ℕ → List ℕ → List ℕ → Outcome → List ℕ → List (List ℕ) → List ℕ → Type 0
-Leaves q regions entries saved m p out o m' saved' out' =
-    (o ≡ inbound q regions entries saved m p out)
-    × ((m' ≡ inboundMemory q regions entries saved m p out)
-    × ((saved' ≡ inboundSaved q regions entries saved m p out) × (out' ≡ inboundOut q regions entries saved m p out)))
-
 -- a decision, and what it does
-by : (q : Pair) (regions entries saved : List (List ℕ)) (m p out : List ℕ) (d : Decision) → decision q regions entries saved m p out ≡ d
-    → (o : Outcome) → o ≡ outcomeBy q d
-    → (m' : List ℕ) → m' ≡ memoryBy d m p
-    → (saved' : List (List ℕ)) → saved' ≡ savedBy (q .saved) d saved m
-    → (out' : List ℕ) → out' ≡ outBy (q .setup) d (pairBy q d .msn) m out
-    → Leaves q regions entries saved m p out o m' saved' out'
-unfolding inbound inboundMemory inboundSaved inboundOut
-by q regions entries saved m p out d e o a m' b saved' c out' f = (
-  a ∙ ap (outcomeBy q) (sym e),
-  (b ∙ ap (λ x. memoryBy x m p) (sym e), (c ∙ ap (λ x. savedBy (q .saved) x saved m) (sym e), f ∙ ap (λ x. outBy (q .setup) x (pairBy q x .msn) m out) (sym e))),
-)
+by : (a : Arrival) (d : Decision) → decision a ≡ d
+    → (o : Outcome) → o ≡ outcomeWith (pairBy (a .whole .pair) d) d
+    → (m' : List ℕ) → m' ≡ memoryBy d (a .memory) (a .packet)
+    → (saved' : List (List ℕ)) → saved' ≡ savedBy (a .whole .pair .saved) d (a .whole .saved) (a .memory)
+    → (out' : List ℕ) → out' ≡ outBy (a .whole .pair .setup) d (pairBy (a .whole .pair) d .msn) (a .memory) (a .out)
+    → Leaves a o saved' m' out'
+unfolding inbound leftBy
+by a d e o outcome m' memory saved' saved out' out =
+    (λ i. leaving a (outcome i) (saved i) (memory i) (out i)) ∙ ap (leftBy a) (sym e)
 
 -- a quiet decision changes nothing
-quiet-outcome : (q : Pair) (t : Status) → Quiet t → unchanged t q ≡ outcomeBy q (noReply t)
-unfolding outcomeBy noReply pairBy pairByNumber statusNumber
+quiet-outcome : (q : Pair) (t : Status) → Quiet t → unchanged t q ≡ outcomeWith (pairBy q (noReply t)) (noReply t)
+unfolding noReply pairBy pairByNumber statusNumber
 quiet-outcome q t dropped = refl
 quiet-outcome q t short = refl
 quiet-outcome q t range = refl
 quiet-outcome q t unfinished = refl
 
-quiet-all : (q : Pair) (regions entries saved : List (List ℕ)) (m p out : List ℕ) (t : Status) → Quiet t
-    → decision q regions entries saved m p out ≡ noReply t
-    → (o : Outcome) → o ≡ unchanged t q → Leaves q regions entries saved m p out o m saved out
+quiet-all : (arrival : Arrival) (t : Status) → Quiet t
+    → decision arrival ≡ noReply t
+    → (o : Outcome) → o ≡ unchanged t (arrival .whole .pair) → Leaves arrival o (arrival .whole .saved) (arrival .memory) (arrival .out)
 unfolding noReply memoryBy savedBy actsAtomic outBy answerBytes over
-quiet-all q regions entries saved m p out t Q e o a =
-    by q regions entries saved m p out (noReply t) e o (a ∙ quiet-outcome q t Q) m refl saved refl out refl
+quiet-all arrival t Q e o a =
+    by arrival (noReply t) e o (a ∙ quiet-outcome (arrival .whole .pair) t Q) (arrival .memory) refl (arrival .whole .saved) refl (arrival .out) refl
 
 -- refused before the packet is looked at
-pub refused : (q : Pair) (regions entries saved : List (List ℕ)) (m p out : List ℕ) (t : Status) → t ≡ inboundRefusal q (length m) (length out)
+pub refused : (arrival : Arrival) (t : Status) → t ≡ refusalOf arrival
     → (n : ℕ) → n ≡ statusNumber t → (n ≡ 0 → ⊥)
-    → (o : Outcome) → o ≡ unchanged t q → Leaves q regions entries saved m p out o m saved out
-unfolding decision decided executed
-refused q regions entries saved m p out t is n number some o a =
-    let x : eqb (statusNumber (inboundRefusal q (length m) (length out))) 0 ≡ false = ap (λ s. eqb (statusNumber s) 0) (sym is) ∙ (ap (λ k. eqb k 0) (sym number) ∙ ne-eqb n 0 some) in
-    quiet-all q regions entries saved m p out t (subst Quiet (sym is) (refusal-quiet q (length m) (length out) x)) (rw x (ap noReply (sym is))) o a
+    → (o : Outcome) → o ≡ unchanged t (arrival .whole .pair) → Leaves arrival o (arrival .whole .saved) (arrival .memory) (arrival .out)
+unfolding decision executed
+refused arrival t is n number some o a =
+    let x : eqb (statusNumber (refusalOf arrival)) 0 ≡ false = ap (λ s. eqb (statusNumber s) 0) (sym is) ∙ (ap (λ k. eqb k 0) (sym number) ∙ ne-eqb n 0 some) in
+    quiet-all arrival t (subst Quiet (sym is) (refusal-quiet (arrival .whole .pair) (length (arrival .memory)) (length (arrival .out)) x)) (rw x (ap noReply (sym is))) o a
 
 -- what holds after that
-record Willing (q : Pair) (m out : List ℕ) : Type 0 where
-  taken : executed (inboundRefusal q (length m) (length out)) ≡ true
-  room : 24 ≤ length out
-  timer : q .setup .timer ≤ timerLimit
+record Willing (a : Arrival) : Type 0 where
+  taken : executed (refusalOf a) ≡ true
+  room : 24 ≤ length (a .out)
+  timer : a .whole .pair .setup .timer ≤ timerLimit
 
-willing : (q : Pair) (m out : List ℕ) (t : Status) → t ≡ inboundRefusal q (length m) (length out) → (n : ℕ) → n ≡ statusNumber t → n ≡ 0 → Willing q m out
+willing : (a : Arrival) (t : Status) → t ≡ refusalOf a → (n : ℕ) → n ≡ statusNumber t → n ≡ 0 → Willing a
 unfolding executed
-willing q m out t is n number none =
-    let x : eqb (statusNumber (inboundRefusal q (length m) (length out))) 0 ≡ true = ap (λ s. eqb (statusNumber s) 0) (sym is) ∙ (ap (λ k. eqb k 0) (sym number) ∙ eq-eqb n 0 none) in
-    let P = passed q (length m) (length out) x in
+willing a t is n number none =
+    let x : eqb (statusNumber (refusalOf a)) 0 ≡ true = ap (λ s. eqb (statusNumber s) 0) (sym is) ∙ (ap (λ k. eqb k 0) (sym number) ∙ eq-eqb n 0 none) in
+    let P = passed (a .whole .pair) (length (a .memory)) (length (a .out)) x in
     record { taken = x; room = P .0; timer = P .1 .setup .0 .timer }
 
 -- an atomic saves the value that it answers
@@ -162,64 +155,60 @@ formed-packet : (h : Header) (n timer : ℕ) → timer ≤ timerLimit → unform
 unfolding unformed
 formed-packet h n timer t = rw (whole-packet h n, le-ltb timerLimit timer t)
 
--- the header checks of the pair
-abbrev headerBy : Pair → List ℕ → HeaderRead
-headerBy q p = admitted (q .setup .service) (q .setup .ours) (q .setup .pkey) (eqb (q .state) 1) p
-
-module _ (q : Pair) (regions entries saved : List (List ℕ)) (m p out : List ℕ) (t : Status) (is : t ≡ inboundRefusal q (length m) (length out))
+module _ (arrival : Arrival) (t : Status) (is : t ≡ refusalOf arrival)
     (n : ℕ) (number : n ≡ statusNumber t) (none : n ≡ 0) where
   -- the decision, by what the header checks found
-  decided-by : (f : HeaderRead) → headerBy q p ≡ f
-      → decision q regions entries saved m p out ≡ orDrop f (λ h. packetDecision q regions entries saved (packetOf h (length p)))
-  unfolding decision decided
+  decided-by : (f : HeaderRead) → checkedHeader arrival ≡ f
+      → decision arrival ≡ orDrop f (λ h. packetDecision (arrival .whole) (packetOf h (length (arrival .packet))))
+  unfolding decision
   decided-by f e =
       ap
-      (λ b. cond b (orDrop (headerBy q p) (λ h. packetDecision q regions entries saved (packetOf h (length p)))) (noReply (inboundRefusal q (length m) (length out))))
-      (willing q m out t is n number none .taken)
-      ∙ ap (λ x. orDrop x (λ h. packetDecision q regions entries saved (packetOf h (length p)))) e
+      (λ b. cond b (orDrop (checkedHeader arrival) (λ h. packetDecision (arrival .whole) (packetOf h (length (arrival .packet))))) (noReply (refusalOf arrival)))
+      (willing arrival t is n number none .taken)
+      ∙ ap (λ x. orDrop x (λ h. packetDecision (arrival .whole) (packetOf h (length (arrival .packet))))) e
 
   -- a header that does not pass is left at once
-  pub left-at-once : (f : Admission) → f ≡ withClass (headerBy q p) → (reason : ℕ) → f ≡ admission.Dropped reason
-      → (o : Outcome) → o ≡ unchanged status.Dropped q → Leaves q regions entries saved m p out o m saved out
+  pub left-at-once : (f : Admission) → f ≡ withClass (checkedHeader arrival) → (reason : ℕ) → f ≡ admission.Dropped reason
+      → (o : Outcome) → o ≡ unchanged status.Dropped (arrival .whole .pair) → Leaves arrival o (arrival .whole .saved) (arrival .memory) (arrival .out)
   left-at-once f e reason d o a =
-      quiet-all q regions entries saved m p out status.Dropped dropped (decided-by (read.Dropped reason) (drops (headerBy q p) reason (sym e ∙ d))) o a
+      quiet-all arrival status.Dropped dropped (decided-by (read.Dropped reason) (drops (checkedHeader arrival) reason (sym e ∙ d))) o a
 
   -- the packet of a header that passes is no fragment, and the timer code of a pair that is not refused is one
-  pub whole : (f : Admission) → f ≡ withClass (headerBy q p) → (h : Header) (class : OpcodeClass) → f ≡ admission.Admitted h class
-      → (k : Packet) → k ≡ packetBy class h (length p)
-      → (d : Decision) → d ≡ cond (unformed k (q .setup .timer)) (noReply status.OutOfRange) (packetDecision q regions entries saved k)
-      → (m' : List ℕ) → m' ≡ memoryBy d m p → (value : ℕ) → value ≡ valueBy d m
-      → (saved' : List (List ℕ)) → saved' ≡ cond (actsAtomic (d .act)) (savedRows saved (q .saved) (d .psn .0) value) saved
-      → (next : Pair) → next ≡ pairBy q d
-      → (out' : List ℕ) → out' ≡ cond (ltb (length out) 24) out (over (answerBytes (q .setup) d (next .msn) value) out)
-      → (o : Outcome) → o ≡ outcomeWith next d → Leaves q regions entries saved m p out o m' saved' out'
-  unfolding outcomeBy outBy
+  pub whole : (f : Admission) → f ≡ withClass (checkedHeader arrival) → (h : Header) (class : OpcodeClass) → f ≡ admission.Admitted h class
+      → (k : Packet) → k ≡ packetBy class h (length (arrival .packet))
+      → (d : Decision) → d ≡ cond (unformed k (arrival .whole .pair .setup .timer)) (noReply status.OutOfRange) (packetDecision (arrival .whole) k)
+      → (m' : List ℕ) → m' ≡ memoryBy d (arrival .memory) (arrival .packet) → (value : ℕ) → value ≡ valueBy d (arrival .memory)
+      → (saved' : List (List ℕ)) → saved' ≡ cond (actsAtomic (d .act)) (savedRows (arrival .whole .saved) (arrival .whole .pair .saved) (d .psn .0) value) (arrival .whole .saved)
+      → (next : Pair) → next ≡ pairBy (arrival .whole .pair) d
+      → (out' : List ℕ) → out' ≡ cond (ltb (length (arrival .out)) 24) (arrival .out) (over (answerBytes (arrival .whole .pair .setup) d (next .msn) value) (arrival .out))
+      → (o : Outcome) → o ≡ outcomeWith next d → Leaves arrival o saved' m' out'
+  unfolding leftBy outBy
   whole f e h class accepted k kept-packet d i m' a value v saved' b next j out' c o t' =
-      by q regions entries saved m p out d (sym decision-is) o (t' ∙ ap (λ x. outcomeWith x d) j) m' a saved' (b ∙ kept) out' (c ∙ outgoing)
+      by arrival d (sym decision-is) o (t' ∙ ap (λ x. outcomeWith x d) j) m' a saved' (b ∙ kept) out' (c ∙ outgoing)
     where
-      W : Willing q m out
-      W = willing q m out t is n number none
+      W : Willing arrival
+      W = willing arrival t is n number none
 
-      A : (headerBy q p ≡ read.Accepted h) × (class ≡ classOf (h .bth .opcode))
-      A = admits (headerBy q p) h class (sym e ∙ accepted)
+      A : (checkedHeader arrival ≡ read.Accepted h) × (class ≡ classOf (h .bth .opcode))
+      A = admits (checkedHeader arrival) h class (sym e ∙ accepted)
 
-      packet-is : k ≡ packetOf h (length p)
-      packet-is = class-packet h class (length p) k kept-packet (A .1)
+      packet-is : k ≡ packetOf h (length (arrival .packet))
+      packet-is = class-packet h class (length (arrival .packet)) k kept-packet (A .1)
 
-      formed : unformed (packetOf h (length p)) (q .setup .timer) ≡ false
-      formed = formed-packet h (length p) (q .setup .timer) (W .timer)
+      formed : unformed (packetOf h (length (arrival .packet))) (arrival .whole .pair .setup .timer) ≡ false
+      formed = formed-packet h (length (arrival .packet)) (arrival .whole .pair .setup .timer) (W .timer)
 
-      decision-is : d ≡ decision q regions entries saved m p out
+      decision-is : d ≡ decision arrival
       decision-is =
           i
-          ∙ (ap (λ x. cond (unformed x (q .setup .timer)) (noReply status.OutOfRange) (packetDecision q regions entries saved x)) packet-is
-          ∙ (ap (λ b. cond b (noReply status.OutOfRange) (packetDecision q regions entries saved (packetOf h (length p)))) formed
+          ∙ (ap (λ x. cond (unformed x (arrival .whole .pair .setup .timer)) (noReply status.OutOfRange) (packetDecision (arrival .whole) x)) packet-is
+          ∙ (ap (λ b. cond b (noReply status.OutOfRange) (packetDecision (arrival .whole) (packetOf h (length (arrival .packet))))) formed
           ∙ sym (decided-by (read.Accepted h) (A .0))))
 
-      kept : cond (actsAtomic (d .act)) (savedRows saved (q .saved) (d .psn .0) value) saved ≡ savedBy (q .saved) d saved m
-      kept = ap (λ x. cond (actsAtomic (d .act)) (savedRows saved (q .saved) (d .psn .0) x) saved) v ∙ saved-value (q .saved) d saved m
+      kept : cond (actsAtomic (d .act)) (savedRows (arrival .whole .saved) (arrival .whole .pair .saved) (d .psn .0) value) (arrival .whole .saved) ≡ savedBy (arrival .whole .pair .saved) d (arrival .whole .saved) (arrival .memory)
+      kept = ap (λ x. cond (actsAtomic (d .act)) (savedRows (arrival .whole .saved) (arrival .whole .pair .saved) (d .psn .0) x) (arrival .whole .saved)) v ∙ saved-value (arrival .whole .pair .saved) d (arrival .whole .saved) (arrival .memory)
 
-      outgoing : cond (ltb (length out) 24) out (over (answerBytes (q .setup) d (next .msn) value) out) ≡ over (answerBytes (q .setup) d (pairBy q d .msn) (valueBy d m)) out
+      outgoing : cond (ltb (length (arrival .out)) 24) (arrival .out) (over (answerBytes (arrival .whole .pair .setup) d (next .msn) value) (arrival .out)) ≡ over (answerBytes (arrival .whole .pair .setup) d (pairBy (arrival .whole .pair) d .msn) (valueBy d (arrival .memory))) (arrival .out)
       outgoing =
-          ap (λ x. cond x out (over (answerBytes (q .setup) d (next .msn) value) out)) (le-ltb (length out) 24 (W .room))
-          ∙ (λ x. over (answerBytes (q .setup) d (j x .msn) (v x)) out)
+          ap (λ x. cond x (arrival .out) (over (answerBytes (arrival .whole .pair .setup) d (next .msn) value) (arrival .out))) (le-ltb (length (arrival .out)) 24 (W .room))
+          ∙ (λ x. over (answerBytes (arrival .whole .pair .setup) d (j x .msn) (v x)) (arrival .out))

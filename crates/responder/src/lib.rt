@@ -10,7 +10,8 @@ use responder_spec::Decision;
 use responder_spec::Outcome;
 pub use response::next_response;
 ghost use mathlib.Core.Path.{_≡_};
-ghost use Rattle.responder_spec.specs.Inbound.{inbound, inboundMemory, inboundSaved, inboundOut};
+ghost use Rattle.responder_spec.specs.Arrival.{arriving};
+ghost use Rattle.responder_spec.specs.Inbound.{Leaves};
 ghost use Rattle.responder.specs.Unchanged.{unchanged, outcomeWith};
 
 // An answer with which nothing changes, completes or is sent.
@@ -51,10 +52,7 @@ pub fn inbound(
     packet: &[u8],
     out: &mut [u8],
 ) -> Outcome
-    ensures { λ r. ⌜ r ≡ inbound pair (now (regions .entry)) (now (entries .entry)) (now (saved .entry)) (now (mem .entry)) (now (packet .entry)) (now (out .entry)) ⌝ }
-    ensures { λ r. ⌜ now (mem .exit) ≡ inboundMemory pair (now (regions .entry)) (now (entries .entry)) (now (saved .entry)) (now (mem .entry)) (now (packet .entry)) (now (out .entry)) ⌝ }
-    ensures { λ r. ⌜ now (saved .exit) ≡ inboundSaved pair (now (regions .entry)) (now (entries .entry)) (now (saved .entry)) (now (mem .entry)) (now (packet .entry)) (now (out .entry)) ⌝ }
-    ensures { λ r. ⌜ now (out .exit) ≡ inboundOut pair (now (regions .entry)) (now (entries .entry)) (now (saved .entry)) (now (mem .entry)) (now (packet .entry)) (now (out .entry)) ⌝ }
+    ensures { λ r. ⌜ Leaves (arriving pair (now (regions .entry)) (now (entries .entry)) (now (saved .entry)) (now (mem .entry)) (now (packet .entry)) (now (out .entry))) r (now (saved .exit)) (now (mem .exit)) (now (out .exit)) ⌝ }
 {
     let refused = refuse::refusal(pair, mem.len(), out.len());
     if refused.number() != 0 {

@@ -36,7 +36,7 @@ use Rattle.responder_spec.specs.Decide.{duplicateReadFails, duplicateRead, dupl
 use Rattle.responder_spec.specs.Decide.{duplicateDecision, regionFor, headEntry, decisionByClass, rcDecision}
 use Rattle.responder_spec.specs.Decide.{orphaned, strays, closedBy, abandoning, unanswered, storePayload}
 use Rattle.responder_spec.specs.Decide.{ucExecute, ucCheckedDecision, ucDecision, packetDecision, orDrop}
-use Rattle.responder_spec.specs.Decide.{readsFull, inboundRefusal, decided}
+use Rattle.responder_spec.specs.Decide.{readsFull, inboundRefusal, decision}
 use Rattle.responder_spec.specs.Steady.{Steady}
 use Rattle.decision_laws.proofs.Checked.{Checked, checked, begins}
 use Rattle.sound_laws.proofs.Leads.{beside, Leads, branch, Does, does-leads, reply-only-leads, quiet-leads, ack-leads, duplicate-read-leads}
@@ -165,7 +165,7 @@ module _ (w : Whole) (W : Steady w) where
         (λ e. branch w (eqb (p .kind) 12) _ _ (λ f. again (eqb-true (p .kind) 12 f))
         (λ f. branch w (isAtomic (p .kind)) _ _ (λ g. atomic-leads v (p .psn)) (λ g. quiet-leads w W status.Dropped refl)))
 
-    rc-leads : Leads w (rcDecision (w .pair) (w .regions) (w .entries) (w .saved) p)
+    rc-leads : Leads w (rcDecision w p)
     unfolding rcDecision
     rc-leads = go (psnClass (p .psn .0) (w .pair .expected .0))
       where
@@ -191,7 +191,7 @@ module _ (w : Whole) (W : Steady w) where
         (λ z. branch w (eqb code 34) _ _ (λ e. quiet-leads w W status.OutOfRange refl)
         (λ e. branch w (eqb (w .pair .message .kind) 255) _ _ (λ f. quiet-leads w W status.Dropped refl) (λ f. quiet-leads w W status.Abandoned refl)))))
 
-    packet-leads : Leads w (packetDecision (w .pair) (w .regions) (w .entries) (w .saved) p)
+    packet-leads : Leads w (packetDecision w p)
     unfolding packetDecision
     packet-leads = branch w (eqb (w .pair .setup .service) 1) _ _ (λ e. uc-leads) (λ e. rc-leads)
 
@@ -209,15 +209,15 @@ module _ (w : Whole) (W : Steady w) where
       go false false false true h = refl
       go false false false false h = absurd (true≢false h)
 
-  pub decided-leads : (memory : ℕ) (p : List ℕ) (room : ℕ) → bthOf p .psn .0 < 2 ^ 24
-      → Leads w (decided (w .pair) (w .regions) (w .entries) (w .saved) memory p room)
-  unfolding decided admitted readBy packetOf headerOf statusNumber
-  decided-leads memory p room n =
-      branch w (executed (inboundRefusal (w .pair) memory room)) _ _
+  pub decided-leads : (memory p out : List ℕ) → bthOf p .psn .0 < 2 ^ 24
+      → Leads w (decision (record { whole = w; memory = memory; packet = p; out = out }))
+  unfolding decision admitted readBy packetOf headerOf statusNumber
+  decided-leads memory p out n =
+      branch w (executed (inboundRefusal (w .pair) (length memory) (length out))) _ _
       (λ e. go (eqb (headerReason (w .pair .setup .service) (w .pair .setup .ours) (w .pair .setup .pkey) (eqb (w .pair .state) 1) p) 0) _)
-      (λ e. quiet-leads w W (inboundRefusal (w .pair) memory room) (refused memory room e))
+      (λ e. quiet-leads w W (inboundRefusal (w .pair) (length memory) (length out)) (refused (length memory) (length out) e))
     where
       go : (b : Bool) (reason : ℕ)
-          → Leads w (orDrop (cond b (read.Accepted (headerOf p)) (read.Dropped reason)) (λ h. packetDecision (w .pair) (w .regions) (w .entries) (w .saved) (packetOf h (length p))))
+          → Leads w (orDrop (cond b (read.Accepted (headerOf p)) (read.Dropped reason)) (λ h. packetDecision w (packetOf h (length p))))
       go true reason = packet-leads (packetOf (headerOf p) (length p)) n (read-starts (bthOf p .opcode))
       go false reason = quiet-leads w W status.Dropped refl

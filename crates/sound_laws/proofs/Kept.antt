@@ -17,20 +17,20 @@ use Rattle.pair.specs.Answer.{executed}
 use Rattle.pair.specs.Calls.{Whole, changed, called}
 use Rattle.pair.specs.Claims.{ReadSound, WholeSound}
 use Rattle.pair.proofs.Kept.{one-more-sound, post-cases, held-kept}
-use Rattle.responder_spec.specs.Inbound.{decision, inbound, inboundSaved, outcomeBy}
+use Rattle.responder_spec.specs.Inbound.{inbound, leftBy}
 use Rattle.responder_spec.specs.declared.Decision.{Decision}
 use Rattle.responder_spec.specs.Apply.{actsAtomic, savedBy, savedRingBy, pairBy}
 use Rattle.responder_spec.specs.Response.{nextStatus, oneFewer, nextResponse}
-use Rattle.responder_spec.specs.Calls.{received, drained}
+use Rattle.responder_spec.specs.Calls.{drained}
 use Rattle.responder_spec.specs.Steady.{Steady, InboundSteady, NextSteady, PostSteady}
 use Rattle.sound_laws.specs.Kept.{InboundSound, NextSound}
 use Rattle.sound_laws.proofs.Leads.{Leads, Answering, Lasting, either, with-steady}
 use Rattle.sound_laws.proofs.Decisions.{decided-leads}
 
 pub inbound-steady : InboundSteady
-unfolding received inbound decision outcomeBy
-inbound-steady w m p out n W =
-    let L = decided-leads w W (length m) p (length out) n .steady in
+unfolding inbound leftBy
+inbound-steady a n W =
+    let L = decided-leads (a .whole) W (a .memory) (a .packet) (a .out) n .steady in
     record { pair = L .pair; regions = L .regions; entries = L .entries; held = L .held }
 
 -- one response fewer
@@ -82,11 +82,11 @@ saved-sound w d m B W L =
     go false e = W .saved
 
 pub inbound-sound : InboundSound
-unfolding received inbound inboundSaved decision outcomeBy
-inbound-sound w m p out B P W =
-    let L = decided-leads w (steady w W) (length m) p (length out) (psn-below p P) in
+unfolding inbound leftBy
+inbound-sound a B P W =
+    let L = decided-leads (a .whole) (steady (a .whole) W) (a .memory) (a .packet) (a .out) (psn-below (a .packet) P) in
     let S = L .steady in
-    record { pair = S .pair; regions = S .regions; entries = S .entries; saved = saved-sound w _ m B W L; held = S .held }
+    record { pair = S .pair; regions = S .regions; entries = S .entries; saved = saved-sound (a .whole) _ (a .memory) B W L; held = S .held }
 
 -- post entry keeps all but the saved atomics too
 pub post-steady : PostSteady

@@ -1,3 +1,4 @@
+use Rattle.responder_spec.specs.Arrival.{arriving}
 use Rattle.responder.proofs.Steps.{refused, left-at-once, whole}
 use borrow.Author.Needs.{needs}
 use Rattle.responder.proofs.inbound.Statement.{statement}
@@ -29,7 +30,7 @@ returns : tie.Need-returns
 returns c =
     let c1 = c .before in let c2 = c1 .before in let c3 = c2 .before in
     let A = c3 .before .before .before .before .args in
-    refused (A .pair) (A .regions .now) (A .entries .now) (A .saved .now) (A .mem .now) (A .packet .now) (A .out .now) (c3 .refusal .result) (c3 .refusal .ensures)
+    refused (arriving (A .pair) (A .regions .now) (A .entries .now) (A .saved .now) (A .mem .now) (A .packet .now) (A .out .now)) (c3 .refusal .result) (c3 .refusal .ensures)
     (c2 .number .result) (c2 .number .ensures) (c1 .if1 .taken) (c .unchanged .result) (c .unchanged .ensures)
 
 admit-requires : tie.Need-admit-requires
@@ -49,7 +50,7 @@ returns-2 c =
     let c1 = c .before in let c3 = c1 .before .before in let c5 = c3 .before .before in let c6 = c5 .before in
     let c7 = c6 .before in
     let A = c7 .before .before .before .before .args in
-    left-at-once (A .pair) (A .regions .now) (A .entries .now) (A .saved .now) (A .mem .now) (A .packet .now) (A .out .now) (c7 .refusal .result)
+    left-at-once (arriving (A .pair) (A .regions .now) (A .entries .now) (A .saved .now) (A .mem .now) (A .packet .now) (A .out .now)) (c7 .refusal .result)
     (c7 .refusal .ensures) (c6 .number .result) (c6 .number .ensures) (c5 .if1 .left) (c3 .admit .result) (c3 .admit .ensures) _ (c1 .enum-told .given .1)
     (c .unchanged2 .result) (c .unchanged2 .ensures)
 
@@ -87,7 +88,7 @@ returns-3 c =
     let c16 = c14 .before .before in let c18 = c16 .before .before in let c20 = c18 .before .before in
     let c21 = c20 .before in let c22 = c21 .before in
     let A = c22 .before .before .before .before .args in
-    whole (A .pair) (A .regions .now) (A .entries .now) (A .saved .now) (A .mem .now) (A .packet .now) (A .out .now)
+    whole (arriving (A .pair) (A .regions .now) (A .entries .now) (A .saved .now) (A .mem .now) (A .packet .now) (A .out .now))
     (c22 .refusal .result) (c22 .refusal .ensures) (c21 .number .result) (c21 .number .ensures) (c20 .if1 .left)
     (c18 .admit .result) (c18 .admit .ensures) _ _ (c16 .found .given .1)
     (c14 .packet-of .result) (c14 .packet-of .ensures) (c12 .decision .result) (c12 .decision .ensures)
