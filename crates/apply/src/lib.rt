@@ -42,7 +42,8 @@ pub fn change(mem: &mut [u8], packet: &[u8], d: Decision) -> u64
     d.value
 }
 
-fn acts_atomic(act: u8) -> bool
+// Whether an act is that of an atomic.
+pub fn acts_atomic(act: u8) -> bool
     ensures { λ r. ⌜ r ≡ actsAtomic act ⌝ }
 {
     if act == responder_spec::FETCH_ADD {

@@ -29,13 +29,12 @@ use Rattle.request_spec.specs.Verdict.{sizeOff, totalOff, payloadSize, lengthsO
 use Rattle.responder_spec.specs.Decide.{acknowledging, completes, completionOf, messageAfter, targetOffset}
 use Rattle.responder_spec.specs.Decide.{storePayload, execute, checkedDecision, expectedDecision, psnBefore}
 use Rattle.responder_spec.specs.Decide.{duplicateDecision, rcDecision, packetDecision, readsFull, inboundRefusal}
-use Rattle.responder_spec.specs.Decide.{decided}
+use Rattle.responder_spec.specs.Decide.{decision}
 use Rattle.responder_spec.specs.Apply.{memoryBy, actsAtomic, savedRingBy, ringTaken, entriesBy, msnBy, readAnswerBy, executedPair, pairByNumber, pairBy}
 use Rattle.responder_spec.specs.Reply.{replyHeader, ackHeader, answerBytes, over, outBy}
-use Rattle.responder_spec.specs.Inbound.{outcomeBy, decision, inbound, inboundMemory, inboundOut}
-use Rattle.responder_spec.specs.Calls.{received}
+use Rattle.responder_spec.specs.Inbound.{leftBy, inbound}
 use Rattle.cases.specs.Cases.Case.{W1, W2, W3, W4, W5, W6, W7, W8, W9, W10, W11, W12}
-use Rattle.cases.specs.Cases.{classNumber, count, next, posts, ready, standing, zeros, completionNumbers, outcomeNumbers, left, given, found, said, Cases}
+use Rattle.cases.specs.Cases.{classNumber, count, next, posts, ready, standing, zeros, completionNumbers, leftNumbers, arrives, given, once, found, said, Cases}
 
 w1 : found W1 ≡ said W1
 unfolding classAt psnClass classNumber found said
@@ -93,9 +92,9 @@ unfolding classAt psnClass opcode.placeOf kindOf placeIn sendWriteFollows follow
     needsEntry entriesWaiting noneWaiting usesEntry entryOutside keyLacking keyFails sizeOff totalOff payloadSize
     lengthsOff current requestCode expectedCode acknowledging completes completionOf messageAfter targetOffset
     storePayload execute checkedDecision expectedDecision psnBefore duplicateDecision rcDecision packetDecision
-    readsFull inboundRefusal decided memoryBy actsAtomic savedRingBy ringTaken entriesBy msnBy readAnswerBy executedPair pairByNumber
-    pairBy replyHeader ackHeader answerBytes over outBy outcomeBy decision inbound inboundMemory inboundOut received
-    posts ready standing zeros completionNumbers outcomeNumbers left given found said
+    readsFull inboundRefusal memoryBy actsAtomic savedRingBy ringTaken entriesBy msnBy readAnswerBy executedPair pairByNumber
+    pairBy replyHeader ackHeader answerBytes over outBy leftBy decision inbound
+    posts ready standing zeros completionNumbers leftNumbers arrives given once found said
 w12 = refl
 
 pub cases : Cases

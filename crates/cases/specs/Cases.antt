@@ -4,6 +4,7 @@ use mathlib.Core.Path.{_≡_}
 use mathlib.Core.Bool.{true}
 use mathlib.Core.List.{List, [], _∷_, _++_}
 use lib.ListN.{length, replicate}
+use Rattle.responder_spec.specs.Arrival.{Arrival, Left}
 use Rattle.sequence.specs.Sequence.{space, distance, psnClass}
 use Rattle.sequence.specs.declared.Psn.{Psn}
 use Rattle.sequence.specs.declared.Class.{Class}
@@ -30,10 +31,8 @@ use Rattle.cut_spec.specs.declared.Connection.{Connection}
 use Rattle.cut_spec.specs.declared.Request.the-variants.{Send, Read}
 use Rattle.cut_spec.specs.declared.Following.{Following}
 use Rattle.cut_spec.specs.declared.Following.the-variants as following
-use Rattle.responder_spec.specs.Inbound.{inbound, inboundMemory, inboundOut}
-use Rattle.responder_spec.specs.Calls.{received}
+use Rattle.responder_spec.specs.Inbound.{inbound}
 use Rattle.responder_spec.specs.declared.Completion.{Completion}
-use Rattle.responder_spec.specs.declared.Outcome.{Outcome}
 
 pub data Case : Type 0 where
   W1 W2 W3 W4 W5 W6 W7 W8 W9 W10 W11 W12 : Case
@@ -127,19 +126,20 @@ output = replicate 24 170
 unfoldable pub completionNumbers : Completion → List ℕ
 completionNumbers c = bit (c .some) ∷ c .number ∷ c .length ∷ bit (c .immediate) ∷ c .value ∷ []
 
--- an outcome: number, expected PSN, MSN, which are the replay's line; bytes sent; completion
-unfoldable pub outcomeNumbers : Outcome → List ℕ
-outcomeNumbers o =
-    statusNumber (o .status) ∷ o .pair .expected .0 ∷ o .pair .msn .0 ∷ o .outgoing ∷ completionNumbers (o .completion)
+-- what is left: number, expected PSN, MSN, which are the replay's line; bytes sent; completion
+unfoldable pub leftNumbers : Left → List ℕ
+leftNumbers l =
+    l .number ∷ l .whole .pair .expected .0 ∷ l .whole .pair .msn .0 ∷ l .outgoing ∷ completionNumbers (l .completion)
 
--- the packet given to a pair, which has this memory: the memory that it leaves; outcome, output and that memory
-unfoldable pub left : Whole → List ℕ → List ℕ
-left w m = inboundMemory (w .pair) (w .regions) (w .entries) (w .saved) m packet output
+-- the packet given to a pair, which has this memory: the numbers of what it leaves, output and memory
+unfoldable pub arrives : Whole → List ℕ → Arrival
+arrives w m = record { whole = w; memory = m; packet = packet; out = output }
 
-unfoldable pub given : Whole → List ℕ → List ℕ
-given w m =
-    outcomeNumbers (inbound (w .pair) (w .regions) (w .entries) (w .saved) m packet output)
-    ++ (inboundOut (w .pair) (w .regions) (w .entries) (w .saved) m packet output ++ left w m)
+unfoldable pub given : Left → List ℕ
+given l = leftNumbers l ++ (l .out ++ l .memory)
+
+unfoldable pub once : Left
+once = inbound (arrives ready zeros)
 
 -- What the definitions give.
 unfoldable pub found : Case → List ℕ
@@ -164,7 +164,7 @@ found W11 = bit (pkeysMatch 32767 65535) ∷ bit (pkeysMatch 65535 32767) ∷ bi
 -- abc cut as a SEND of PSN 7; the pair; the packet given to it, and given to what that left
 found W12 =
     cutBytes link Send abc (at 7) 0
-    ++ (standing ready ++ (given ready zeros ++ given (received ready zeros packet output) (left ready zeros)))
+    ++ (standing ready ++ (given once ++ given (inbound (arrives (once .whole) (once .memory)))))
 
 -- What the rules say.
 unfoldable pub said : Case → List ℕ

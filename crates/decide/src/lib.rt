@@ -39,7 +39,7 @@ pub fn decision(
     saved: &[[u64; 2]; 16],
     p: Packet,
 ) -> Decision
-    ensures { λ r. ⌜ r ≡ cond (unformed p (pair .setup .timer)) (noReply Status.OutOfRange) (packetDecision pair (now (regions .entry)) (now (entries .entry)) (now (saved .entry)) p) ⌝ }
+    ensures { λ r. ⌜ r ≡ cond (unformed p (pair .setup .timer)) (noReply Status.OutOfRange) (packetDecision (record { pair = pair; regions = now (regions .entry); entries = now (entries .entry); saved = now (saved .entry) }) p) ⌝ }
 {
     let none = execute::unformed(p, pair.setup.timer);
     let uc = unreliable(pair.setup.service);

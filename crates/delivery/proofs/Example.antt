@@ -18,10 +18,10 @@ use Rattle.pmtu.specs.Pieces.{pmtuFits, pieces}
 use Rattle.header.specs.Read.{otherService}
 use Rattle.cut_spec.specs.Message.{carries, carriedLength, messageLength, packetsOf}
 use Rattle.cut_spec.specs.Next.{psnsOf, nextPsn}
-use Rattle.delivery.specs.Stream.{slotsFrom, stream}
-use Rattle.delivery.specs.Demand.{Fresh}
+use Rattle.delivery_spec.specs.Stream.{slotsFrom, stream}
+use Rattle.delivery_spec.specs.Demand.{Fresh}
 use Rattle.delivery.specs.Example.{setup, region, calls, made, message, messages, Fulfilled, memory, packets, Executed}
-use Rattle.delivery.proofs.Made.{fresh-made}
+use Rattle.delivery_spec.proofs.Made.{fresh-made}
 use Rattle.delivery.proofs.Whole.{delivery}
 use Rattle.delivery.proofs.Witness.{witness}
 

@@ -10,14 +10,14 @@ use borrow.Author.Tests.{eqb-true, eqb-false}
 use Rattle.sequence.specs.Sequence.{space, psnAfter, msnNext}
 use Rattle.table.specs.declared.Entry.{Entry}
 use Rattle.pair.specs.declared.Setup.{Setup}
-use Rattle.delivery.specs.Stream.{Message, Slot, slot, psnCount, stream, numberAlong}
-use Rattle.delivery.specs.Plain.{Plain, Call, slotNeedsEntry, none, firstOf, isRead, isLast, takesEntry}
-use Rattle.delivery.specs.Plain.{completionFor, memoryAfter, withResponses, withWaiting, executeWith}
-use Rattle.delivery.specs.Plain.{executeNext, plainStep, plain, start}
-use Rattle.delivery.specs.Plain.Call.{Hand, Next, Post}
-use Rattle.delivery.specs.Demand.{AllCallsPermitted, CallPermitted, waitingAt}
+use Rattle.delivery_spec.specs.Stream.{Message, Slot, slot, psnCount, stream, numberAlong}
+use Rattle.delivery_spec.specs.Plain.{Plain, Call, slotNeedsEntry, none, firstOf, isRead, isLast, takesEntry}
+use Rattle.delivery_spec.specs.Plain.{completionFor, memoryAfter, withResponses, withWaiting, executeWith}
+use Rattle.delivery_spec.specs.Plain.{executeNext, plainStep, plain, start}
+use Rattle.delivery_spec.specs.Plain.Call.{Hand, Next, Post}
+use Rattle.delivery_spec.specs.Demand.{AllCallsPermitted, CallPermitted, waitingAt}
 use Rattle.delivery.specs.InOrder.{acceptedNow, accepted, executedNext, inOrder, supplied, InOrder, Counts, ExpectedAlong, Supplied, ExactlyOnce}
-use Rattle.delivery.proofs.Chain.{along-suc, along-zero}
+use Rattle.delivery_spec.proofs.Chain.{along-suc, along-zero}
 use Rattle.delivery.proofs.Whole.{delivery}
 
 -- entries behind those that wait do not matter to a packet that has what it needs

@@ -15,19 +15,19 @@ use Rattle.table.specs.declared.Entry.{Entry}
 use Rattle.pair.specs.Claims.{SetupFit}
 use Rattle.pair.specs.declared.Setup.{Setup}
 use Rattle.responder_spec.specs.Apply.{memoryBy}
-use Rattle.responder_spec.specs.Inbound.{inboundMemory}
-use Rattle.responder_spec.specs.Kept.{Steady}
+use Rattle.responder_spec.specs.Inbound.{inbound, leftBy}
+use Rattle.responder_spec.specs.Steady.{Steady}
 use Rattle.responder_spec.specs.declared.Decision.{Decision}
-use Rattle.responder_spec.proofs.Kept.{inbound-steady, next-steady, post-steady}
-use Rattle.delivery.specs.Stream.{Message, Slot, slot, stream, psnCount, numberAlong}
-use Rattle.delivery.specs.Plain.{Plain, Call, none, firstOf, isRead, slotNeedsEntry, isLast, heldNow, withResponses, withWaiting, executeWith, plainStep, plain, start}
-use Rattle.delivery.specs.Plain.Call.{Hand, Next, Post}
-use Rattle.delivery.specs.Demand.{Run, step, LongEnough, CallPermitted, AllCallsPermitted, Handed, Posted, waitingAt}
+use Rattle.sound_laws.proofs.Kept.{inbound-steady, next-steady, post-steady}
+use Rattle.delivery_spec.specs.Stream.{Message, Slot, slot, stream, psnCount, numberAlong}
+use Rattle.delivery_spec.specs.Plain.{Plain, Call, none, firstOf, isRead, slotNeedsEntry, isLast, heldNow, withResponses, withWaiting, executeWith, plainStep, plain, start}
+use Rattle.delivery_spec.specs.Plain.Call.{Hand, Next, Post}
+use Rattle.delivery_spec.specs.Demand.{Run, step, LongEnough, CallPermitted, AllCallsPermitted, Handed, Posted, waitingAt}
 use Rattle.delivery.specs.Witness.{wholeEntry, draining, inTurn, Witness}
-use Rattle.delivery.proofs.Chain.{Good, good, reliable-serves}
-use Rattle.delivery.proofs.Fitting.{and-false}
-use Rattle.delivery.proofs.Rel.{Link}
-use Rattle.delivery.proofs.Runs.{setup-kept, regions-kept, steady-next, linked, fresh-link, steady}
+use Rattle.delivery_spec.proofs.Chain.{Good, good, reliable-serves}
+use Rattle.delivery_spec.proofs.Fitting.{and-false}
+use Rattle.delivery_spec.proofs.Rel.{Link}
+use Rattle.delivery_spec.proofs.Runs.{setup-kept, regions-kept, steady-next, linked, fresh-link, steady}
 
 -- no call changes the length of memory
 long-either : (b : Bool) (x y : List ℕ) (n : ℕ) → length x ≡ n → length y ≡ n → length (cond b x y) ≡ n
@@ -42,7 +42,7 @@ memory-long d m b =
     (long-either (eqb (d .act) 3) _ _ (length m) (swap-within m (d .at) (d .compare) (d .swap) .kept) refl))
 
 step-long : (S : List Slot) (x : Run) (c : Call) → length (step S x c .memory) ≡ length (x .memory)
-unfolding step inboundMemory
+unfolding step inbound leftBy
 step-long S x (Hand j out) = memory-long _ (x .memory) _
 step-long S x (Next out) = refl
 step-long S x (Post e) = refl

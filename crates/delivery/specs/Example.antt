@@ -12,9 +12,9 @@ use Rattle.pair.specs.Calls.{Whole, HostCall, begun, calledAll}
 use Rattle.pair.specs.declared.Setup.{Setup}
 use Rattle.cut_spec.specs.declared.Request.{Request}
 use Rattle.cut_spec.specs.declared.Request.the-variants.{Send, SendImmediate, Write, WriteImmediate, Read, CmpSwap, FetchAdd}
-use Rattle.delivery.specs.Stream.{Message, Slot, stream}
-use Rattle.delivery.specs.Plain.{Call, plain, start}
-use Rattle.delivery.specs.Demand.{Fresh, AllPermitted, LongEnough, AllLongEnough, waitingAt, run, Agree}
+use Rattle.delivery_spec.specs.Stream.{Message, Slot, stream}
+use Rattle.delivery_spec.specs.Plain.{Call, plain, start}
+use Rattle.delivery_spec.specs.Demand.{Fresh, AllPermitted, LongEnough, AllLongEnough, waitingAt, run, Agree}
 use Rattle.delivery.specs.Witness.{wholeEntry}
 
 unfoldable pub setup : Setup

@@ -9,10 +9,10 @@ use Rattle.sequence.specs.Sequence.{psnAfter}
 use Rattle.table.specs.declared.Entry.{Entry}
 use Rattle.pair.specs.Calls.{Whole}
 use Rattle.pair.specs.declared.Setup.{Setup}
-use Rattle.delivery.specs.Stream.{Message, Slot, slot, stream, numberAlong}
-use Rattle.delivery.specs.Plain.{Plain, Call, slotNeedsEntry, none, firstOf, heldNow, executeWith, plainStep, plain, start}
-use Rattle.delivery.specs.Plain.Call.{Hand, Next, Post}
-use Rattle.delivery.specs.Demand.{run, Fresh, AllPermitted, AllLongEnough, AllCallsPermitted, waitingAt, Agree}
+use Rattle.delivery_spec.specs.Stream.{Message, Slot, slot, stream, numberAlong}
+use Rattle.delivery_spec.specs.Plain.{Plain, Call, slotNeedsEntry, none, firstOf, heldNow, executeWith, plainStep, plain, start}
+use Rattle.delivery_spec.specs.Plain.Call.{Hand, Next, Post}
+use Rattle.delivery_spec.specs.Demand.{run, Fresh, AllPermitted, AllLongEnough, AllCallsPermitted, waitingAt, Agree}
 
 -- the entries of the posts that the plain run accepts, in their order
 abbrev pub acceptedNow : Setup → Plain → Call → List Entry

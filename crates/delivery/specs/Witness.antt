@@ -7,10 +7,10 @@ use lib.ListN.{length}
 use Rattle.table.specs.declared.Entry.{Entry}
 use Rattle.pair.specs.Calls.{Whole}
 use Rattle.pair.specs.declared.Setup.{Setup}
-use Rattle.delivery.specs.Stream.{Message, Slot, slot, stream, psnCount}
-use Rattle.delivery.specs.Plain.{Call, plain, start}
-use Rattle.delivery.specs.Plain.Call.{Hand, Next, Post}
-use Rattle.delivery.specs.Demand.{Fresh, AllPermitted, LongEnough, AllLongEnough, AllCallsPermitted, waitingAt}
+use Rattle.delivery_spec.specs.Stream.{Message, Slot, slot, stream, psnCount}
+use Rattle.delivery_spec.specs.Plain.{Call, plain, start}
+use Rattle.delivery_spec.specs.Plain.Call.{Hand, Next, Post}
+use Rattle.delivery_spec.specs.Demand.{Fresh, AllPermitted, LongEnough, AllLongEnough, AllCallsPermitted, waitingAt}
 
 -- the longest entry
 abbrev pub wholeEntry : Setup → Entry

@@ -13,7 +13,7 @@ use Rattle.pair.specs.declared.Setup.{Setup}
 use Rattle.request_spec.specs.Verdict.{notEnabled, overLimit, keyFails}
 use Rattle.request_spec.specs.declared.Packet.{Packet}
 use Rattle.responder_spec.specs.Decide.{duplicateReadFails}
-use Rattle.responder_spec.proofs.Inside.{own-inside}
+use Rattle.decision_laws.proofs.Inside.{own-inside}
 
 answered-key : (p : Packet) (s : Setup) (m : OpenMessage) (expected : Psn) (region : List ℕ) (t : Bool) → t ≡ duplicateReadFails p s m expected region → t ≡ false
     → keyFails (s .memory) 12 m region ≡ false

@@ -7,6 +7,7 @@ use native.Mathlib.Omega.{arith}
 use lib.Dec.{eqb, leb}
 use lib.ListN.{length, getD, set, length-set}
 use borrow.Author.Tests.{leb-false}
+use Rattle.responder_spec.specs.Inbound.{inbound, leftBy}
 use Rattle.table.specs.Table.{outside, slotAt, entryRow}
 use Rattle.table.specs.View.{ringFrom, inRing, oneMore}
 use Rattle.table.specs.declared.Ring.{Ring}
@@ -23,11 +24,11 @@ use Rattle.pair.specs.declared.Pair.{Pair}
 use Rattle.pair.specs.declared.Status.the-variants.{Executed, TableFull, OutOfRange, WrongState}
 use Rattle.pair.proofs.Begin.{reset-pair}
 use Rattle.pair.proofs.Posting.{held-waiting}
-use Rattle.responder_spec.specs.Calls.{received, drained, reports}
-use Rattle.responder_spec.specs.Entries.{Uses}
+use Rattle.responder_spec.specs.Calls.{drained, reports}
+use Rattle.answer_laws.specs.Entries.{Uses}
 use Rattle.responder_spec.specs.declared.Completion.{Completion}
-use Rattle.responder_spec.proofs.Uses.{inbound-uses, next-uses}
-use Rattle.entry_order.specs.Order.{AnyCall, History, newHistory, goes, hosted, historyAfter, ran, PostingOrder, EntriesInOrder, SinceSetUp, SinceReset}
+use Rattle.answer_laws.proofs.Uses.{inbound-uses, next-uses}
+use Rattle.entry_order.specs.Order.{arrival, AnyCall, History, newHistory, goes, hosted, historyAfter, ran, PostingOrder, EntriesInOrder, SinceSetUp, SinceReset}
 use Rattle.entry_order.specs.Order.AnyCall.{Host, Inbound, Next}
 
 -- what is kept: the entries held and waiting are the rows of the ring, and the table has 16 rows
@@ -179,9 +180,9 @@ module _ (x : History) (k : Keeps x) where
   hosted-keeps (PostEntry e) = post-keeps e
 
   step-keeps : (c : AnyCall) → Keeps (historyAfter x c)
-  unfolding historyAfter received drained
+  unfolding historyAfter inbound leftBy drained
   step-keeps (Host c) = hosted-keeps c
-  step-keeps (Inbound m p out) = reported _ _ (inbound-uses q (x .whole .regions) rows (x .whole .saved) m p out)
+  step-keeps (Inbound m p out) = reported _ _ (inbound-uses (arrival x m p out))
   step-keeps (Next m out) = reported _ _ (next-uses q rows m out)
 
 all : (calls : List AnyCall) (x : History) → Keeps x → Keeps (ran x calls)

@@ -5,6 +5,7 @@ use mathlib.Core.Path.{_≡_}
 use mathlib.Core.Bool.{cond}
 use mathlib.Core.List.{List, [], _∷_, _++_, map}
 use lib.ListN.{getD, length}
+use Rattle.responder_spec.specs.Arrival.{Arrival}
 use Rattle.table.specs.Table.{entryRow}
 use Rattle.pair.specs.Answer.{executed}
 use Rattle.pair.specs.Host.{resetStatus, postStatus}
@@ -15,7 +16,7 @@ use Rattle.pair.specs.Claims.{SetupSound}
 use Rattle.pair.specs.declared.Setup.{Setup}
 use Rattle.responder_spec.specs.Inbound.{inbound}
 use Rattle.responder_spec.specs.Response.{nextResponse}
-use Rattle.responder_spec.specs.Calls.{received, drained, reports}
+use Rattle.responder_spec.specs.Calls.{drained, reports}
 use Rattle.responder_spec.specs.declared.Completion.{Completion}
 
 -- Every call there is. Memory, packet and output are any lists, anew with each call.
@@ -59,12 +60,15 @@ hosted x (PostEntry e) =
 abbrev pub tells : History → Whole → Completion → History
 tells x w c = record { whole = w; posted = x .posted; completions = x .completions ++ reports c }
 
+-- What a packet p arrives at.
+abbrev pub arrival : History → List ℕ → List ℕ → List ℕ → Arrival
+arrival x m p out = record { whole = x .whole; memory = m; packet = p; out = out }
+
 -- One call;
 unfoldable pub historyAfter : History → AnyCall → History
 historyAfter x (Host c) = hosted x c
 historyAfter x (Inbound m p out) =
-    tells x (received (x .whole) m p out)
-    (inbound (x .whole .pair) (x .whole .regions) (x .whole .entries) (x .whole .saved) m p out .completion)
+    tells x (inbound (arrival x m p out) .whole) (inbound (arrival x m p out) .completion)
 historyAfter x (Next m out) = tells x (drained (x .whole) m out) (nextResponse (x .whole .pair) m out .completion)
 
 -- and a list of them, one after the other.

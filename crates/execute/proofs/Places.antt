@@ -16,8 +16,8 @@ use Rattle.request_spec.specs.Verdict.{carrying, single, fragment, notEnabled, 
 use Rattle.request_spec.specs.declared.Packet.{Packet}
 use Rattle.request_checks.proofs.Keys.{none-stored-yet}
 use Rattle.responder_spec.specs.Decide.{targetOffset}
-use Rattle.responder_spec.proofs.Codes.{Passed}
-use Rattle.responder_spec.proofs.Inside.{key-inside, own-inside, total, write-total, target-inside}
+use Rattle.decision_laws.proofs.Codes.{Passed}
+use Rattle.decision_laws.proofs.Inside.{key-inside, own-inside, total, write-total, target-inside}
 use Rattle.execute.specs.Fits.{OffsetFits, TargetFits, Storable, Executable, unformed}
 
 -- a number below 2^64 is its own remainder

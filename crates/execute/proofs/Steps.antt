@@ -18,8 +18,8 @@ use Rattle.responder_spec.specs.Decide.{noReply, failed, storePayload, answered
 use Rattle.responder_spec.specs.Decide.{expectedDecision, orphaned, strays, closedBy, abandoning, ucExecute}
 use Rattle.responder_spec.specs.Decide.{ucCheckedDecision, ucDecision}
 use Rattle.responder_spec.specs.declared.Decision.{Decision}
-use Rattle.responder_spec.proofs.Codes.{Passed, passes}
-use Rattle.responder_spec.proofs.Views.{current-closed, same-code}
+use Rattle.decision_laws.proofs.Codes.{Passed, passes}
+use Rattle.decision_laws.proofs.Views.{current-closed, same-code}
 use Rattle.execute.specs.Either.{either}
 
 -- a SEND or WRITE that is stored, on either service

@@ -98,3 +98,9 @@ SwapEqual =
 abbrev pub SwapUnequal : Type 0
 SwapUnequal =
     (m : List ℕ) (at compare swap : ℕ) → (wordAt m at ≡ compare → ⊥) → swapped m at compare swap ≡ m
+
+-- Of two states of memory, only the n bytes from offset on may differ.
+pub record OnlyBytes (old new : List ℕ) (offset n : ℕ) : Type 0 where
+  pub kept : length new ≡ length old
+  pub before : take offset new ≡ take offset old
+  pub after : drop (offset + n) new ≡ drop (offset + n) old

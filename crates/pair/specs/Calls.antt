@@ -25,6 +25,10 @@ pub data HostCall : Type 0 where
 abbrev pub changed : Whole → Pair → List (List ℕ) → List (List ℕ) → Whole
 changed w q regions entries = record { pair = q; regions = regions; entries = entries; saved = w .saved }
 
+-- the same tables beside another pair
+abbrev pub withPair : Whole → Pair → Whole
+withPair w q = record { pair = q; regions = w .regions; entries = w .entries; saved = w .saved }
+
 -- set-up with tables of any contents
 unfoldable pub begun : Setup → List (List ℕ) → List (List ℕ) → List (List ℕ) → Whole
 begun s regions entries saved =

@@ -1,6 +1,8 @@
 -- A request packet as numbers.
 use Prim.Native.Nat.{ℕ, _-_}
 use mathlib.Core.Bool.{Bool, true, false}
+use mathlib.Core.List.{List}
+use lib.ListN.{length}
 use Rattle.opcode.specs.Opcode.{classOf}
 use Rattle.opcode.specs.declared.OpcodeClass.{OpcodeClass}
 use Rattle.header.specs.declared.Reth.{Reth}
@@ -10,7 +12,7 @@ use Rattle.header.specs.declared.Extension.the-variants.{Bare, Remote, RemoteIm
 use Rattle.header.specs.declared.Header.{Header}
 use Rattle.header.specs.declared.HeaderRead.{HeaderRead}
 use Rattle.header.specs.declared.HeaderRead.the-variants as read
-use Rattle.header.specs.Read.{quietDrop}
+use Rattle.header.specs.Read.{headerOf, quietDrop}
 use Rattle.request_spec.specs.declared.Operands.{Operands}
 use Rattle.request_spec.specs.declared.Packet.{Packet}
 use Rattle.request_spec.specs.declared.Admission.{Admission}
@@ -69,3 +71,7 @@ admission (read.Dropped reason) n = found.Dropped reason
 abbrev pub admissionNumber : Admission → ℕ
 admissionNumber (found.Admitted p) = 0
 admissionNumber (found.Dropped reason) = quietDrop
+
+-- the packet that bytes have, whether or not their header passes the checks
+abbrev pub packetIn : List ℕ → Packet
+packetIn p = packetOf (headerOf p) (length p)

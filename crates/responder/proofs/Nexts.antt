@@ -26,9 +26,9 @@ use Rattle.responder_spec.specs.declared.Outcome.{Outcome}
 use Rattle.responder_spec.specs.Decide.{noCompletion}
 use Rattle.responder_spec.specs.Apply.{with}
 use Rattle.responder_spec.specs.Reply.{over}
-use Rattle.responder_spec.specs.Reads.{Answering}
+use Rattle.response_laws.specs.Responses.{Answering}
 use Rattle.responder_spec.specs.Response.{indexOf, responsePayload, responseHeader, responseBytes, nextStatus, oneFewer, nextBytes, nextResponse, nextOut}
-use Rattle.responder_spec.proofs.Responses.{live, written}
+use Rattle.response_laws.proofs.Responses.{live, written}
 use Rattle.header.specs.Write.{doneBytes}
 use Rattle.responder.specs.Unchanged.{unchanged, responded}
 

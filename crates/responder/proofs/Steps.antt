@@ -26,15 +26,16 @@ use Rattle.request_spec.specs.Verdict.{single, fragment}
 use Rattle.request_spec.specs.declared.Packet.{Packet}
 use Rattle.request_spec.specs.declared.Admission.{Admission}
 use Rattle.request_spec.specs.declared.Admission.the-variants as found
-use Rattle.responder_spec.proofs.Codes.{Bare, class-is}
-use Rattle.responder_spec.proofs.Codes.Bare.{reads, swaps, adds}
+use Rattle.decision_laws.proofs.Codes.{Bare, class-is}
+use Rattle.decision_laws.proofs.Codes.Bare.{reads, swaps, adds}
 use Rattle.responder_spec.specs.declared.Decision.{Decision}
 use Rattle.responder_spec.specs.declared.Outcome.{Outcome}
-use Rattle.responder_spec.specs.Decide.{noReply, packetDecision, orDrop, inboundRefusal, decided}
+use Rattle.responder_spec.specs.Arrival.{Arrival, leaving}
+use Rattle.responder_spec.specs.Decide.{noReply, packetDecision, orDrop, inboundRefusal, refusalOf, checkedHeader, decision}
 use Rattle.responder_spec.specs.Apply.{memoryBy, actsAtomic, savedBy, pairBy}
 use Rattle.responder_spec.specs.Reply.{answerBytes, valueBy, over, outBy}
-use Rattle.responder_spec.specs.Inbound.{outcomeBy, decision, inbound, inboundMemory, inboundSaved, inboundOut}
-use Rattle.responder_spec.proofs.Rows.{passed}
+use Rattle.responder_spec.specs.Inbound.{Leaves, leftBy, inbound}
+use Rattle.decision_laws.proofs.Rows.{passed}
 use Rattle.execute.specs.Fits.{unformed}
 use Rattle.responder.specs.Unchanged.{outcomeWith}
 
@@ -80,52 +81,48 @@ unfolding hasPacket packetIn
 whole-found (read.Accepted h) n k e = subst (λ y. fragment y ≡ false) (ap (packetIn k) e) (whole-packet h n)
 whole-found (read.Dropped why) n k e = absurd (true≢false (sym (ap hasPacket e)))
 
--- the header checks of the pair
-abbrev headerBy : Pair → List ℕ → HeaderRead
-headerBy q p = admitted (q .setup .service) (q .setup .ours) (q .setup .pkey) (eqb (q .state) 1) p
-
 -- the decision, from what each function answered
-module _ (q : Pair) (regions entries saved : List (List ℕ)) (memory : ℕ) (p : List ℕ) (room : ℕ) (t : Status) (is : t ≡ inboundRefusal q memory room)
-    (n : ℕ) (number : n ≡ statusNumber t) where
+module _ (a : Arrival) (t : Status) (is : t ≡ refusalOf a) (n : ℕ) (number : n ≡ statusNumber t) where
   abbrev passing : Decision
-  passing = orDrop (headerBy q p) (λ h. packetDecision q regions entries saved (packetOf h (length p)))
+  passing = orDrop (checkedHeader a) (λ h. packetDecision (a .whole) (packetOf h (length (a .packet))))
 
-  tested : (b : Bool) → eqb n 0 ≡ b → executed (inboundRefusal q memory room) ≡ b
+  tested : (b : Bool) → eqb n 0 ≡ b → executed (refusalOf a) ≡ b
   unfolding executed
   tested b e = ap (λ s. eqb (statusNumber s) 0) (sym is) ∙ (ap (λ k. eqb k 0) (sym number) ∙ e)
 
   -- refused before the packet is looked at
-  pub refused : (n ≡ 0 → ⊥) → (d : Decision) → d ≡ noReply t → d ≡ decided q regions entries saved memory p room
-  unfolding decided
-  refused some d a =
-      a ∙ (ap noReply is ∙ sym (ap (λ b. cond b passing (noReply (inboundRefusal q memory room))) (tested false (ne-eqb n 0 some))))
+  pub refused : (n ≡ 0 → ⊥) → (d : Decision) → d ≡ noReply t → d ≡ decision a
+  unfolding decision
+  refused some d e = e ∙ (ap noReply is ∙ sym (ap (λ b. cond b passing (noReply (refusalOf a))) (tested false (ne-eqb n 0 some))))
 
   module _ (none : n ≡ 0) where
-    decided-is : decided q regions entries saved memory p room ≡ passing
-    unfolding decided
-    decided-is = ap (λ b. cond b passing (noReply (inboundRefusal q memory room))) (tested true (eq-eqb n 0 none))
+    decision-passes : decision a ≡ passing
+    unfolding decision
+    decision-passes = ap (λ b. cond b passing (noReply (refusalOf a))) (tested true (eq-eqb n 0 none))
 
     -- a header that does not pass is left at once
-    pub left-at-once : (f : Admission) → f ≡ admission (headerBy q p) (length p) → (reason : ℕ) → f ≡ found.Dropped reason
-        → (d : Decision) → d ≡ noReply status.Dropped → d ≡ decided q regions entries saved memory p room
-    left-at-once f e reason g d a =
-        a
-        ∙ sym (decided-is ∙ drops (headerBy q p) (length p) reason (sym e ∙ g) (λ h. packetDecision q regions entries saved (packetOf h (length p))))
+    pub left-at-once : (f : Admission) → f ≡ admission (checkedHeader a) (length (a .packet)) → (reason : ℕ) → f ≡ found.Dropped reason
+        → (d : Decision) → d ≡ noReply status.Dropped → d ≡ decision a
+    left-at-once f e reason g d i =
+        i
+        ∙ sym
+        (decision-passes
+        ∙ drops (checkedHeader a) (length (a .packet)) reason (sym e ∙ g) (λ h. packetDecision (a .whole) (packetOf h (length (a .packet)))))
 
-    timer-fits : q .setup .timer ≤ timerLimit
-    timer-fits = passed q memory room (tested true (eq-eqb n 0 none)) .1 .setup .0 .timer
+    timer-fits : a .whole .pair .setup .timer ≤ timerLimit
+    timer-fits = passed (a .whole .pair) (length (a .memory)) (length (a .out)) (tested true (eq-eqb n 0 none)) .1 .setup .0 .timer
 
     -- the packet of a header that passes is no fragment, and the timer code of a pair that is not refused is one
-    pub admitted-packet : (f : Admission) → f ≡ admission (headerBy q p) (length p) → (k : Packet) → f ≡ found.Admitted k
-        → (d : Decision) → d ≡ cond (unformed k (q .setup .timer)) (noReply status.OutOfRange) (packetDecision q regions entries saved k)
-        → d ≡ decided q regions entries saved memory p room
+    pub admitted-packet : (f : Admission) → f ≡ admission (checkedHeader a) (length (a .packet)) → (k : Packet) → f ≡ found.Admitted k
+        → (d : Decision) → d ≡ cond (unformed k (a .whole .pair .setup .timer)) (noReply status.OutOfRange) (packetDecision (a .whole) k)
+        → d ≡ decision a
     unfolding unformed
-    admitted-packet f e k g d a =
-        let o : (fragment k || ltb timerLimit (q .setup .timer)) ≡ false =
-        rw (whole-found (headerBy q p) (length p) k (sym e ∙ g), le-ltb timerLimit (q .setup .timer) timer-fits) in
-        a
-        ∙ (ap (λ b. cond b (noReply status.OutOfRange) (packetDecision q regions entries saved k)) o
-        ∙ sym (decided-is ∙ passes (headerBy q p) (length p) k (sym e ∙ g) (packetDecision q regions entries saved)))
+    admitted-packet f e k g d i =
+        let o : (fragment k || ltb timerLimit (a .whole .pair .setup .timer)) ≡ false =
+        rw (whole-found (checkedHeader a) (length (a .packet)) k (sym e ∙ g), le-ltb timerLimit (a .whole .pair .setup .timer) timer-fits) in
+        i
+        ∙ (ap (λ b. cond b (noReply status.OutOfRange) (packetDecision (a .whole) k)) o
+        ∙ sym (decision-passes ∙ passes (checkedHeader a) (length (a .packet)) k (sym e ∙ g) (packetDecision (a .whole))))
 
 -- an atomic saves the value that it answers
 saved-value : (ring : Ring) (d : Decision) (saved : List (List ℕ)) (m : List ℕ)
@@ -138,67 +135,46 @@ saved-value ring d saved m = go (actsAtomic (d .act))
     go false = refl
 
 -- an output that is too short for any answer gets none
-short-decided : (q : Pair) (regions entries saved : List (List ℕ)) (memory : ℕ) (p : List ℕ) (room : ℕ) → ltb room 24 ≡ true
-    → decided q regions entries saved memory p room ≡ noReply status.OutputShort
-unfolding decided inboundRefusal executed statusNumber
-short-decided q regions entries saved memory p room e = rw e
+short-decided : (a : Arrival) → ltb (length (a .out)) 24 ≡ true → decision a ≡ noReply status.OutputShort
+unfolding decision inboundRefusal executed statusNumber
+short-decided a e = rw e
 
 no-answer : (q : Pair) (m out : List ℕ) → out ≡ outBy (q .setup) (noReply status.OutputShort) (pairBy q (noReply status.OutputShort) .msn) m out
 unfolding noReply outBy answerBytes over
 no-answer q m out = refl
 
--- what a decision does, to each thing that was lent
-module _ (q : Pair) (regions entries saved : List (List ℕ)) (m p out : List ℕ) (d : Decision)
-    (i : d ≡ decided q regions entries saved (length m) p (length out)) where
-  decision-is : d ≡ decision q regions entries saved m p out
-  unfolding decision
-  decision-is = i
+-- what the decision does to everything that was lent, from what each function answered
+module _ (a : Arrival) (d : Decision) (i : d ≡ decision a) (value : ℕ) (v : value ≡ valueBy d (a .memory)) where
+  abbrev q : Pair
+  q = a .whole .pair
 
-  pub outcome-is : outcomeBy q d ≡ inbound q regions entries saved m p out
-  unfolding inbound
-  outcome-is = ap (outcomeBy q) decision-is
-
-  pub memory-is : (m' : List ℕ) → m' ≡ memoryBy d m p → m' ≡ inboundMemory q regions entries saved m p out
-  unfolding inboundMemory
-  memory-is m' a = a ∙ ap (λ x. memoryBy x m p) decision-is
-
-  pub saved-is : (value : ℕ) → value ≡ valueBy d m
-      → (saved' : List (List ℕ)) → saved' ≡ cond (actsAtomic (d .act)) (savedRows saved (q .saved) (d .psn .0) value) saved
-      → saved' ≡ inboundSaved q regions entries saved m p out
-  unfolding inboundSaved
-  saved-is value v saved' b =
+  kept : (saved' : List (List ℕ)) → saved' ≡ cond (actsAtomic (d .act)) (savedRows (a .whole .saved) (q .saved) (d .psn .0) value) (a .whole .saved)
+      → saved' ≡ savedBy (q .saved) d (a .whole .saved) (a .memory)
+  kept saved' b =
       b
-      ∙ (ap (λ x. cond (actsAtomic (d .act)) (savedRows saved (q .saved) (d .psn .0) x) saved) v
-      ∙ (saved-value (q .saved) d saved m ∙ ap (λ x. savedBy (q .saved) x saved m) decision-is))
+      ∙ (ap (λ x. cond (actsAtomic (d .act)) (savedRows (a .whole .saved) (q .saved) (d .psn .0) x) (a .whole .saved)) v
+      ∙ saved-value (q .saved) d (a .whole .saved) (a .memory))
 
-  pub out-is : (msn : Msn) → msn ≡ pairBy q d .msn → (value : ℕ) → value ≡ valueBy d m
-      → (out' : List ℕ) → out' ≡ cond (ltb (length out) 24) out (over (answerBytes (q .setup) d msn value) out)
-      → out' ≡ inboundOut q regions entries saved m p out
-  unfolding inboundOut outBy
-  out-is msn j value v out' c = c ∙ (go (ltb (length out) 24) refl ∙ ap (λ x. outBy (q .setup) x (pairBy q x .msn) m out) decision-is)
+  answered : (msn : Msn) → msn ≡ pairBy q d .msn
+      → (out' : List ℕ) → out' ≡ cond (ltb (length (a .out)) 24) (a .out) (over (answerBytes (q .setup) d msn value) (a .out))
+      → out' ≡ outBy (q .setup) d (pairBy q d .msn) (a .memory) (a .out)
+  unfolding outBy
+  answered msn j out' c = c ∙ go (ltb (length (a .out)) 24) refl
     where
-      none : ltb (length out) 24 ≡ true → out ≡ outBy (q .setup) d (pairBy q d .msn) m out
-      none e = quiet (d) (i ∙ short-decided q regions entries saved (length m) p (length out) e)
-        where
-          quiet : (x : Decision) → x ≡ noReply status.OutputShort → out ≡ outBy (q .setup) x (pairBy q x .msn) m out
-          quiet x f = subst (λ y. out ≡ outBy (q .setup) y (pairBy q y .msn) m out) (sym f) (no-answer q m out)
+      none : ltb (length (a .out)) 24 ≡ true → a .out ≡ outBy (q .setup) d (pairBy q d .msn) (a .memory) (a .out)
+      none e = subst (λ y. a .out ≡ outBy (q .setup) y (pairBy q y .msn) (a .memory) (a .out)) (sym (i ∙ short-decided a e)) (no-answer q (a .memory) (a .out))
 
-      go : (b : Bool) → ltb (length out) 24 ≡ b
-          → cond b out (over (answerBytes (q .setup) d msn value) out) ≡ over (answerBytes (q .setup) d (pairBy q d .msn) (valueBy d m)) out
+      go : (b : Bool) → ltb (length (a .out)) 24 ≡ b
+          → cond b (a .out) (over (answerBytes (q .setup) d msn value) (a .out)) ≡ over (answerBytes (q .setup) d (pairBy q d .msn) (valueBy d (a .memory))) (a .out)
       go true e = none e
-      go false e = λ k. over (answerBytes (q .setup) d (j k) (v k)) out
+      go false e = λ k. over (answerBytes (q .setup) d (j k) (v k)) (a .out)
 
-  -- outcome, memory, saved atomics and output, as the promise lists them
-  pub whole : (m' : List ℕ) → m' ≡ memoryBy d m p → (value : ℕ) → value ≡ valueBy d m
-      → (saved' : List (List ℕ)) → saved' ≡ cond (actsAtomic (d .act)) (savedRows saved (q .saved) (d .psn .0) value) saved
+  pub whole : (m' : List ℕ) → m' ≡ memoryBy d (a .memory) (a .packet)
+      → (saved' : List (List ℕ)) → saved' ≡ cond (actsAtomic (d .act)) (savedRows (a .whole .saved) (q .saved) (d .psn .0) value) (a .whole .saved)
       → (next : Pair) → next ≡ pairBy q d
-      → (out' : List ℕ) → out' ≡ cond (ltb (length out) 24) out (over (answerBytes (q .setup) d (next .msn) value) out)
-      → (o : Outcome) → o ≡ outcomeWith next d
-      → (o ≡ inbound q regions entries saved m p out)
-      × ((m' ≡ inboundMemory q regions entries saved m p out)
-      × ((saved' ≡ inboundSaved q regions entries saved m p out) × (out' ≡ inboundOut q regions entries saved m p out)))
-  unfolding outcomeBy
-  whole m' a value v saved' b next j out' c o t = (
-    t ∙ (ap (λ x. outcomeWith x d) j ∙ outcome-is),
-    (memory-is m' a, (saved-is value v saved' b, out-is (next .msn) (ap (λ x. x .msn) j) value v out' c)),
-  )
+      → (out' : List ℕ) → out' ≡ cond (ltb (length (a .out)) 24) (a .out) (over (answerBytes (q .setup) d (next .msn) value) (a .out))
+      → (o : Outcome) → o ≡ outcomeWith next d → Leaves a o saved' m' out'
+  unfolding inbound leftBy
+  whole m' m saved' b next j out' c o t =
+      (λ k. leaving a ((t ∙ ap (λ x. outcomeWith x d) j) k) (kept saved' b k) (m k) (answered (next .msn) (ap (λ x. x .msn) j) out' c k))
+      ∙ ap (leftBy a) i

@@ -10,8 +10,9 @@ use responder_spec::Decision;
 use responder_spec::Outcome;
 pub use response::next_response;
 ghost use mathlib.Core.Path.{_≡_};
-ghost use Rattle.responder_spec.specs.Decide.{decided};
-ghost use Rattle.responder_spec.specs.Inbound.{inbound, inboundMemory, inboundSaved, inboundOut};
+ghost use Rattle.responder_spec.specs.Arrival.{arriving};
+ghost use Rattle.responder_spec.specs.Inbound.{Leaves};
+ghost use Rattle.responder_spec.specs.Decide.{decision};
 ghost use Rattle.responder.specs.Unchanged.{unchanged, outcomeWith};
 
 // An answer with which nothing changes, completes or is sent.
@@ -49,13 +50,13 @@ pub fn decided(
     regions: &[[u64; 7]; 16],
     entries: &[[u64; 3]; 16],
     saved: &[[u64; 2]; 16],
-    memory: usize,
+    mem: &[u8],
     packet: &[u8],
-    room: usize,
+    out: &[u8],
 ) -> Decision
-    ensures { λ r. ⌜ r ≡ decided pair (now (regions .entry)) (now (entries .entry)) (now (saved .entry)) memory (now (packet .entry)) room ⌝ }
+    ensures { λ r. ⌜ r ≡ decision (arriving pair (now (regions .entry)) (now (entries .entry)) (now (saved .entry)) (now (mem .entry)) (now (packet .entry)) (now (out .entry))) ⌝ }
 {
-    let refused = refuse::refusal(pair, memory, room);
+    let refused = refuse::refusal(pair, mem.len(), out.len());
     if refused.number() != 0 {
         return reply::no_reply(refused);
     }
@@ -82,12 +83,9 @@ pub fn inbound(
     packet: &[u8],
     out: &mut [u8],
 ) -> Outcome
-    ensures { λ r. ⌜ r ≡ inbound pair (now (regions .entry)) (now (entries .entry)) (now (saved .entry)) (now (mem .entry)) (now (packet .entry)) (now (out .entry)) ⌝ }
-    ensures { λ r. ⌜ now (mem .exit) ≡ inboundMemory pair (now (regions .entry)) (now (entries .entry)) (now (saved .entry)) (now (mem .entry)) (now (packet .entry)) (now (out .entry)) ⌝ }
-    ensures { λ r. ⌜ now (saved .exit) ≡ inboundSaved pair (now (regions .entry)) (now (entries .entry)) (now (saved .entry)) (now (mem .entry)) (now (packet .entry)) (now (out .entry)) ⌝ }
-    ensures { λ r. ⌜ now (out .exit) ≡ inboundOut pair (now (regions .entry)) (now (entries .entry)) (now (saved .entry)) (now (mem .entry)) (now (packet .entry)) (now (out .entry)) ⌝ }
+    ensures { λ r. ⌜ Leaves (arriving pair (now (regions .entry)) (now (entries .entry)) (now (saved .entry)) (now (mem .entry)) (now (packet .entry)) (now (out .entry))) r (now (saved .exit)) (now (mem .exit)) (now (out .exit)) ⌝ }
 {
-    let d = decided(pair, regions, entries, saved, mem.len(), packet, out.len());
+    let d = decided(pair, regions, entries, saved, mem, packet, out);
     let value = apply::change(mem, packet, d);
     apply::keep(saved, pair.saved, d.act, d.psn, value);
     let next = apply::pair_after(pair, d);

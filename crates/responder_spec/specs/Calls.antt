@@ -2,25 +2,13 @@
 use Prim.Native.Nat.{ℕ}
 use mathlib.Core.Bool.{cond}
 use mathlib.Core.List.{List, [], _∷_}
-use Rattle.pair.specs.Calls.{Whole}
+use Rattle.pair.specs.Calls.{Whole, withPair}
 use Rattle.responder_spec.specs.declared.Completion.{Completion}
-use Rattle.responder_spec.specs.Inbound.{inbound, inboundSaved}
 use Rattle.responder_spec.specs.Response.{nextResponse}
-
--- inbound reads regions and entries, and writes the saved atomics
-unfoldable pub received : Whole → List ℕ → List ℕ → List ℕ → Whole
-received w m p out =
-    record {
-      pair = inbound (w .pair) (w .regions) (w .entries) (w .saved) m p out .pair;
-      regions = w .regions;
-      entries = w .entries;
-      saved = inboundSaved (w .pair) (w .regions) (w .entries) (w .saved) m p out;
-    }
 
 -- next response writes none of the tables
 unfoldable pub drained : Whole → List ℕ → List ℕ → Whole
-drained w m out =
-    record { pair = nextResponse (w .pair) m out .pair; regions = w .regions; entries = w .entries; saved = w .saved }
+drained w m out = withPair w (nextResponse (w .pair) m out .pair)
 
 -- what a call reports to the host: one completion or none
 abbrev pub reports : Completion → List Completion

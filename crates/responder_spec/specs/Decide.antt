@@ -27,6 +27,7 @@ use Rattle.pair.specs.Number as Number
 use Rattle.pair.specs.State as State
 use Rattle.pair.specs.Pair.{closed, noMessage}
 use Rattle.pair.specs.Sound.{pairUnsound}
+use Rattle.pair.specs.Calls.{Whole}
 use Rattle.pair.specs.declared.Setup.{Setup}
 use Rattle.pair.specs.declared.OpenMessage.{OpenMessage}
 use Rattle.pair.specs.declared.Pair.{Pair}
@@ -37,6 +38,7 @@ use Rattle.request_spec.specs.Verdict.{carrying, notEnabled, overLimit, keyFail
 use Rattle.request_spec.specs.declared.Packet.{Packet}
 use Rattle.responder_spec.specs.declared.Completion.{Completion}
 use Rattle.responder_spec.specs.declared.Decision.{Decision}
+use Rattle.responder_spec.specs.Arrival.{Arrival}
 use Rattle.responder_spec.specs.Act as Act
 use Rattle.responder_spec.specs.Syndrome as Syndrome
 
@@ -264,11 +266,11 @@ decisionByClass class.Ahead q p entry region saved = aheadDecision (q .nakmark) 
 decisionByClass class.Duplicate q p entry region saved =
     duplicateDecision p (q .setup) (q .expected) (current (q .message) p) region saved
 
-unfoldable pub rcDecision : Pair → List (List ℕ) → List (List ℕ) → List (List ℕ) → Packet → Decision
-rcDecision q regions entries saved p =
-    decisionByClass (psnClass (p .psn .0) (q .expected .0)) q p (headEntry q entries)
-    (regionFor (p .kind) (current (q .message) p .key) regions)
-    (newestSaved (p .psn .0) saved (q .saved))
+unfoldable pub rcDecision : Whole → Packet → Decision
+rcDecision w p =
+    decisionByClass (psnClass (p .psn .0) (w .pair .expected .0)) (w .pair) p (headEntry (w .pair) (w .entries))
+    (regionFor (p .kind) (current (w .pair .message) p .key) (w .regions))
+    (newestSaved (p .psn .0) (w .saved) (w .pair .saved))
 
 -- From here to ucDecision: the unreliable connection, UC.
 
@@ -340,12 +342,12 @@ ucDecision p s expected opened count entry region =
     (ucCheckedDecision (requestCode s (closedBy (p .place) opened) p count entry region) p expected opened entry region))
 
 -- By the service of the pair
-unfoldable pub packetDecision : Pair → List (List ℕ) → List (List ℕ) → List (List ℕ) → Packet → Decision
-packetDecision q regions entries saved p =
-    cond (eqb (q .setup .service) Service.uc)
-    (ucDecision p (q .setup) (q .expected) (q .message) (q .entries .count) (headEntry q entries)
-    (regionFor (p .kind) (current (q .message) p .key) regions))
-    (rcDecision q regions entries saved p)
+unfoldable pub packetDecision : Whole → Packet → Decision
+packetDecision w p =
+    cond (eqb (w .pair .setup .service) Service.uc)
+    (ucDecision p (w .pair .setup) (w .pair .expected) (w .pair .message) (w .pair .entries .count) (headEntry (w .pair) (w .entries))
+    (regionFor (p .kind) (current (w .pair .message) p .key) (w .regions)))
+    (rcDecision w p)
 
 -- A packet whose header does not pass the header checks is dropped at once
 abbrev pub orDrop : HeaderRead → (Header → Decision) → Decision
@@ -365,10 +367,17 @@ inboundRefusal q memory room =
     (cond (pairUnsound q) status.OutOfRange
     (cond (readsFull q) status.ReadUnfinished status.Executed)))
 
--- The decision, by the pair, its three tables, the length of memory, the packet and the room for an answer
-unfoldable pub decided : Pair → List (List ℕ) → List (List ℕ) → List (List ℕ) → ℕ → List ℕ → ℕ → Decision
-decided q regions entries saved memory p room =
-    cond (executed (inboundRefusal q memory room))
-    (orDrop (admitted (q .setup .service) (q .setup .ours) (q .setup .pkey) (eqb (q .state) State.ready) p)
-    (λ h. packetDecision q regions entries saved (packetOf h (length p))))
-    (noReply (inboundRefusal q memory room))
+-- what the header checks of the pair make of the packet
+abbrev pub checkedHeader : Arrival → HeaderRead
+checkedHeader a =
+    admitted (a .whole .pair .setup .service) (a .whole .pair .setup .ours) (a .whole .pair .setup .pkey)
+    (eqb (a .whole .pair .state) State.ready) (a .packet)
+
+abbrev pub refusalOf : Arrival → Status
+refusalOf a = inboundRefusal (a .whole .pair) (length (a .memory)) (length (a .out))
+
+-- The decision
+unfoldable pub decision : Arrival → Decision
+decision a =
+    cond (executed (refusalOf a))
+    (orDrop (checkedHeader a) (λ h. packetDecision (a .whole) (packetOf h (length (a .packet))))) (noReply (refusalOf a))

@@ -1,15 +1,10 @@
 pub mod Act
 pub mod Syndrome
+pub mod Arrival
 pub mod Decide
 pub mod Apply
 pub mod Reply
 pub mod Inbound
 pub mod Response
 pub mod Calls
-pub mod Kept
-pub mod Effects
-pub mod Reads
-pub mod Replies
-pub mod Answers
-pub mod Entries
-pub mod Unreliable
+pub mod Steady

@@ -14,24 +14,25 @@ use Rattle.header.specs.Read.{bthOf, headerOf}
 use Rattle.pair.specs.Answer.{statusNumber}
 use Rattle.pair.specs.Calls.{begun}
 use Rattle.pair.proofs.Kept.{begun-sound, calls-sound}
-use Rattle.request_spec.specs.Packet.{packetOf}
-use Rattle.responder_spec.specs.Decide.{decided, noReply, storePayload}
+use Rattle.request_spec.specs.Packet.{packetOf, packetIn}
+use Rattle.responder_spec.specs.Decide.{decision, noReply, storePayload}
 use Rattle.responder_spec.specs.Apply.{executedPair, pairBy, pairByNumber, readAnswerBy}
 use Rattle.responder_spec.specs.declared.Decision.{Decision}
-use Rattle.responder_spec.proofs.Rows.Quiet.{dropped, short, range, unfinished}
-use Rattle.responder_spec.proofs.Rows.UcRow.{unheard, abandon, deliver}
-use Rattle.responder_spec.proofs.Rows.AnyRow.{reliable, unreliable}
-use Rattle.responder_spec.proofs.Rows.{Quiet, UcRow, AnyRow, numbersOf, decided-row}
-use Rattle.responder_spec.proofs.Sizes.{inbound-lengths}
-use Rattle.responder_spec.proofs.Views.{number-taken}
-use Rattle.responder_spec.proofs.Kept.{steady, inbound-steady, psn-below}
-use Rattle.delivery.specs.Stream.{Message}
-use Rattle.delivery.specs.Demand.{Run, taken, Addressed}
-use Rattle.delivery.proofs.Made.{all-idle, accepted, begun-idle}
+use Rattle.decision_laws.proofs.Rows.Quiet.{dropped, short, range, unfinished}
+use Rattle.decision_laws.proofs.Rows.UcRow.{unheard, abandon, deliver}
+use Rattle.decision_laws.proofs.Rows.AnyRow.{reliable, unreliable}
+use Rattle.decision_laws.proofs.Rows.{Quiet, UcRow, AnyRow, decided-row}
+use Rattle.effect_laws.proofs.Sizes.{inbound-lengths}
+use Rattle.decision_laws.proofs.Views.{number-taken}
+use Rattle.sound_laws.proofs.Kept.{steady, inbound-steady, psn-below}
+use Rattle.delivery_spec.specs.Stream.{Message}
+use Rattle.delivery_spec.proofs.Rel.{stepBy}
+use Rattle.delivery_spec.specs.Demand.{handing, Run, taken, Addressed}
+use Rattle.delivery_spec.proofs.Made.{all-idle, accepted, begun-idle}
 use Rattle.uc_delivery.specs.Message.{StandsMade, Apart, Arrival, heard, AllBytes, Foreign, MayCome, MayComeOn, ApartOn, WholeAfter, PartAfter}
 use Rattle.uc_delivery.proofs.Lost.{kind-open, handed-in-part}
 use Rattle.uc_delivery.proofs.Whole.{handed-whole}
-use Rattle.uc_delivery.proofs.Steps.{carriedOut, taken-is}
+use Rattle.uc_delivery.proofs.Steps.{taken-is}
 
 pub stands-made : StandsMade
 stands-made s regions entries saved calls h uc e l none ready =
@@ -42,12 +43,12 @@ stands-made s regions entries saved calls h uc e l none ready =
 
 module _ (x : Run) (p out : List ℕ) (uc : x .whole .pair .setup .service ≡ 1) where
   abbrev decides : Decision
-  decides = decided (x .whole .pair) (x .whole .regions) (x .whole .entries) (x .whole .saved) (length (x .memory)) p (length out)
+  decides = decision (handing x p out)
 
-  row : UcRow Quiet (x .whole .pair) (numbersOf p) decides
-  row = go (decided-row (x .whole .pair) (x .whole .regions) (x .whole .entries) (x .whole .saved) (length (x .memory)) p (length out))
+  row : UcRow Quiet (x .whole .pair) (packetIn p) decides
+  row = go (decided-row (handing x p out))
     where
-      go : AnyRow Quiet (x .whole .pair) (x .whole .regions) (x .whole .saved) (numbersOf p) decides → UcRow Quiet (x .whole .pair) (numbersOf p) decides
+      go : AnyRow Quiet (x .whole) (packetIn p) decides → UcRow Quiet (x .whole .pair) (packetIn p) decides
       go (reliable e r) = absurd (eqb-false (x .whole .pair .setup .service) 1 e uc)
       go (unreliable e r) = r
 
@@ -60,7 +61,7 @@ module _ (x : Run) (p out : List ℕ) (uc : x .whole .pair .setup .service ≡ 1
     pub next : ((y .whole .pair .message ≡ x .whole .pair .message) × (y .whole .pair .expected ≡ x .whole .pair .expected))
         ⊎ ((y .whole .pair .message .kind ≡ 255) ⊎ (y .whole .pair .expected ≡ psnAfter (bthOf p .psn) 1))
 
-  leaves-by : (d : Decision) → UcRow Quiet (x .whole .pair) (numbersOf p) d → Leaves (carriedOut x d p)
+  leaves-by : (d : Decision) → UcRow Quiet (x .whole .pair) (packetIn p) d → Leaves (stepBy x d p)
   unfolding pairBy pairByNumber statusNumber executedPair noReply storePayload readAnswerBy packetOf headerOf
   leaves-by d (unheard a dropped) = record { setup = refl; state = refl; read = refl; next = inl (refl, refl) }
   leaves-by d (unheard a short) = record { setup = refl; state = refl; read = refl; next = inl (refl, refl) }
@@ -80,13 +81,13 @@ comes-one outs m first x p out B K =
     record {
       standing =
           record {
-            steady = inbound-steady (x .whole) (x .memory) p out (psn-below p B) (S .steady);
+            steady = inbound-steady (handing x p out) (psn-below p B) (S .steady);
             unreliable = ap (λ s. s .service) (l .setup) ∙ S .unreliable;
             ready = l .state ∙ S .ready;
             idle = ap (λ a. a .remaining) (l .read) ∙ S .idle;
           };
       memory =
-          inbound-lengths (x .whole .pair) (x .whole .regions) (x .whole .entries) (x .whole .saved) (x .memory) p out .0
+          inbound-lengths (handing x p out) .0
           ∙ (K .memory ∙ ap (λ s. s .memory) (sym (l .setup)));
       outputs = K .outputs;
       first24 = K .first24;

@@ -6,6 +6,7 @@ use mathlib.Core.List.{[], _∷_}
 use mathlib.Core.Logic.{inl, inr}
 use native.Mathlib.Omega.{arith}
 use lib.ListN.{length, getD, replicate}
+use Rattle.responder_spec.specs.Inbound.{inbound, leftBy}
 use Rattle.header.specs.Check.{pkeysMatch, fullMember}
 use Rattle.header.specs.Read.{otherService}
 use Rattle.pmtu.specs.Pieces.{pmtuFits, pieces}
@@ -23,8 +24,7 @@ use Rattle.cut_spec.specs.declared.Request.{Request}
 use Rattle.cut_spec.specs.declared.Request.the-variants.{Send, SendImmediate, Write, WriteImmediate}
 use Rattle.uc_delivery.specs.Message.{Standing, messagePacket, handed, MayCome, firstWaiting, Unreported}
 use Rattle.uc_delivery.specs.Example.{setup, region, calls, made, message, out, first, fresh, AllFulfilled, Delivered, broken, Interrupted}
-use Rattle.responder_spec.specs.Calls.{received}
-use Rattle.delivery.specs.Demand.{AtLeast, entryOf}
+use Rattle.delivery_spec.specs.Demand.{AtLeast, entryOf}
 use Rattle.uc_delivery.proofs.Before.{stands-made, leaves}
 use Rattle.uc_delivery.proofs.Lost.{comes, handed-in-part}
 use Rattle.uc_delivery.proofs.Whole.{handed-whole}
@@ -119,13 +119,13 @@ comes-broken =
     }
 
 sends-on : broken .whole .pair .setup .send ≡ true
-unfolding broken handed message fresh
+unfolding broken handed inbound leftBy message fresh
 sends-on =
     ap (λ s. s .send) (leaves fresh (messagePacket (message (SendImmediate 77) 600) first 0) (out 0) (all-met .send .comes .standing .unreliable) .setup)
     ∙ all-met .send .allowed
 
 fits-held : AtLeast (firstWaiting (broken .whole) .length) Send 3
-unfolding broken handed received message fresh
+unfolding broken handed inbound leftBy message fresh
 fits-held =
     subst (λ r. 3 ≤ entryOf (getD (fresh .whole .entries) (slotAt (r .head) 0) []) .length) (sym (is-broken .entries)) (all-met .send .supplied .long)
 

@@ -25,29 +25,29 @@ use Rattle.cut_spec.specs.declared.Request.{Request}
 use Rattle.cut_spec.specs.declared.Request.the-variants.{Send, SendImmediate, Write, WriteImmediate, Read, CmpSwap, FetchAdd}
 use Rattle.request_spec.specs.Verdict.{carrying, usesEntry, payloadSize, current, requestCode, expectedCode}
 use Rattle.responder_spec.specs.declared.Decision.{Decision}
-use Rattle.responder_spec.specs.Decide.{decided, regionFor, closedBy, orphaned, strays, completionOf, messageAfter, storePayload, unanswered}
+use Rattle.responder_spec.specs.Decide.{decision, regionFor, closedBy, orphaned, strays, completionOf, messageAfter, storePayload, unanswered}
 use Rattle.responder_spec.specs.Apply.{memoryBy, entriesBy, msnBy}
-use Rattle.responder_spec.specs.Answers.{Willing}
-use Rattle.responder_spec.specs.Kept.{Steady}
+use Rattle.answer_laws.specs.Answers.{Willing}
+use Rattle.responder_spec.specs.Steady.{Steady}
 use Rattle.responder_spec.specs.declared.Completion.{Completion}
-use Rattle.responder_spec.proofs.Views.{current-closed, same-code}
-use Rattle.responder_spec.proofs.Sizes.{inbound-lengths}
-use Rattle.responder_spec.proofs.Kept.{inbound-steady}
+use Rattle.decision_laws.proofs.Views.{current-closed, same-code}
+use Rattle.effect_laws.proofs.Sizes.{inbound-lengths}
+use Rattle.sound_laws.proofs.Kept.{inbound-steady}
 use Rattle.responder_spec.specs.Calls.{reports}
-use Rattle.delivery.specs.Stream.{Message, Slot, packetCount, packetAt}
-use Rattle.delivery.specs.Plain.{takesEntry, needsEntryAt, slotNeedsEntry, isLast, none, completionFor, regionOffset}
-use Rattle.delivery.specs.Demand.{Run, taken, Permitted, AtLeast}
-use Rattle.delivery.proofs.Chain.{Stands}
-use Rattle.delivery.proofs.Cutting.{placeFor, cutPacket, psn-small}
-use Rattle.delivery.proofs.Operands.{addressOf, keyOf, immediateOf}
-use Rattle.delivery.proofs.Rel.{IsOf, Holding, OpenedFor}
-use Rattle.delivery.proofs.Verdicts.{passes}
-use Rattle.delivery.proofs.Fitting.{Suits, and-false}
-use Rattle.delivery.proofs.Checks.{ends-is, says, before, behind, waiting-is}
-use Rattle.delivery.proofs.Entries.{entry-fits}
-use Rattle.delivery.proofs.Requests.{Carries, Sends, Writes, send-carries, send-imm-carries, write-carries, write-imm-carries, send-sends, send-imm-sends, write-writes, write-imm-writes}
-use Rattle.delivery.proofs.Storing.{storing-completes, message-after-more}
-use Rattle.delivery.proofs.InMemory.{in-place, send-memory-is, send-completes, send-long, write-memory-is, write-completes, write-long}
+use Rattle.delivery_spec.specs.Stream.{Message, Slot, packetCount, packetAt}
+use Rattle.delivery_spec.specs.Plain.{takesEntry, needsEntryAt, slotNeedsEntry, isLast, none, completionFor, regionOffset}
+use Rattle.delivery_spec.specs.Demand.{handing, Run, taken, Permitted, AtLeast}
+use Rattle.delivery_spec.proofs.Chain.{Stands}
+use Rattle.delivery_spec.proofs.Cutting.{placeFor, cutPacket, psn-small}
+use Rattle.delivery_spec.proofs.Operands.{addressOf, keyOf, immediateOf}
+use Rattle.delivery_spec.proofs.Rel.{IsOf, Holding, OpenedFor}
+use Rattle.delivery_spec.proofs.Verdicts.{passes}
+use Rattle.delivery_spec.proofs.Fitting.{Suits, and-false}
+use Rattle.delivery_spec.proofs.Checks.{ends-is, says, before, behind, waiting-is}
+use Rattle.delivery_spec.proofs.Entries.{entry-fits}
+use Rattle.delivery_spec.proofs.Requests.{Carries, Sends, Writes, send-carries, send-imm-carries, write-carries, write-imm-carries, send-sends, send-imm-sends, write-writes, write-imm-writes}
+use Rattle.delivery_spec.proofs.Storing.{storing-completes, message-after-more}
+use Rattle.delivery_spec.proofs.InMemory.{in-place, send-memory-is, send-completes, send-long, write-memory-is, write-completes, write-long}
 use Rattle.uc_delivery.specs.Message.{firstWaiting, HasEntry, target}
 use Rattle.uc_delivery.proofs.Steps.{decided-is, taken-is, at, stored-out, delivers}
 
@@ -256,14 +256,14 @@ module _ (w : Whole) (m : Message) (first : Psn) (P : Permitted (w .pair .setup)
     abbrev d : Decision
     d = storePayload (cutPacket (slot i)) M entry region
 
-    W : (out : List ℕ) → 24 ≤ length out → Willing q mem out
+    W : (out : List ℕ) → 24 ≤ length out → Willing (handing x (packetAt t) out)
     W out o = record { room = o; memory = ml; sound = Y .pair; idle = idle }
 
     decides : (out : List ℕ) → 24 ≤ length out
-        → decided q (w .regions) (w .entries) (w .saved) (length mem) (packetAt t) (length out) ≡ unanswered (1 + distance (cutPacket t .psn .0) (E .0)) d
+        → decision (handing x (packetAt t) out) ≡ unanswered (1 + distance (cutPacket t .psn .0) (E .0)) d
     decides out o =
         let c = current-closed u (cutPacket t) in
-        decided-is q (w .regions) (w .entries) (w .saved) mem out (W out o) uc ready t (H .outgoing)
+        decided-is x out t (W out o) uc ready (H .outgoing)
         ∙ (delivers (cutPacket t) (w .pair .setup) E u (w .pair .entries .count) entry (regionFor (kindNumber (m .request)) (current u (cutPacket t) .key) (w .regions))
         (F .orphan) (F .stray) (code-is (current u (cutPacket t)) c) (carries-bytes (m .request) Cr)
         ∙ ap (λ y. unanswered (1 + distance (cutPacket t .psn .0) (E .0)) (storePayload (cutPacket t) y entry (regionFor (kindNumber (m .request)) (y .key) (w .regions)))) (sym c))
@@ -337,7 +337,7 @@ module _ (w : Whole) (m : Message) (first : Psn) (P : Permitted (w .pair .setup)
 
     -- memory keeps its length, and the pair stays steady
     pub kept : (out : List ℕ) → length (taken x (packetAt t) out .memory) ≡ w .pair .setup .memory
-    kept out = inbound-lengths q (w .regions) (w .entries) (w .saved) mem (packetAt t) out .0 ∙ ml
+    kept out = inbound-lengths (handing x (packetAt t) out) .0 ∙ ml
 
     pub steady : (out : List ℕ) → Steady (taken x (packetAt t) out .whole)
-    steady out = inbound-steady (x .whole) mem (packetAt t) out (psn-small (w .pair .setup) f t (H .outgoing)) Y
+    steady out = inbound-steady (handing x (packetAt t) out) (psn-small (w .pair .setup) f t (H .outgoing)) Y

@@ -24,22 +24,23 @@ use Rattle.cut_spec.specs.Claims.{Carrier, InLimit, kindNumber}
 use Rattle.cut_spec.specs.declared.Request.{Request}
 use Rattle.cut_spec.specs.declared.Request.the-variants.{Send, SendImmediate, Write, WriteImmediate, Read, CmpSwap, FetchAdd}
 use Rattle.request_spec.specs.Verdict.{carrying, current, requestCode}
-use Rattle.responder_spec.specs.Decide.{decided, headEntry, regionFor, noReply, orphaned, strays, closedBy, abandoning, completes, completionOf, storePayload, unanswered, ucExecute, ucCheckedDecision, ucDecision}
+use Rattle.responder_spec.specs.Decide.{decision, headEntry, regionFor, noReply, orphaned, strays, closedBy, abandoning, completes, completionOf, storePayload, unanswered, ucExecute, ucCheckedDecision, ucDecision}
 use Rattle.responder_spec.specs.Apply.{executedPair, pairBy, pairByNumber, readAnswerBy, entriesBy, msnBy}
-use Rattle.responder_spec.specs.Inbound.{decision, inbound, outcomeBy}
+use Rattle.responder_spec.specs.Inbound.{inbound, leftBy}
 use Rattle.responder_spec.specs.declared.Decision.{Decision}
-use Rattle.responder_spec.proofs.Views.{number-taken}
-use Rattle.responder_spec.proofs.Ways.{branch}
-use Rattle.responder_spec.proofs.Refusals.{inbound-answered}
-use Rattle.responder_spec.proofs.Sizes.{inbound-lengths}
-use Rattle.responder_spec.proofs.Kept.{inbound-steady}
-use Rattle.delivery.specs.Stream.{Message, Slot, packetCount, packetAt}
-use Rattle.delivery.specs.Demand.{Run, taken, Addressed}
-use Rattle.delivery.proofs.Chain.{Sent}
-use Rattle.delivery.proofs.Cutting.{placeFor, cutPacket, psn-small}
-use Rattle.delivery.proofs.Places.{starts-at, ends-at}
+use Rattle.decision_laws.proofs.Views.{number-taken}
+use Rattle.decision_laws.proofs.Ways.{branch}
+use Rattle.effect_laws.proofs.Refusals.{inbound-answered}
+use Rattle.effect_laws.proofs.Sizes.{inbound-lengths}
+use Rattle.sound_laws.proofs.Kept.{inbound-steady}
+use Rattle.delivery_spec.specs.Stream.{Message, Slot, packetCount, packetAt}
+use Rattle.delivery_spec.proofs.Rel.{stepBy}
+use Rattle.delivery_spec.specs.Demand.{handing, Run, taken, Addressed}
+use Rattle.delivery_spec.proofs.Chain.{Sent}
+use Rattle.delivery_spec.proofs.Cutting.{placeFor, cutPacket, psn-small}
+use Rattle.delivery_spec.proofs.Places.{starts-at, ends-at}
 use Rattle.uc_delivery.specs.Message.{MayCome, Unreported, handed, HandedInPart}
-use Rattle.uc_delivery.proofs.Steps.{decided-is, taken-is, carriedOut}
+use Rattle.uc_delivery.proofs.Steps.{decided-is, taken-is}
 use Rattle.uc_delivery.proofs.Follow.{carries-bytes}
 use Rattle.uc_delivery.proofs.Whole.{packets-counted}
 
@@ -83,19 +84,19 @@ module _ (outs : ℕ → List ℕ) (m : Message) (first : Psn) (x : Run) (K : Ma
       (λ e. branch (Went q t) (eqb (q .message .kind) 255) (λ f. nothing (eqb-true (q .message .kind) 255 f)) (λ f. shut)))))
 
   abbrev decides : Decision
-  decides = decided (x .whole .pair) (x .whole .regions) (x .whole .entries) (x .whole .saved) (length (x .memory)) (packetAt (record { message = m; first = first; index = i })) (length (outs i))
+  decides = decision (handing x (packetAt (record { message = m; first = first; index = i })) (outs i))
 
   is-decided : decides ≡ ucDecision (cutPacket t) (q .setup) (q .expected) (q .message) (q .entries .count) entry region
   is-decided =
-      decided-is q (x .whole .regions) (x .whole .entries) (x .whole .saved) (x .memory) (outs i)
-      (record { room = K .outputs i; memory = K .memory; sound = K .standing .steady .pair; idle = K .standing .idle }) (K .standing .unreliable) (K .standing .ready) t H
+      decided-is x (outs i) t
+      (record { room = K .outputs i; memory = K .memory; sound = K .standing .steady .pair; idle = K .standing .idle }) (K .standing .unreliable) (K .standing .ready) H
 
   -- an entry that calls posted lies in memory
   never-outside : decides ≡ noReply status.OutOfRange → ⊥
-  unfolding inbound outcomeBy decision statusNumber noReply
+  unfolding inbound leftBy decision statusNumber noReply
   never-outside e =
       let a =
-      inbound-answered q (x .whole .regions) (x .whole .entries) (x .whole .saved) (x .memory) (packetAt t) (outs i) (K .outputs i) (K .memory) (K .standing .steady .pair) (K .standing .idle)
+      inbound-answered (handing x (packetAt t) (outs i)) (K .outputs i) (K .memory) (K .standing .steady .pair) (K .standing .idle)
       (K .standing .steady .entries) in
       let b = ap (λ d. statusNumber (d .status)) e in
       omega (arith, a, b)
@@ -106,7 +107,7 @@ module _ (outs : ℕ → List ℕ) (m : Message) (first : Psn) (x : Run) (K : Ma
     state : y .whole .pair .state ≡ x .whole .pair .state
     read : y .whole .pair .read ≡ x .whole .pair .read
 
-  keeps : (d : Decision) → Went q t d → Keeps (carriedOut x d (packetAt t))
+  keeps : (d : Decision) → Went q t d → Keeps (stepBy x d (packetAt t))
   unfolding pairBy pairByNumber statusNumber executedPair noReply storePayload readAnswerBy
   keeps d (nothing e) = record { setup = refl; state = refl; read = refl }
   keeps d shut = record { setup = refl; state = refl; read = refl }
@@ -116,7 +117,7 @@ module _ (outs : ℕ → List ℕ) (m : Message) (first : Psn) (x : Run) (K : Ma
   abbrev left : Run
   left = taken x (packetAt (record { message = m; first = first; index = i })) (outs i)
 
-  left-is : (d : Decision) → decides ≡ d → left ≡ carriedOut x d (packetAt t)
+  left-is : (d : Decision) → decides ≡ d → left ≡ stepBy x d (packetAt t)
   left-is d e = taken-is x (packetAt t) (outs i) d e
 
   pub comes : MayCome outs m first left
@@ -125,12 +126,12 @@ module _ (outs : ℕ → List ℕ) (m : Message) (first : Psn) (x : Run) (K : Ma
       record {
         standing =
             record {
-              steady = inbound-steady (x .whole) (x .memory) (packetAt t) (outs i) (psn-small (x .whole .pair .setup) (K .standing .steady .pair .setup .0) t H) (K .standing .steady);
+              steady = inbound-steady (handing x (packetAt t) (outs i)) (psn-small (x .whole .pair .setup) (K .standing .steady .pair .setup .0) t H) (K .standing .steady);
               unreliable = ap (λ s. s .service) (k .setup) ∙ K .standing .unreliable;
               ready = k .state ∙ K .standing .ready;
               idle = ap (λ a. a .remaining) (k .read) ∙ K .standing .idle;
             };
-        memory = inbound-lengths q (x .whole .regions) (x .whole .entries) (x .whole .saved) (x .memory) (packetAt t) (outs i) .0 ∙ (K .memory ∙ ap (λ s. s .memory) (sym (k .setup)));
+        memory = inbound-lengths (handing x (packetAt t) (outs i)) .0 ∙ (K .memory ∙ ap (λ s. s .memory) (sym (k .setup)));
         outputs = K .outputs;
         first24 = K .first24;
         addressed = subst (λ s. Addressed s m) (sym (k .setup)) (K .addressed);
@@ -139,7 +140,7 @@ module _ (outs : ℕ → List ℕ) (m : Message) (first : Psn) (x : Run) (K : Ma
 
   -- afterwards none is open, or the next packet is expected
   next-is : (d : Decision) → decides ≡ d → Went q t d
-      → (carriedOut x d (packetAt t) .whole .pair .message .kind ≡ 255) ⊎ (carriedOut x d (packetAt t) .whole .pair .expected ≡ psnAfter first (suc i))
+      → (stepBy x d (packetAt t) .whole .pair .message .kind ≡ 255) ⊎ (stepBy x d (packetAt t) .whole .pair .expected ≡ psnAfter first (suc i))
   unfolding pairBy pairByNumber statusNumber executedPair noReply storePayload
   next-is d e (nothing z) = inl z
   next-is d e shut = inl refl
@@ -153,7 +154,7 @@ module _ (outs : ℕ → List ℕ) (m : Message) (first : Psn) (x : Run) (K : Ma
       subst (λ y. (y .whole .pair .message .kind ≡ 255) ⊎ (y .whole .pair .expected ≡ psnAfter first (suc i))) (sym (left-is _ is-decided)) (next-is _ is-decided went)
 
   -- and nothing is reported before the last packet
-  unreported-by : suc i < packetCount m → (d : Decision) → Went q t d → Unreported x (carriedOut x d (packetAt t))
+  unreported-by : suc i < packetCount m → (d : Decision) → Went q t d → Unreported x (stepBy x d (packetAt t))
   unfolding pairBy pairByNumber statusNumber executedPair noReply storePayload completionOf completes msnBy entriesBy
   unreported-by l d (nothing e) = record { completions = append-nil (x .completions); msn = refl; entries = refl }
   unreported-by l d shut = record { completions = append-nil (x .completions); msn = refl; entries = refl }
@@ -170,11 +171,11 @@ module _ (outs : ℕ → List ℕ) (m : Message) (first : Psn) (x : Run) (K : Ma
     pub closed : y .whole .pair .message .kind ≡ 255
     pub unreported : Unreported x y
 
-  gone-quiet : q .message .kind ≡ 255 → Gone (carriedOut x (noReply status.Dropped) (packetAt t))
+  gone-quiet : q .message .kind ≡ 255 → Gone (stepBy x (noReply status.Dropped) (packetAt t))
   unfolding pairBy pairByNumber statusNumber noReply
   gone-quiet e = record { closed = e; unreported = record { completions = append-nil (x .completions); msn = refl; entries = refl } }
 
-  gone-shut : Gone (carriedOut x (noReply status.Abandoned) (packetAt t))
+  gone-shut : Gone (stepBy x (noReply status.Abandoned) (packetAt t))
   unfolding pairBy pairByNumber statusNumber noReply
   gone-shut = record { closed = refl; unreported = record { completions = append-nil (x .completions); msn = refl; entries = refl } }
 

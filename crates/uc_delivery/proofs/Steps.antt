@@ -17,55 +17,44 @@ use Rattle.pair.specs.declared.Pair.{Pair}
 use Rattle.cut_spec.specs.Claims.{kindNumber}
 use Rattle.request_spec.specs.Verdict.{carrying, current, requestCode}
 use Rattle.request_spec.specs.declared.Packet.{Packet}
-use Rattle.responder_spec.specs.Decide.{decided, packetDecision, headEntry, regionFor, orphaned, strays, closedBy, storePayload, unanswered, ucExecute, ucCheckedDecision, ucDecision}
+use Rattle.responder_spec.specs.Decide.{decision, packetDecision, headEntry, regionFor, orphaned, strays, closedBy, storePayload, unanswered, ucExecute, ucCheckedDecision, ucDecision}
 use Rattle.responder_spec.specs.Apply.{executedPair, pairBy, memoryBy, savedBy, savedRingBy, entriesBy, msnBy, readAnswerBy, actsAtomic, pairByNumber}
-use Rattle.responder_spec.specs.Answers.{Willing}
-use Rattle.responder_spec.specs.Calls.{received, reports}
-use Rattle.responder_spec.specs.Inbound.{decision, inbound, inboundMemory, inboundSaved, outcomeBy}
+use Rattle.answer_laws.specs.Answers.{Willing}
+use Rattle.responder_spec.specs.Calls.{reports}
+use Rattle.responder_spec.specs.Inbound.{inbound, leftBy}
 use Rattle.responder_spec.specs.declared.Completion.{Completion}
 use Rattle.responder_spec.specs.declared.Decision.{Decision}
-use Rattle.responder_spec.proofs.Answers.{goes}
-use Rattle.responder_spec.proofs.Views.{number-taken}
-use Rattle.delivery.specs.Stream.{Slot, packetAt}
-use Rattle.delivery.specs.Demand.{Run, taken}
-use Rattle.delivery.proofs.Chain.{Sent}
-use Rattle.delivery.proofs.Cutting.{cutPacket, admits, is-packet}
+use Rattle.answer_laws.proofs.Answers.{goes}
+use Rattle.decision_laws.proofs.Views.{number-taken}
+use Rattle.delivery_spec.specs.Stream.{Slot, packetAt}
+use Rattle.delivery_spec.specs.Demand.{handing, Run, taken}
+use Rattle.delivery_spec.proofs.Chain.{Sent}
+use Rattle.delivery_spec.proofs.Rel.{stepBy}
+use Rattle.delivery_spec.proofs.Cutting.{cutPacket, admits, is-packet}
 
 -- Not refused, the header checks passed: the rules of the unreliable connection decide
-module _ (q : Pair) (regions entries saved : List (List ℕ)) (m out : List ℕ) (W : Willing q m out) (uc : q .setup .service ≡ 1) (ready : q .state ≡ 1)
-    (t : Slot) (H : Sent (q .setup) t) where
-  abbrev pub regionAt : OpenMessage → List ℕ
-  regionAt u = regionFor (kindNumber (t .message .request)) (u .key) regions
+module _ (x : Run) (out : List ℕ) (t : Slot) (W : Willing (handing x (packetAt t) out)) (uc : x .whole .pair .setup .service ≡ 1) (ready : x .whole .pair .state ≡ 1)
+    (H : Sent (x .whole .pair .setup) t) where
+  abbrev q : Pair
+  q = x .whole .pair
 
-  pub decided-is : decided q regions entries saved (length m) (packetAt t) (length out)
-      ≡ ucDecision (cutPacket t) (q .setup) (q .expected) (q .message) (q .entries .count) (headEntry q entries) (regionAt (current (q .message) (cutPacket t)))
-  unfolding decided packetDecision
+  abbrev pub regionAt : OpenMessage → List ℕ
+  regionAt u = regionFor (kindNumber (t .message .request)) (u .key) (x .whole .regions)
+
+  pub decided-is : decision (handing x (packetAt t) out)
+      ≡ ucDecision (cutPacket t) (q .setup) (q .expected) (q .message) (q .entries .count) (headEntry q (x .whole .entries)) (regionAt (current (q .message) (cutPacket t)))
+  unfolding decision packetDecision
   decided-is =
       let f = W .sound .setup .0 in
-      rw (goes q m out W, eq-eqb (q .state) 1 ready, admits (q .setup) f t H)
-      (ap (packetDecision q regions entries saved) (is-packet (q .setup) f t H)
+      rw (goes (handing x (packetAt t) out) W, eq-eqb (q .state) 1 ready, admits (q .setup) f t H)
+      (ap (packetDecision (x .whole)) (is-packet (q .setup) f t H)
       ∙ rw (eq-eqb (q .setup .service) 1 uc))
 
--- the run with a decision carried out
-abbrev pub carriedOut : Run → Decision → List ℕ → Run
-carriedOut x d b =
-    record {
-      whole =
-          record {
-            pair = pairBy (x .whole .pair) d;
-            regions = x .whole .regions;
-            entries = x .whole .entries;
-            saved = savedBy (x .whole .pair .saved) d (x .whole .saved) (x .memory);
-          };
-      memory = memoryBy d (x .memory) b;
-      completions = x .completions ++ reports (d .completion);
-    }
-
 pub taken-is : (x : Run) (p out : List ℕ) (d : Decision)
-    → decided (x .whole .pair) (x .whole .regions) (x .whole .entries) (x .whole .saved) (length (x .memory)) p (length out) ≡ d
-    → taken x p out ≡ carriedOut x d p
-unfolding received inbound inboundMemory inboundSaved decision outcomeBy
-taken-is x p out d e = ap (λ c. carriedOut x c p) e
+    → decision (handing x p out) ≡ d
+    → taken x p out ≡ stepBy x d p
+unfolding inbound leftBy
+taken-is x p out d e = ap (λ c. stepBy x c p) e
 
 -- The run of w, with what a SEND or WRITE moves
 abbrev pub at : Whole → Psn → Msn → Bool → OpenMessage → Ring → List ℕ → List Completion → Run
@@ -97,7 +86,7 @@ at w expected msn nakmark message entries memory completions =
 pub stored-out : (w : Whole) (e : Psn) (n : Msn) (b : Bool) (u : OpenMessage) (r : Ring) (m : List ℕ) (cs : List Completion)
     (p : List ℕ) (k : Packet) (t : OpenMessage) (entry region : List ℕ)
     → let d = storePayload k t entry region in
-    carriedOut (at w e n b u r m cs) (unanswered (1 + distance (k .psn .0) (e .0)) d) p
+    stepBy (at w e n b u r m cs) (unanswered (1 + distance (k .psn .0) (e .0)) d) p
     ≡ at w (psnAfter (k .psn) 1) (msnBy (d .ends) n) false (d .message) (entriesBy (d .completion .some) r) (memoryBy d m p) (cs ++ reports (d .completion))
 unfolding pairBy pairByNumber statusNumber executedPair storePayload readAnswerBy savedRingBy savedBy actsAtomic memoryBy
 stored-out w e n b u r m cs p k t entry region =

@@ -31,14 +31,14 @@ use Rattle.cut_spec.proofs.Shapes.{cut-many}
 use Rattle.request_spec.specs.Verdict.{payloadSize, current}
 use Rattle.responder_spec.specs.Decide.{closedBy, orphaned, strays, messageAfter}
 use Rattle.responder_spec.specs.Apply.{entriesBy, msnBy, ringTaken}
-use Rattle.responder_spec.specs.Kept.{Steady}
+use Rattle.responder_spec.specs.Steady.{Steady}
 use Rattle.responder_spec.specs.declared.Completion.{Completion}
-use Rattle.delivery.specs.Stream.{Message, Slot, packetCount, packetAt}
-use Rattle.delivery.specs.Plain.{takesEntry, isLast, completionFor}
-use Rattle.delivery.specs.Demand.{Run, taken, Addressed, Permitted}
-use Rattle.delivery.proofs.Cutting.{placeFor, cutPacket}
-use Rattle.delivery.proofs.Places.{starts-at}
-use Rattle.delivery.proofs.Rel.{IsOf, OpenedFor}
+use Rattle.delivery_spec.specs.Stream.{Message, Slot, packetCount, packetAt}
+use Rattle.delivery_spec.specs.Plain.{takesEntry, isLast, completionFor}
+use Rattle.delivery_spec.specs.Demand.{Run, taken, Addressed, Permitted}
+use Rattle.delivery_spec.proofs.Cutting.{placeFor, cutPacket}
+use Rattle.delivery_spec.proofs.Places.{starts-at}
+use Rattle.delivery_spec.proofs.Rel.{IsOf, OpenedFor}
 use Rattle.uc_delivery.specs.Message.{Standing, HasEntry, firstWaiting, target, handedAll, handed, HandedWhole}
 use Rattle.uc_delivery.proofs.Steps.{at}
 use Rattle.uc_delivery.proofs.Follow.{holding, holds, heldAt, Follows, steps, more, done, bounded, kept, steady}

@@ -13,9 +13,9 @@ use Rattle.pair.specs.Calls.{Whole, HostCall, begun, calledAll}
 use Rattle.pair.specs.declared.Setup.{Setup}
 use Rattle.cut_spec.specs.declared.Request.{Request}
 use Rattle.cut_spec.specs.declared.Request.the-variants.{Send, SendImmediate, Write, WriteImmediate}
-use Rattle.delivery.specs.Stream.{Message, packetCount}
-use Rattle.delivery.specs.Plain.{answerRoom}
-use Rattle.delivery.specs.Demand.{Run, Allowed}
+use Rattle.delivery_spec.specs.Stream.{Message, packetCount}
+use Rattle.delivery_spec.specs.Plain.{answerRoom}
+use Rattle.delivery_spec.specs.Demand.{Run, Allowed}
 use Rattle.uc_delivery.specs.Message.{MayCome, HasEntry, handed, handedAll, Unreported}
 
 unfoldable pub setup : Setup

@@ -20,11 +20,11 @@ use Rattle.pair.specs.declared.Setup.{Setup}
 use Rattle.cut_spec.specs.Claims.{Carrier, kindNumber}
 use Rattle.cut_spec.specs.declared.Request.{Request}
 use Rattle.cut_spec.specs.declared.Request.the-variants.{Send, SendImmediate, Write, WriteImmediate, Read, CmpSwap, FetchAdd}
-use Rattle.responder_spec.specs.Kept.{Steady}
-use Rattle.delivery.specs.Stream.{Message, packetCount, packetAt}
-use Rattle.delivery.specs.Made.{NoneSetUp}
-use Rattle.delivery.specs.Plain.{answerRoom, takesEntry, completionFor, regionOffset}
-use Rattle.delivery.specs.Demand.{Run, taken, Allowed, Addressed, AtLeast, entryOf}
+use Rattle.responder_spec.specs.Steady.{Steady}
+use Rattle.delivery_spec.specs.Stream.{Message, packetCount, packetAt}
+use Rattle.delivery_spec.specs.Made.{NoneSetUp}
+use Rattle.delivery_spec.specs.Plain.{answerRoom, takesEntry, completionFor, regionOffset}
+use Rattle.delivery_spec.specs.Demand.{Run, taken, Allowed, Addressed, AtLeast, entryOf}
 
 -- A pair of the unreliable connection as calls leave it, Ready. It may have received anything: a message may be open,
 -- and any PSN expected. A READ is never being answered on such a pair.

@@ -7,6 +7,7 @@ use mathlib.Core.Logic.{_⊎_, inl, inr}
 use lib.ListN.{getD, replicate}
 use native.Mathlib.Omega.{arith}
 use borrow.Author.Tests.{leb-false, lt-leb, le-leb, ne-eqb}
+use Rattle.responder_spec.specs.Arrival.{arriving}
 use Rattle.lemmas.proofs.Tests.{or-left, neither}
 use Rattle.pair.specs.declared.Pair.{Pair}
 use Rattle.pair.specs.Answer.{statusNumber}
@@ -16,16 +17,16 @@ use Rattle.pair.specs.Host.{resetTo, resetRegions, madeReady, addStatus, addReg
 use Rattle.pair.proofs.Tests.{tested}
 use Rattle.table.specs.Claims.{RegionsSound}
 use Rattle.responder_spec.specs.declared.Completion.{Completion}
-use Rattle.responder_spec.specs.Inbound.{inbound, inboundMemory, inboundSaved, inboundOut}
+use Rattle.responder_spec.specs.Inbound.{inbound}
 use Rattle.responder_spec.specs.Response.{nextResponse, nextOut}
-use Rattle.responder_spec.specs.Effects.{Silent}
-use Rattle.responder_spec.proofs.Effects.{inbound-table}
+use Rattle.effect_laws.specs.Effects.{Silent}
+use Rattle.effect_laws.proofs.Effects.{inbound-table}
 use Rattle.abi_spec.specs.Pair.{pairOf, pairWords, malformed}
 use Rattle.abi_spec.specs.Rows.{malformedFrom}
 use Rattle.abi_spec.specs.Claims.{PairFields}
 use Rattle.abi_spec.proofs.Laws.{words-accepted, pair-back, others-malformed}
 use Rattle.abi_spec.proofs.Regions.{regions-accepted, rows-tested}
-use Rattle.udalopek_spec.specs.Packets.{names, malformedFor, refused, inboundNumber, inboundWords, inboundRows}
+use Rattle.udalopek_spec.specs.Packets.{inboundOf, names, malformedFor, refused, inboundNumber, inboundWords, inboundRows}
 use Rattle.udalopek_spec.specs.Packets.{inboundBytes, inboundOutput, inboundReport, reportWords, nextNumber}
 use Rattle.udalopek_spec.specs.Packets.{nextWords, nextOutput, nextReport}
 use Rattle.udalopek_spec.specs.Cutting.{requestOf, cutReport}
@@ -55,13 +56,13 @@ pub inbound-keeps : InboundKeeps
 unfolding inboundNumber inboundWords inboundRows inboundBytes inboundOutput inboundReport
 inbound-keeps w regions entries saved m p out h =
     let b = refused w regions p in
-    let t = inbound-table (pairOf w) regions entries saved m p out in (
+    let t = inbound-table (arriving (pairOf w) regions entries saved m p out) in (
       behind b _ w _ (λ e g. ap pairWords (t .quiet g .pair) ∙ sym (words-accepted w (let-through w regions p e))) h,
       behind b _ saved _ (λ e g. t .quiet g .unexecuted .saved) h,
       behind b _ m _ (λ e g. t .quiet g .unexecuted .memory) h,
       behind b _ out _ (λ e g. t .quiet g .out) h,
       behind b _ (replicate 6 0) _
-          (λ e g. ap (λ n. reportWords n (inbound (pairOf w) regions entries saved m p out .completion)) (t .quiet g .outgoing) ∙ silent _ (t .quiet g .unexecuted .completion))
+          (λ e g. ap (λ n. reportWords n (inboundOf w regions entries saved m p out .completion)) (t .quiet g .outgoing) ∙ silent _ (t .quiet g .unexecuted .completion))
           h,
     )
 
@@ -80,12 +81,12 @@ unfolding inboundNumber inboundWords inboundRows inboundBytes inboundOutput inbo
 inbound-is q regions entries saved m p out f r =
     let b = pair-back q f in
     let n : refused (pairWords q) regions p ≡ false = neither (b .1) (ap (λ x. malformedFor regions (x .setup .memory) p) (b .0) ∙ readable q regions p r) in (
-      sym (second _ 34 _ n) ∙ ap (λ x. statusNumber (inbound x regions entries saved m p out .status)) (b .0),
-      sym (second _ _ _ n) ∙ ap (λ x. pairWords (inbound x regions entries saved m p out .pair)) (b .0),
-      sym (second _ _ _ n) ∙ ap (λ x. inboundSaved x regions entries saved m p out) (b .0),
-      sym (second _ _ _ n) ∙ ap (λ x. inboundMemory x regions entries saved m p out) (b .0),
-      sym (second _ _ _ n) ∙ ap (λ x. inboundOut x regions entries saved m p out) (b .0),
-      sym (second _ _ _ n) ∙ ap (λ x. reportWords (inbound x regions entries saved m p out .outgoing) (inbound x regions entries saved m p out .completion)) (b .0),
+      sym (second _ 34 _ n) ∙ ap (λ x. inbound (arriving x regions entries saved m p out) .number) (b .0),
+      sym (second _ _ _ n) ∙ ap (λ x. pairWords (inbound (arriving x regions entries saved m p out) .whole .pair)) (b .0),
+      sym (second _ _ _ n) ∙ ap (λ x. inbound (arriving x regions entries saved m p out) .whole .saved) (b .0),
+      sym (second _ _ _ n) ∙ ap (λ x. inbound (arriving x regions entries saved m p out) .memory) (b .0),
+      sym (second _ _ _ n) ∙ ap (λ x. inbound (arriving x regions entries saved m p out) .out) (b .0),
+      sym (second _ _ _ n) ∙ ap (λ x. reportWords (inbound (arriving x regions entries saved m p out) .outgoing) (inbound (arriving x regions entries saved m p out) .completion)) (b .0),
     )
 
 pub next-is : NextIs

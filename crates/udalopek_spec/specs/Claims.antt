@@ -5,6 +5,7 @@ use mathlib.Core.Bool.{true, false}
 use mathlib.Core.List.{List, [], _∷_}
 use mathlib.Core.Logic.{_⊎_}
 use lib.ListN.{getD, replicate}
+use Rattle.responder_spec.specs.Arrival.{arriving}
 use Rattle.table.specs.Claims.{RegionsSound, Free}
 use Rattle.table.specs.declared.Region.{Region}
 use Rattle.table.specs.declared.Entry.{Entry}
@@ -13,7 +14,7 @@ use Rattle.pair.specs.declared.Pair.{Pair}
 use Rattle.pair.specs.Answer.{statusNumber}
 use Rattle.pair.specs.Claims.{Sound}
 use Rattle.pair.specs.Host.{resetTo, resetRegions, madeReady, addStatus, addRegions, removeStatus, removeRegions, posted, postEntries}
-use Rattle.responder_spec.specs.Inbound.{inbound, inboundMemory, inboundSaved, inboundOut}
+use Rattle.responder_spec.specs.Inbound.{inbound}
 use Rattle.responder_spec.specs.Response.{nextResponse, nextOut}
 use Rattle.responder_spec.specs.declared.Completion.{Completion}
 use Rattle.cut_spec.specs.declared.Request.the-variants.{Send, SendImmediate, Write, WriteImmediate, Read, CmpSwap, FetchAdd}
@@ -97,13 +98,14 @@ Readable q regions p =
 abbrev pub InboundIs : Type 0
 InboundIs =
     (q : Pair) (regions entries saved : List (List ℕ)) (m p out : List ℕ) → PairFields q → Readable q regions p
-    → (inboundNumber (pairWords q) regions entries saved m p out ≡ statusNumber (inbound q regions entries saved m p out .status))
-    × (inboundWords (pairWords q) regions entries saved m p out ≡ pairWords (inbound q regions entries saved m p out .pair))
-    × (inboundRows (pairWords q) regions entries saved m p out ≡ inboundSaved q regions entries saved m p out)
-    × (inboundBytes (pairWords q) regions entries saved m p out ≡ inboundMemory q regions entries saved m p out)
-    × (inboundOutput (pairWords q) regions entries saved m p out ≡ inboundOut q regions entries saved m p out)
+    → let a = arriving q regions entries saved m p out in
+    (inboundNumber (pairWords q) regions entries saved m p out ≡ inbound a .number)
+    × (inboundWords (pairWords q) regions entries saved m p out ≡ pairWords (inbound a .whole .pair))
+    × (inboundRows (pairWords q) regions entries saved m p out ≡ inbound a .whole .saved)
+    × (inboundBytes (pairWords q) regions entries saved m p out ≡ inbound a .memory)
+    × (inboundOutput (pairWords q) regions entries saved m p out ≡ inbound a .out)
     × (inboundReport (pairWords q) regions entries saved m p out
-    ≡ reportWords (inbound q regions entries saved m p out .outgoing) (inbound q regions entries saved m p out .completion))
+    ≡ reportWords (inbound a .outgoing) (inbound a .completion))
 
 abbrev pub NextIs : Type 0
 NextIs =

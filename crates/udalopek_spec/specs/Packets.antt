@@ -5,12 +5,13 @@ use mathlib.Core.Bool.{Bool, false, cond, _||_}
 use mathlib.Core.List.{List, [], _∷_}
 use lib.Dec.{leb}
 use lib.ListN.{getD, replicate}
+use Rattle.responder_spec.specs.Arrival.{Left, arriving}
 use Rattle.opcode.specs.Opcode.{lowOf}
 use Rattle.opcode.specs.Kind as Kind
 use Rattle.header.specs.Refusal as Refusal
 use Rattle.pair.specs.Answer.{statusNumber}
 use Rattle.responder_spec.specs.declared.Completion.{Completion}
-use Rattle.responder_spec.specs.Inbound.{inbound, inboundMemory, inboundSaved, inboundOut}
+use Rattle.responder_spec.specs.Inbound.{inbound}
 use Rattle.responder_spec.specs.Response.{nextResponse, nextOut}
 use Rattle.abi_spec.specs.Pair.{pairOf, pairWords, malformed}
 use Rattle.abi_spec.specs.Rows.{malformedFrom}
@@ -36,25 +37,29 @@ unfoldable pub refused : List ℕ → List (List ℕ) → List ℕ → Bool
 refused w regions p = malformed w || malformedFor regions (pairOf w .setup .memory) p
 
 module _ (w : List ℕ) (regions entries saved : List (List ℕ)) (m p out : List ℕ) where
+  -- what the call of the pair leaves
+  abbrev pub inboundOf : Left
+  inboundOf = inbound (arriving (pairOf w) regions entries saved m p out)
+
   unfoldable pub inboundNumber : ℕ
-  inboundNumber = cond (refused w regions p) Refusal.outOfRange (statusNumber (inbound (pairOf w) regions entries saved m p out .status))
+  inboundNumber = cond (refused w regions p) Refusal.outOfRange (inboundOf .number)
 
   unfoldable pub inboundWords : List ℕ
-  inboundWords = cond (refused w regions p) w (pairWords (inbound (pairOf w) regions entries saved m p out .pair))
+  inboundWords = cond (refused w regions p) w (pairWords (inboundOf .whole .pair))
 
   unfoldable pub inboundRows : List (List ℕ)
-  inboundRows = cond (refused w regions p) saved (inboundSaved (pairOf w) regions entries saved m p out)
+  inboundRows = cond (refused w regions p) saved (inboundOf .whole .saved)
 
   unfoldable pub inboundBytes : List ℕ
-  inboundBytes = cond (refused w regions p) m (inboundMemory (pairOf w) regions entries saved m p out)
+  inboundBytes = cond (refused w regions p) m (inboundOf .memory)
 
   unfoldable pub inboundOutput : List ℕ
-  inboundOutput = cond (refused w regions p) out (inboundOut (pairOf w) regions entries saved m p out)
+  inboundOutput = cond (refused w regions p) out (inboundOf .out)
 
   unfoldable pub inboundReport : List ℕ
   inboundReport =
       cond (refused w regions p) (replicate reportLength 0)
-      (reportWords (inbound (pairOf w) regions entries saved m p out .outgoing) (inbound (pairOf w) regions entries saved m p out .completion))
+      (reportWords (inboundOf .outgoing) (inboundOf .completion))
 
 module _ (w : List ℕ) (m out : List ℕ) where
   unfoldable pub nextNumber : ℕ

@@ -57,7 +57,7 @@ returns-2 c =
     let class = sym (c3 .class-of .ensures) ∙ c1 .enum-told .given .1 in
     simp (← c6 .unformed .ensures, c4 .if1 .left)
     (formed _ _ _ _ (c .decision .ensures) (sym (c6 .unformed .ensures) ∙ c4 .if1 .left)
-    ∙ expected (A .pair) (A .regions .now) (A .entries .now) (A .saved .now) (A .p) (c5 .unreliable .result) (c5 .unreliable .ensures) class)
+    ∙ expected (record { pair = A .pair; regions = A .regions .now; entries = A .entries .now; saved = A .saved .now }) (A .p) (c5 .unreliable .result) (c5 .unreliable .ensures) class)
 
 returns-3 : tie.Need-returns-3
 returns-3 c =
@@ -66,7 +66,7 @@ returns-3 c =
     let A = c6 .before .args in
     let class = sym (c3 .class-of .ensures) ∙ c1 .enum-told2 .given .1 in
     simp (← c6 .unformed .ensures, c4 .if1 .left)
-    (c .ahead .ensures ∙ ahead (A .pair) (A .regions .now) (A .entries .now) (A .saved .now) (A .p) (c5 .unreliable .result) (c5 .unreliable .ensures) class)
+    (c .ahead .ensures ∙ ahead (record { pair = A .pair; regions = A .regions .now; entries = A .entries .now; saved = A .saved .now }) (A .p) (c5 .unreliable .result) (c5 .unreliable .ensures) class)
 
 returns-4 : tie.Need-returns-4
 returns-4 c =
@@ -76,7 +76,7 @@ returns-4 c =
     let class = sym (c3 .class-of .ensures) ∙ c1 .enum-told3 .given .1 in
     simp (← c6 .unformed .ensures, c4 .if1 .left)
     (formed _ _ _ _ (c .answer .ensures) (whole (A .p) (A .pair .setup .timer) (c6 .unformed .result) (c6 .unformed .ensures) (c4 .if1 .left))
-    ∙ duplicate (A .pair) (A .regions .now) (A .entries .now) (A .saved .now) (A .p) (c5 .unreliable .result) (c5 .unreliable .ensures) class)
+    ∙ duplicate (record { pair = A .pair; regions = A .regions .now; entries = A .entries .now; saved = A .saved .now }) (A .p) (c5 .unreliable .result) (c5 .unreliable .ensures) class)
 
 pub decision-spec : {M : Type 1} → statement M
 decision-spec =

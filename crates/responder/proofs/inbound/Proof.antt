@@ -1,3 +1,4 @@
+use Rattle.responder_spec.specs.Arrival.{arriving}
 use Rattle.responder.proofs.Steps.{whole}
 use borrow.Author.Needs.{needs}
 use Rattle.responder.proofs.inbound.Statement.{statement}
@@ -31,10 +32,10 @@ returns : tie.Need-returns
 returns c =
     let c3 = c .before .before .before in let c5 = c3 .before .before in let c6 = c5 .before in
     let c10 = c6 .before .before .before .before in let c12 = c10 .before .before in
-    let A = c12 .before .before .before .before .before .args in
-    whole (A .pair) (A .regions .now) (A .entries .now) (A .saved .now) (A .mem .now) (A .packet .now) (A .out .now)
-    (c12 .decided .result) (c12 .decided .ensures)
-    _ (c10 .change .ensures .1) (c10 .change .result) (c10 .change .ensures .0) _ (c6 .keep .ensures)
+    let A = c12 .before .before .before .before .before .before .before .args in
+    whole (arriving (A .pair) (A .regions .now) (A .entries .now) (A .saved .now) (A .mem .now) (A .packet .now) (A .out .now))
+    (c12 .decided .result) (c12 .decided .ensures) (c10 .change .result) (c10 .change .ensures .0)
+    _ (c10 .change .ensures .1) _ (c6 .keep .ensures)
     (c5 .pair-after .result) (c5 .pair-after .ensures) _ (c3 .write .ensures) (c .outcome-with .result) (c .outcome-with .ensures)
 
 pub inbound-spec : {M : Type 1} → statement M

@@ -1,11 +1,10 @@
 use mathlib.Core.Path.{_≡_, refl, sym, ap, _∙_}
 use mathlib.Core.Bool.{true, false}
-use Rattle.pair.specs.Answer.{statusNumber}
 use Rattle.abi_spec.specs.Pair.{malformed, pairWords}
-use Rattle.responder_spec.specs.Inbound.{inbound, inboundMemory, inboundSaved, inboundOut}
 use Rattle.udalopek_spec.proofs.Steps.{second, first, malformed-by, left-words, refused-words, refused-rows}
 use Rattle.udalopek_spec.specs.Packets.{inboundNumber, inboundWords, inboundRows, inboundBytes, inboundOutput, inboundReport, malformedFor, reportWords}
-use Rattle.responder_spec.specs.Inbound.{inbound, inboundMemory, inboundSaved, inboundOut}
+use Rattle.responder_spec.specs.Arrival.{arriving}
+use Rattle.responder_spec.specs.Inbound.{inbound}
 use borrow.Author.Needs.{needs}
 use Rattle.udalopek.proofs.packets.udalopek_inbound.Statement.{statement}
 use Rattle.udalopek.proofs.packets.udalopek_inbound.Tie as tie
@@ -101,20 +100,20 @@ returns-3 c =
     let r = refused-rows (A .pair .now) (A .regions .now) (A .packet .now) _ p h in
     let l = left-words (A .pair .now) _ _ _ p (c6 .pair-words2 .ensures .0) (c3 .overwrite-words .ensures) in
     let s = ap malformed l ∙ sym (ap malformed (c6 .pair-words2 .ensures .0)) ∙ c6 .pair-words2 .ensures .1 ∙ sym p in
-    let o = c14 .inbound .ensures .0 ∙ ap (λ x. inbound x (A .regions .now) (A .entries .now) (A .saved .now) (A .mem .now) (A .packet .now) (A .out .now)) q in (
-      c .number .ensures ∙ ap (λ x. statusNumber (x .status)) o
+    let o = c14 .inbound .ensures ∙ ap (λ x. inbound (arriving x (A .regions .now) (A .entries .now) (A .saved .now) (A .mem .now) (A .packet .now) (A .out .now))) q in (
+      c .number .ensures ∙ ap (λ x. x .number) o
           ∙ second _ 34 _ r,
       (
-        l ∙ ap (λ x. pairWords (x .pair)) o
+        l ∙ ap (λ x. pairWords (x .whole .pair)) o
             ∙ second _ _ _ r,
         (
-          c14 .inbound .ensures .1 .1 .0 ∙ ap (λ x. inboundSaved x (A .regions .now) (A .entries .now) (A .saved .now) (A .mem .now) (A .packet .now) (A .out .now)) q
+          ap (λ x. x .whole .saved) o
               ∙ second _ _ _ r,
           (
-            c14 .inbound .ensures .1 .0 ∙ ap (λ x. inboundMemory x (A .regions .now) (A .entries .now) (A .saved .now) (A .mem .now) (A .packet .now) (A .out .now)) q
+            ap (λ x. x .memory) o
                 ∙ second _ _ _ r,
             (
-              c14 .inbound .ensures .1 .1 .1 ∙ ap (λ x. inboundOut x (A .regions .now) (A .entries .now) (A .saved .now) (A .mem .now) (A .packet .now) (A .out .now)) q
+              ap (λ x. x .out) o
                   ∙ second _ _ _ r,
               (c8 .report-words .ensures ∙ ap (λ x. reportWords (x .outgoing) (x .completion)) o ∙ second _ _ _ r, s),
             ),

@@ -1,0 +1,1 @@
+// Which answer the responder gives, and where the bytes of a message go.

@@ -1,0 +1,4 @@
+pub mod Stream
+pub mod Plain
+pub mod Demand
+pub mod Made

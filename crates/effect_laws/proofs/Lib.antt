@@ -1,0 +1,4 @@
+pub mod Effects
+pub mod Numbers
+pub mod Sizes
+pub mod Refusals

@@ -1,0 +1,1 @@
+// What each answer of the responder leaves, and which calls are refused.

@@ -1,0 +1,1 @@
+// The responses of a READ as packets.

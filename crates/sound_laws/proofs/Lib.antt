@@ -1,0 +1,4 @@
+pub mod Leads
+pub mod Executes
+pub mod Decisions
+pub mod Kept

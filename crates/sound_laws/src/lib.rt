@@ -1,0 +1,1 @@
+// That the calls of the responder keep a sound pair sound.
