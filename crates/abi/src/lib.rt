@@ -1,6 +1,5 @@
 // A pair and a header as words of 64 bits, the form in which other languages lend and get them.
 mod fields;
-mod rows;
 
 pub use fields::bth_from;
 pub use fields::bth_words;
@@ -10,7 +9,6 @@ use pair::OpenMessage;
 use pair::Pair;
 use pair::ReadAnswer;
 use pair::Setup;
-pub use rows::regions_malformed;
 use sequence::Msn;
 use sequence::Psn;
 use table::Ring;
@@ -20,7 +18,7 @@ ghost use Prim.Native.Nat.{_%_, _^_, _≤_};
 ghost use lib.Dec.{eqb};
 ghost use lib.ListN.{length};
 ghost use Rattle.abi_spec.specs.Words.{flag, eqWords, overwriteWords};
-ghost use Rattle.abi_spec.specs.Pair.{pairLength, setupOf, messageOf, readOf, pairOf, pairWords, malformed};
+ghost use Rattle.abi_spec.specs.Pair.{pairLength, numbersStray, flagsStray, headsStray, fieldsStray, strays, timerSaid, setupSaid, messageOf, readOf, saidBy, pairWords};
 
 // How many words a pair has.
 pub const PAIR: usize = 30;
@@ -41,6 +39,24 @@ pub(crate) fn low32(x: u64) -> u32
     ensures { λ r. ⌜ r ≡ x % 2 ^ 32 ⌝ }
 {
     (x % 4294967296) as u32
+}
+
+fn low1(x: u64) -> u8
+    ensures { λ r. ⌜ r ≡ x % 2 ^ 1 ⌝ }
+{
+    (x % 2) as u8
+}
+
+fn low4(x: u64) -> usize
+    ensures { λ r. ⌜ r ≡ x % 2 ^ 4 ⌝ }
+{
+    (x % 16) as usize
+}
+
+fn low24(x: u64) -> u32
+    ensures { λ r. ⌜ r ≡ x % 2 ^ 24 ⌝ }
+{
+    (x % 16777216) as u32
 }
 
 pub(crate) fn flag(x: u64) -> bool
@@ -90,20 +106,130 @@ pub fn overwrite_words(words: &mut [u64], new: &[u64])
     }
 }
 
-fn setup_of(w: &[u64]) -> Setup
-    requires { ⌜ pairLength ≤ length (now w) ⌝ }
-    ensures { λ r. ⌜ r ≡ setupOf (now (w .entry)) ⌝ }
+// Whether a number of 24 bits is over its range.
+fn numbers_stray(ours: u64, theirs: u64, start: u64, expected: u64, msn: u64) -> bool
+    ensures { λ r. ⌜ r ≡ numbersStray ours theirs start expected msn ⌝ }
 {
-    let start = Psn(low32(w[4]));
+    if 16777216 <= ours {
+        return true;
+    }
+    if 16777216 <= theirs {
+        return true;
+    }
+    if 16777216 <= start {
+        return true;
+    }
+    if 16777216 <= expected {
+        return true;
+    }
+    16777216 <= msn
+}
+
+// Whether the service or a flag is neither 0 nor 1.
+fn flags_stray(service: u64, send: u64, write: u64, read: u64, atomic: u64, nakmark: u64) -> bool
+    ensures { λ r. ⌜ r ≡ flagsStray service send write read atomic nakmark ⌝ }
+{
+    if 1 < service {
+        return true;
+    }
+    if 1 < send {
+        return true;
+    }
+    if 1 < write {
+        return true;
+    }
+    if 1 < read {
+        return true;
+    }
+    if 1 < atomic {
+        return true;
+    }
+    1 < nakmark
+}
+
+// Whether a ring does not begin in one of 16 rows.
+fn heads_stray(entries: u64, saved: u64) -> bool
+    ensures { λ r. ⌜ r ≡ headsStray entries saved ⌝ }
+{
+    if 16 <= entries {
+        return true;
+    }
+    16 <= saved
+}
+
+// Whether one of the others is over its range.
+fn fields_stray(pkey: u64, timer: u64, kind: u64, key: u64, psn: u64, msn: u64, state: u64) -> bool
+    ensures { λ r. ⌜ r ≡ fieldsStray pkey timer kind key psn msn state ⌝ }
+{
+    if 65536 <= pkey {
+        return true;
+    }
+    if 31 < timer {
+        return true;
+    }
+    if 256 <= kind {
+        return true;
+    }
+    if 4294967296 <= key {
+        return true;
+    }
+    if 4294967296 <= psn {
+        return true;
+    }
+    if 4294967296 <= msn {
+        return true;
+    }
+    256 <= state
+}
+
+// Whether words are out of range. The functions above take numbers that are read already: the compiler makes one OR of
+// each range of them, as no read depends on a test.
+pub fn strays(w: &[u64]) -> bool
+    ensures { λ r. ⌜ r ≡ strays (now (w .entry)) ⌝ }
+{
+    if w.len() != PAIR {
+        return true;
+    }
+    let a = numbers_stray(w[2], w[3], w[4], w[26], w[27]);
+    let b = flags_stray(w[6], w[8], w[9], w[10], w[11], w[29]);
+    let c = heads_stray(w[17], w[24]);
+    let d = fields_stray(w[5], w[7], w[12], w[15], w[22], w[23], w[28]);
+    if a {
+        return true;
+    }
+    if b {
+        return true;
+    }
+    if c {
+        return true;
+    }
+    d
+}
+
+// The timer code; words out of range have none that a set-up accepts.
+fn timer_said(stray: bool, timer: u64) -> u8
+    ensures { λ r. ⌜ r ≡ timerSaid stray timer ⌝ }
+{
+    if stray {
+        return 255;
+    }
+    (timer % 32) as u8
+}
+
+fn setup_said(stray: bool, w: &[u64]) -> Setup
+    requires { ⌜ pairLength ≤ length (now w) ⌝ }
+    ensures { λ r. ⌜ r ≡ setupSaid stray (now (w .entry)) ⌝ }
+{
+    let start = Psn(low24(w[4]));
     Setup {
         pmtu: w[0] as usize,
         memory: w[1] as usize,
-        ours: low32(w[2]),
-        theirs: low32(w[3]),
+        ours: low24(w[2]),
+        theirs: low24(w[3]),
         start,
         pkey: low16(w[5]),
-        service: low8(w[6]),
-        timer: low8(w[7]),
+        service: low1(w[6]),
+        timer: timer_said(stray, w[7]),
         send: flag(w[8]),
         write: flag(w[9]),
         read: flag(w[10]),
@@ -139,26 +265,27 @@ fn read_of(w: &[u64]) -> ReadAnswer
     }
 }
 
-// The pair that the words say, each cut to its field; the blank pair where they are too few.
-pub fn pair_of(w: &[u64]) -> Pair
-    ensures { λ r. ⌜ r ≡ pairOf (now (w .entry)) ⌝ }
+// The pair that words say, each modulo its range; the blank pair where they are too few. Whether they are out of range
+// is found first: with that test in it, this function would be too long to be inlined.
+pub fn pair_said(stray: bool, w: &[u64]) -> Pair
+    ensures { λ r. ⌜ r ≡ saidBy stray (now (w .entry)) ⌝ }
 {
     if w.len() < PAIR {
         return host_calls::blank();
     }
-    let setup = setup_of(w);
+    let setup = setup_said(stray, w);
     let message = message_of(w);
     let entries = Ring {
-        head: w[17] as usize,
+        head: low4(w[17]),
         count: w[18] as usize,
     };
     let read = read_of(w);
     let saved = Ring {
-        head: w[24] as usize,
+        head: low4(w[24]),
         count: w[25] as usize,
     };
-    let expected = Psn(low32(w[26]));
-    let msn = Msn(low32(w[27]));
+    let expected = Psn(low24(w[26]));
+    let msn = Msn(low24(w[27]));
     Pair {
         setup,
         message,
@@ -172,10 +299,9 @@ pub fn pair_of(w: &[u64]) -> Pair
     }
 }
 
-// The words of a pair. As every number fits its field, they are not malformed.
+// The words of a pair.
 pub fn pair_words(q: Pair) -> [u64; PAIR]
     ensures { λ r. ⌜ r ≡ pairWords q ⌝ }
-    ensures { λ r. ⌜ malformed r ≡ false ⌝ }
 {
     let s = q.setup;
     let m = q.message;
@@ -219,13 +345,4 @@ pub fn pair_words(q: Pair) -> [u64; PAIR]
         q.state as u64,
         q.nakmark as u64,
     ]
-}
-
-// Whether words are not those of any pair: too few or too many, or one that does not fit its field.
-pub fn malformed(w: &[u64]) -> bool
-    ensures { λ r. ⌜ r ≡ malformed (now (w .entry)) ⌝ }
-{
-    let q = pair_of(w);
-    let own = pair_words(q);
-    !same(w, &own)
 }

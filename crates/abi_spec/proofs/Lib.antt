@@ -1,4 +1,3 @@
 pub mod Lists
 pub mod Laws
-pub mod Regions
 pub mod Headers

@@ -1,5 +1,5 @@
 -- Laws of lists of words.
-use Prim.Native.Nat.{ℕ, zero, suc, _<_, _≤_, _+_, _-_}
+use Prim.Native.Nat.{ℕ, zero, suc, _<_, _≤_}
 use mathlib.Core.Path.{_≡_, refl, ap, _∙_}
 use mathlib.Core.Bool.{Bool, true, false, cond}
 use mathlib.Core.List.{List, [], _∷_, _++_}
@@ -7,7 +7,6 @@ use lib.Dec.{eqb}
 use lib.ListN.{length, take, drop, getD, set}
 use native.Mathlib.Omega.{arith}
 use Rattle.abi_spec.specs.Words.{eqWords}
-use Rattle.abi_spec.specs.Rows.{rowMalformed, malformedFrom}
 
 -- one word more of new over old
 pub overwrite-one : (new old : List ℕ) (i : ℕ) → i < length new → i < length old → set (take i new ++ drop i old) i (getD new i 0) ≡ take (suc i) new ++ drop (suc i) old
@@ -54,26 +53,6 @@ other-length (x ∷ xs) (y ∷ ys) n = ap (λ b. cond (eqb x y) b false) (other-
     either : (b : Bool) → cond b false false ≡ false
     either true = refl
     either false = refl
-
--- of the rows before n, from row i on: the one at hand is malformed, or the rest decides
-module _ (rows : List (List ℕ)) (memory i n : ℕ) (h : i < n) where
-  one-more : n - i ≡ suc (n - suc i)
-  one-more = omega arith
-
-  add-one : i + 1 ≡ suc i
-  add-one = omega arith
-
-  pub malformed-here : rowMalformed (getD rows i []) memory ≡ true → malformedFrom rows memory i (n - i) ≡ true
-  unfolding malformedFrom
-  malformed-here e = rw (one-more, e)
-
-  pub malformed-next : rowMalformed (getD rows i []) memory ≡ false → malformedFrom rows memory i (n - i) ≡ malformedFrom rows memory (i + 1) (n - (i + 1))
-  unfolding malformedFrom
-  malformed-next e = rw (one-more, e) (rw add-one)
-
-pub malformed-end : (rows : List (List ℕ)) (memory i n : ℕ) → n ≤ i → malformedFrom rows memory i (n - i) ≡ false
-unfolding malformedFrom
-malformed-end rows memory i n h = let e : n - i ≡ 0 = omega arith in rw e
 
 -- one word more of the test: equal so far, and here
 pub so-far-next : (ok : Bool) (a b : List ℕ) (i : ℕ) → i < length a → i < length b

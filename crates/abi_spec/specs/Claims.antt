@@ -1,88 +1,91 @@
 -- What is proved of words; the proofs stand in proofs/.
-use Prim.Native.Nat.{ℕ, _+_, _≤_, _<_, _^_}
+use Prim.Native.Nat.{ℕ, _≤_, _<_, _^_}
 use mathlib.Core.Path.{_≡_}
 use mathlib.Core.Bool.{true, false}
-use mathlib.Core.List.{List, []}
-use mathlib.Core.Logic.{_⊎_}
-use lib.ListN.{getD}
+use mathlib.Core.List.{List}
+use lib.ListN.{length, getD}
 use Rattle.header.specs.declared.Bth.{Bth}
 use Rattle.header.specs.declared.Reth.{Reth}
 use Rattle.header.specs.declared.Aeth.{Aeth}
 use Rattle.header.specs.declared.Extension.{Extension}
 use Rattle.header.specs.declared.Extension.the-variants.{Bare, Remote, RemoteImmediate, Immediate, Atomic, Acknowledge, AtomicAcknowledge}
-use Rattle.table.specs.Claims.{RegionsSound, Free}
+use Rattle.pair.specs.Claims.{Sound}
 use Rattle.pair.specs.declared.Setup.{Setup}
 use Rattle.pair.specs.declared.Pair.{Pair}
 use Rattle.abi_spec.specs.Words.{eqWords}
-use Rattle.abi_spec.specs.Pair.{pairOf, pairWords, malformed}
-use Rattle.abi_spec.specs.Rows.{malformedFrom}
+use Rattle.abi_spec.specs.Pair.{pairOf, pairWords, strays}
 use Rattle.abi_spec.specs.Fields.{bthFrom, bthWords, extensionFrom, extensionWords}
 
 -- The test of two lists is equality.
 abbrev pub SameIs : Type 0
 SameIs = (a b : List ℕ) → (eqWords a b ≡ true → a ≡ b) × (a ≡ b → eqWords a b ≡ true)
 
--- Words that are accepted are the words of the pair that they say: what a call does to that pair is all that it does to
--- them.
-abbrev pub WordsAccepted : Type 0
-WordsAccepted = (w : List ℕ) → malformed w ≡ false → w ≡ pairWords (pairOf w)
+-- The words in range, in plain numbers: 30 of them, and of the words that are not listed any number.
+pub record InRange (w : List ℕ) : Type 0 where
+  pub words : length w ≡ 30
+  pub ours : getD w 2 0 < 16777216
+  pub theirs : getD w 3 0 < 16777216
+  pub start : getD w 4 0 < 16777216
+  pub pkey : getD w 5 0 < 65536
+  pub service : getD w 6 0 ≤ 1
+  pub timer : getD w 7 0 ≤ 31
+  pub send : getD w 8 0 ≤ 1
+  pub write : getD w 9 0 ≤ 1
+  pub read : getD w 10 0 ≤ 1
+  pub atomic : getD w 11 0 ≤ 1
+  pub kind : getD w 12 0 < 256
+  pub key : getD w 15 0 < 4294967296
+  pub entries : getD w 17 0 < 16
+  pub psn : getD w 22 0 < 4294967296
+  pub answered : getD w 23 0 < 4294967296
+  pub saved : getD w 24 0 < 16
+  pub expected : getD w 26 0 < 16777216
+  pub msn : getD w 27 0 < 16777216
+  pub state : getD w 28 0 < 256
+  pub nakmark : getD w 29 0 ≤ 1
 
--- Numbers of a pair that fit its fields.
+-- The test is that: words are in range exactly if it finds none that strays.
+abbrev pub RangesTested : Type 0
+RangesTested = (w : List ℕ) → (strays w ≡ false → InRange w) × (InRange w → strays w ≡ false)
+
+-- Words in range are the words of the pair that they say: what a call does to that pair is all that it does to them.
+abbrev pub WordsSaid : Type 0
+WordsSaid = (w : List ℕ) → InRange w → w ≡ pairWords (pairOf w)
+
+-- Words out of range say no sound pair, whatever else they are.
+abbrev pub StrayUnsound : Type 0
+StrayUnsound = (w : List ℕ) → length w ≡ 30 → (InRange w → ⊥) → Sound (pairOf w) → ⊥
+
+-- Numbers of a pair that are in the ranges of their words.
 pub record SetupFields (s : Setup) : Type 0 where
-  pub ours : s .ours < 2 ^ 32
-  pub theirs : s .theirs < 2 ^ 32
-  pub start : s .start .0 < 2 ^ 32
+  pub ours : s .ours < 2 ^ 24
+  pub theirs : s .theirs < 2 ^ 24
+  pub start : s .start .0 < 2 ^ 24
   pub pkey : s .pkey < 2 ^ 16
-  pub service : s .service < 2 ^ 8
-  pub timer : s .timer < 2 ^ 8
+  pub service : s .service < 2
+  pub timer : s .timer < 2 ^ 5
 
 pub record PairFields (q : Pair) : Type 0 where
   pub setup : SetupFields (q .setup)
   pub kind : q .message .kind < 2 ^ 8
   pub key : q .message .key < 2 ^ 32
+  pub entries : q .entries .head < 16
   pub psn : q .read .psn .0 < 2 ^ 32
   pub answered : q .read .msn .0 < 2 ^ 32
-  pub expected : q .expected .0 < 2 ^ 32
-  pub msn : q .msn .0 < 2 ^ 32
+  pub saved : q .saved .head < 16
+  pub expected : q .expected .0 < 2 ^ 24
+  pub msn : q .msn .0 < 2 ^ 24
   pub state : q .state < 2 ^ 8
 
--- Whatever the words, the pair that they say has such numbers. So words that are not those of any such pair are not
--- accepted.
-abbrev pub SaidFits : Type 0
-SaidFits = (w : List ℕ) → PairFields (pairOf w)
-
-abbrev pub OthersMalformed : Type 0
-OthersMalformed = (w : List ℕ) → ((q : Pair) → PairFields q → w ≡ pairWords q → ⊥) → malformed w ≡ true
-
--- The words of a pair say that pair, and are accepted.
+-- The words of a pair say that pair, and are in range.
 abbrev pub PairBack : Type 0
-PairBack = (q : Pair) → PairFields q → (pairOf (pairWords q) ≡ q) × (malformed (pairWords q) ≡ false)
+PairBack = (q : Pair) → PairFields q → (pairOf (pairWords q) ≡ q) × (strays (pairWords q) ≡ false)
 
--- A table of regions that calls made, with keys of 32 bits, has no malformed row; and each row of a table that has none
--- is free or has the numbers of a region in memory.
-abbrev pub RegionsAccepted : Type 0
-RegionsAccepted =
-    (memory : ℕ) (rows : List (List ℕ)) → RegionsSound memory rows → ((i : ℕ) → i < 16 → getD (getD rows i []) 0 0 < 2 ^ 32)
-    → malformedFrom rows memory 0 16 ≡ false
-
-pub record RegionNumbers (memory : ℕ) (row : List ℕ) : Type 0 where
-  pub key : getD row 0 0 < 2 ^ 32
-  pub within : getD row 3 0 + getD row 2 0 ≤ memory
-  pub below : getD row 1 0 + getD row 2 0 < 2 ^ 64
-  pub write : getD row 4 0 ≤ 1
-  pub read : getD row 5 0 ≤ 1
-  pub atomic : getD row 6 0 ≤ 1
-
-abbrev pub RowsKnown : Type 0
-RowsKnown =
-    (memory : ℕ) (rows : List (List ℕ)) → malformedFrom rows memory 0 16 ≡ false
-    → (i : ℕ) → i < 16 → Free (getD rows i []) ⊎ RegionNumbers memory (getD rows i [])
-
--- So one row that is neither makes the table malformed.
-abbrev pub RowsTested : Type 0
-RowsTested =
-    (memory : ℕ) (rows : List (List ℕ)) (i : ℕ) → i < 16 → (Free (getD rows i []) ⊎ RegionNumbers memory (getD rows i []) → ⊥)
-    → malformedFrom rows memory 0 16 ≡ true
+-- Every sound pair has such numbers, if those that soundness leaves open fit their types.
+abbrev pub SoundFits : Type 0
+SoundFits =
+    (q : Pair) → Sound q → q .setup .pkey < 2 ^ 16 → q .message .key < 2 ^ 32 → q .read .psn .0 < 2 ^ 32 → q .read .msn .0 < 2 ^ 32
+    → PairFields q
 
 -- Headers whose numbers fit their fields.
 pub record BthFields (b : Bth) : Type 0 where

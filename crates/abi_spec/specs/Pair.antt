@@ -1,32 +1,76 @@
--- A pair as words: its numbers in the order of its fields.
-use Prim.Native.Nat.{ℕ}
-use mathlib.Core.Bool.{Bool, cond, not}
+-- A pair as words: its numbers in the order of its fields, each in the range that it has in a sound pair.
+use Prim.Native.Nat.{ℕ, _%_, _^_}
+use mathlib.Core.Bool.{Bool, cond, not, _||_}
 use mathlib.Core.List.{List, [], _∷_}
-use lib.Dec.{ltb}
+use lib.Dec.{eqb, ltb, leb}
 use lib.ListN.{length}
+use Rattle.sequence.specs.Sequence.{space, msnSpace}
+use Rattle.header.specs.Bytes.{bit}
+use Rattle.header.specs.Write.{qpnSpace}
 use Rattle.pair.specs.Pair.{blankPair}
+use Rattle.pair.specs.Sound.{timerLimit}
 use Rattle.pair.specs.declared.Setup.{Setup}
 use Rattle.pair.specs.declared.OpenMessage.{OpenMessage}
 use Rattle.pair.specs.declared.ReadAnswer.{ReadAnswer}
 use Rattle.pair.specs.declared.Pair.{Pair}
-use Rattle.header.specs.Bytes.{bit}
-use Rattle.abi_spec.specs.Words.{word, low, flag, eqWords}
+use Rattle.abi_spec.specs.Words.{word, low, flag}
 
 -- how many words a pair has
 abbrev pub pairLength : ℕ
 pairLength = 30
 
-unfoldable pub setupOf : List ℕ → Setup
-setupOf w =
+unfoldable pub otherLength : List ℕ → Bool
+otherLength w = not (eqb (length w) pairLength)
+
+-- Words out of range. Our and their queue pair number, the first PSN, the expected PSN and the MSN have 24 bits
+unfoldable pub numbersStray : ℕ → ℕ → ℕ → ℕ → ℕ → Bool
+numbersStray ours theirs start expected msn =
+    leb qpnSpace ours || (leb qpnSpace theirs || (leb space start || (leb space expected || leb msnSpace msn)))
+
+-- the service and a flag are 0 or 1
+unfoldable pub flagsStray : ℕ → ℕ → ℕ → ℕ → ℕ → ℕ → Bool
+flagsStray service send write read atomic nakmark =
+    ltb 1 service || (ltb 1 send || (ltb 1 write || (ltb 1 read || (ltb 1 atomic || ltb 1 nakmark))))
+
+-- a ring begins in one of 16 rows
+unfoldable pub headsStray : ℕ → ℕ → Bool
+headsStray entries saved = leb 16 entries || leb 16 saved
+
+-- P_Key, timer code, kind and R_Key of the open message, PSN and MSN of the READ being answered, and the state
+unfoldable pub fieldsStray : ℕ → ℕ → ℕ → ℕ → ℕ → ℕ → ℕ → Bool
+fieldsStray pkey timer kind key psn msn state =
+    leb (2 ^ 16) pkey
+    || (ltb timerLimit timer || (leb (2 ^ 8) kind || (leb (2 ^ 32) key || (leb (2 ^ 32) psn || (leb (2 ^ 32) msn || leb (2 ^ 8) state)))))
+
+-- words out of range: not as many as a pair has, or one over its range; the others may be any number of 64 bits
+unfoldable pub strays : List ℕ → Bool
+strays w =
+    otherLength w
+    || (numbersStray (word w 2) (word w 3) (word w 4) (word w 26) (word w 27)
+    || (flagsStray (word w 6) (word w 8) (word w 9) (word w 10) (word w 11) (word w 29)
+    || (headsStray (word w 17) (word w 24)
+    || fieldsStray (word w 5) (word w 7) (word w 12) (word w 15) (word w 22) (word w 23) (word w 28))))
+
+-- Words out of range say a timer code that no set-up accepts: so every call refuses them where it refuses a pair that is
+-- not sound
+abbrev pub noTimer : ℕ
+noTimer = 255
+
+unfoldable pub timerSaid : Bool → ℕ → ℕ
+timerSaid stray timer = cond stray noTimer (timer % 2 ^ 5)
+
+-- the pair that words say, each modulo its range
+unfoldable pub setupSaid : Bool → List ℕ → Setup
+setupSaid stray w =
     record {
       pmtu = word w 0;
       memory = word w 1;
-      ours = low 32 w 2;
-      theirs = low 32 w 3;
-      start = record { 0 = low 32 w 4 };
+      ours = low 24 w 2;
+      theirs = low 24 w 3;
+      start = record { 0 = low 24 w 4 };
       pkey = low 16 w 5;
-      service = low 8 w 6;
-      timer = low 8 w 7;
+      service = low 1 w 6;
+      timer = timerSaid stray (word w 7);
       send = flag (word w 8);
       write = flag (word w 9);
       read = flag (word w 10);
@@ -46,23 +90,26 @@ readOf w =
       msn = record { 0 = low 32 w 23 };
     }
 
-abbrev pub narrowed : List ℕ → Pair
-narrowed w =
+abbrev pub narrowed : Bool → List ℕ → Pair
+narrowed stray w =
     record {
-      setup = setupOf w;
+      setup = setupSaid stray w;
       message = messageOf w;
-      entries = record { head = word w 17; count = word w 18 };
+      entries = record { head = low 4 w 17; count = word w 18 };
       read = readOf w;
-      saved = record { head = word w 24; count = word w 25 };
-      expected = record { 0 = low 32 w 26 };
-      msn = record { 0 = low 32 w 27 };
+      saved = record { head = low 4 w 24; count = word w 25 };
+      expected = record { 0 = low 24 w 26 };
+      msn = record { 0 = low 24 w 27 };
       state = low 8 w 28;
       nakmark = flag (word w 29);
     }
 
--- the pair that words say, each cut to the width of its field; the blank pair where they are too few
+-- the blank pair where they are too few
+unfoldable pub saidBy : Bool → List ℕ → Pair
+saidBy stray w = cond (ltb (length w) pairLength) blankPair (narrowed stray w)
+
 unfoldable pub pairOf : List ℕ → Pair
-pairOf w = cond (ltb (length w) pairLength) blankPair (narrowed w)
+pairOf w = saidBy (strays w) w
 
 unfoldable pub pairWords : Pair → List ℕ
 pairWords q =
@@ -73,7 +120,3 @@ pairWords q =
     ∷ q .read .remaining ∷ q .read .offset ∷ q .read .length ∷ q .read .psn .0 ∷ q .read .msn .0
     ∷ q .saved .head ∷ q .saved .count
     ∷ q .expected .0 ∷ q .msn .0 ∷ q .state ∷ bit (q .nakmark) ∷ []
-
--- words that are not those of a pair: too few or too many, or one does not fit its field
-unfoldable pub malformed : List ℕ → Bool
-malformed w = not (eqWords w (pairWords (pairOf w)))

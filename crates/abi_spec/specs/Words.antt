@@ -12,7 +12,7 @@ word w i = getD w i 0
 abbrev pub low : ℕ → List ℕ → ℕ → ℕ
 low bits w i = word w i % 2 ^ bits
 
--- a flag is 1 or 0; any other word counts as 1, and is then not the flag's own
+-- a flag is 1 or 0; any other word counts as 1
 unfoldable pub flag : ℕ → Bool
 flag x = not (eqb x 0)
 

@@ -1,7 +1,5 @@
-use native.Mathlib.Omega.{arith}
-use Rattle.abi_spec.proofs.Laws.{pair-back}
-use Rattle.abi_spec.specs.Pair.{pairWords}
 use mathlib.Core.Path.{refl}
+use Rattle.abi_spec.specs.Pair.{pairWords}
 use borrow.Author.Needs.{needs}
 use Rattle.abi.proofs.pair_words.Statement.{statement}
 use Rattle.abi.proofs.pair_words.Tie as tie
@@ -62,23 +60,7 @@ cast-t40 c = search needs
 
 returns : tie.Need-returns
 unfolding pairWords
-returns c =
-    let A = let c14 = c .before .before .before .before .before .before .before .before .before .before .before .before .before .before in
-    let c28 = c14 .before .before .before .before .before .before .before .before .before .before .before .before .before .before in c28 .args in
-    let G = let c14 = c .before .before .before .before .before .before .before .before .before .before .before .before .before .before in
-    let c28 = c14 .before .before .before .before .before .before .before .before .before .before .before .before .before .before in c28 .good .0 in (
-      refl,
-      pair-back (A .q) (record {
-        setup = record { ours = omega (arith, G); theirs = omega (arith, G); start = omega (arith, G); pkey = omega (arith, G); service = omega (arith, G); timer = omega (arith, G) };
-        kind = omega (arith, G);
-        key = omega (arith, G);
-        psn = omega (arith, G);
-        answered = omega (arith, G);
-        expected = omega (arith, G);
-        msn = omega (arith, G);
-        state = omega (arith, G);
-      }) .1,
-    )
+returns c = refl
 
 pub pair-words-spec : {M : Type 1} → statement M
 pair-words-spec =
