@@ -1,6 +1,6 @@
 -- A call that is refused leaves all that it was lent.
 use Prim.Native.Nat.{ℕ, _≤_}
-use mathlib.Core.Path.{_≡_, refl, sym, ap, _∙_}
+use mathlib.Core.Path.{_≡_, refl, sym, ap, subst, _∙_}
 use mathlib.Core.Bool.{Bool, true, false, cond}
 use mathlib.Core.List.{List, [], _∷_}
 use native.Mathlib.Omega.{arith}
@@ -8,18 +8,19 @@ use borrow.Author.Tests.{ne-eqb}
 use Rattle.pair.specs.declared.Status.{Status}
 use Rattle.pair.specs.declared.Pair.{Pair}
 use Rattle.pair.specs.Answer.{statusNumber, executed}
+use Rattle.pair.specs.Sound.{pairUnsound}
 use Rattle.pair.specs.Host.{setUp, setUpStatus, setUpRegions, resetTo, resetStatus, resetRegions, madeReady}
 use Rattle.pair.specs.Host.{readyStatus, addStatus, addRegions, removeStatus, removeRegions, posted, postStatus}
 use Rattle.pair.specs.Host.{postEntries}
 use Rattle.responder_spec.specs.Response.{nextResponse, nextOut}
-use Rattle.abi_spec.specs.Pair.{pairOf, pairWords, malformed}
-use Rattle.abi_spec.proofs.Laws.{words-accepted, others-malformed}
+use Rattle.abi_spec.specs.Pair.{otherLength, strays, pairOf, pairWords}
+use Rattle.abi_spec.proofs.Laws.{sound-words}
 use Rattle.udalopek_spec.specs.Packets.{nextNumber, nextWords, nextOutput, nextReport}
-use Rattle.udalopek_spec.specs.Host.{otherLength, unmade, malformedRegions, setUpNumber, setUpWords, setUpTable}
+use Rattle.udalopek_spec.specs.Host.{unmade, setUpNumber, setUpWords, setUpTable}
 use Rattle.udalopek_spec.specs.Host.{resetNumber, resetWords, resetTable, readyNumber, readyWords, addNumber}
 use Rattle.udalopek_spec.specs.Host.{addTable, removeNumber, removeTable, postNumber, postWords, postTable}
-use Rattle.udalopek_spec.specs.Claims.{NextKeeps, SetUpKeeps, ResetKeeps, ReadyKeeps, AddKeeps, RemoveKeeps, PostKeeps, OthersRefused}
-use Rattle.udalopek_spec.proofs.Steps.{first}
+use Rattle.udalopek_spec.specs.Claims.{NextKeeps, SetUpKeeps, ResetKeeps, ReadyKeeps, AddKeeps, RemoveKeeps, PostKeeps}
+use Rattle.udalopek_spec.proofs.Steps.{as-many, counted, own-words}
 
 -- a number from 32 on is not that of a call that is done
 not-done : (s : Status) → 32 ≤ statusNumber s → executed s ≡ false
@@ -36,38 +37,37 @@ kept : {A : Type 0} (s : Status) (x y : A) → 32 ≤ statusNumber s → cond (e
 kept s x y h = ap (λ b. cond b y x) (not-done s h)
 
 -- the words of the pair that words say, where it is as it was
-words-kept : (w : List ℕ) (s : Status) (q : Pair) → malformed w ≡ false → 32 ≤ statusNumber s → pairWords (cond (executed s) q (pairOf w)) ≡ w
-words-kept w s q e h = ap pairWords (kept s (pairOf w) q h) ∙ sym (words-accepted w e)
+words-kept : (w : List ℕ) (s : Status) (q : Pair) → 32 ≤ cond (otherLength w) 34 (statusNumber s) → cond (strays w) w (pairWords (cond (executed s) q (pairOf w))) ≡ w
+words-kept w s q h = go (strays w) refl
+  where
+    go : (b : Bool) → strays w ≡ b → cond b w (pairWords (cond (executed s) q (pairOf w))) ≡ w
+    go true e = refl
+    go false e = ap pairWords (kept s (pairOf w) q (subst (λ b. 32 ≤ cond b 34 (statusNumber s)) (as-many w e) h)) ∙ sym (own-words w e)
 
 pub post-keeps : PostKeeps
 unfolding postNumber postWords postTable posted postEntries
-post-keeps w rows e h = (
-  behind (malformed w) _ w _ (λ b g. words-kept w (postStatus (pairOf w) e) _ b g) h,
-  behind (malformed w) _ rows _ (λ b g. kept (postStatus (pairOf w) e) rows _ g) h,
-)
+post-keeps w rows e h = (words-kept w (postStatus (pairOf w) e) _ h, behind (otherLength w) _ rows _ (λ b g. kept (postStatus (pairOf w) e) rows _ g) h)
 
 pub ready-keeps : ReadyKeeps
 unfolding readyNumber readyWords madeReady
-ready-keeps w h = behind (malformed w) _ w _ (λ b g. words-kept w (readyStatus (pairOf w)) _ b g) h
+ready-keeps w h = words-kept w (readyStatus (pairOf w)) _ h
 
 pub reset-keeps : ResetKeeps
-unfolding resetNumber resetWords resetTable resetTo resetRegions
+unfolding resetNumber resetWords resetTable unmade resetTo resetRegions
 reset-keeps w rows h = (
-  behind (malformed w) _ w _ (λ b g. behind (unmade w) _ w _ (λ c k. words-kept w (resetStatus (pairOf w)) _ b k) g) h,
-  behind (malformed w) _ rows _ (λ b g. behind (unmade w) _ rows _ (λ c k. kept (resetStatus (pairOf w)) rows _ k) g) h,
+  behind (otherLength w) _ w _
+      (λ b g. behind (pairUnsound (pairOf w)) _ w _ (λ c k. ap pairWords (kept (resetStatus (pairOf w)) (pairOf w) _ k) ∙ sym (own-words w (sound-words w (counted w b) c))) g)
+      h,
+  behind (otherLength w) _ rows _ (λ b g. behind (pairUnsound (pairOf w)) _ rows _ (λ c k. kept (resetStatus (pairOf w)) rows _ k) g) h,
 )
 
 pub add-keeps : AddKeeps
 unfolding addNumber addTable addRegions
-add-keeps w rows r h =
-    behind (malformed w) _ rows _ (λ b g. behind (malformedRegions w rows) _ rows _ (λ c k. kept (addStatus (pairOf w) rows r) rows _ k) g) h
+add-keeps w rows r h = behind (otherLength w) _ rows _ (λ b g. kept (addStatus (pairOf w) rows r) rows _ g) h
 
 pub remove-keeps : RemoveKeeps
 unfolding removeNumber removeTable removeRegions
-remove-keeps w rows key h =
-    behind (malformed w) _ rows _
-    (λ b g. behind (unmade w) _ rows _ (λ c k. behind (malformedRegions w rows) _ rows _ (λ d l. kept (removeStatus rows key) rows _ l) k) g)
-    h
+remove-keeps w rows key h = behind (otherLength w) _ rows _ (λ b g. kept (removeStatus rows key) rows _ g) h
 
 pub set-up-keeps : SetUpKeeps
 unfolding setUpNumber setUpWords setUpTable setUp setUpRegions
@@ -79,19 +79,7 @@ set-up-keeps w rows s h = (
 pub next-keeps : NextKeeps
 unfolding nextNumber nextWords nextOutput nextReport nextResponse nextOut
 next-keeps w m out h = (
-  behind (malformed w) _ w _ (λ b g. words-kept w _ _ b g) h,
-  behind (malformed w) _ out _ (λ b g. kept _ out _ g) h,
-  behind (malformed w) _ (0 ∷ []) _ (λ b g. ap (λ n. n ∷ []) (kept _ 0 _ g)) h,
+  words-kept w _ _ h,
+  behind (otherLength w) _ out _ (λ b g. kept _ out _ g) h,
+  behind (otherLength w) _ (0 ∷ []) _ (λ b g. ap (λ n. n ∷ []) (kept _ 0 _ g)) h,
 )
-
-pub others-refused : OthersRefused
-unfolding nextNumber resetNumber readyNumber addNumber removeNumber postNumber
-others-refused w m out rows r key e n =
-    let s = others-malformed w n in (
-      sym (first (malformed w) 34 _ s),
-      sym (first (malformed w) 34 _ s),
-      sym (first (malformed w) 34 _ s),
-      sym (first (malformed w) 34 _ s),
-      sym (first (malformed w) 34 _ s),
-      sym (first (malformed w) 34 _ s),
-    )

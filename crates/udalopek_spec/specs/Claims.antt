@@ -1,12 +1,11 @@
 -- What is proved of the exported calls; the proofs stand in proofs/.
-use Prim.Native.Nat.{ℕ, _%_, _≤_, _<_, _^_}
+use Prim.Native.Nat.{ℕ, _+_, _%_, _≤_, _<_}
 use mathlib.Core.Path.{_≡_}
 use mathlib.Core.Bool.{true, false}
 use mathlib.Core.List.{List, [], _∷_}
 use mathlib.Core.Logic.{_⊎_}
-use lib.ListN.{getD, replicate}
+use lib.ListN.{length, getD, replicate}
 use Rattle.responder_spec.specs.Arrival.{arriving}
-use Rattle.table.specs.Claims.{RegionsSound, Free}
 use Rattle.table.specs.declared.Region.{Region}
 use Rattle.table.specs.declared.Entry.{Entry}
 use Rattle.pair.specs.declared.Setup.{Setup}
@@ -18,9 +17,9 @@ use Rattle.responder_spec.specs.Inbound.{inbound}
 use Rattle.responder_spec.specs.Response.{nextResponse, nextOut}
 use Rattle.responder_spec.specs.declared.Completion.{Completion}
 use Rattle.cut_spec.specs.declared.Request.the-variants.{Send, SendImmediate, Write, WriteImmediate, Read, CmpSwap, FetchAdd}
-use Rattle.abi_spec.specs.Pair.{pairOf, pairWords}
-use Rattle.abi_spec.specs.Claims.{PairFields, RegionNumbers}
-use Rattle.udalopek_spec.specs.Packets.{names, inboundNumber, inboundWords, inboundRows, inboundBytes, inboundOutput, inboundReport, reportWords, nextNumber, nextWords, nextOutput, nextReport}
+use Rattle.abi_spec.specs.Pair.{pairWords}
+use Rattle.abi_spec.specs.Claims.{InRange, PairFields}
+use Rattle.udalopek_spec.specs.Packets.{inboundNumber, inboundWords, inboundRows, inboundBytes, inboundOutput, inboundReport, reportWords, nextNumber, nextWords, nextOutput, nextReport}
 use Rattle.udalopek_spec.specs.Cutting.{requestOf, cutReport}
 use Rattle.udalopek_spec.specs.Host.{setUpNumber, setUpWords, setUpTable, resetNumber, resetWords, resetTable, readyNumber}
 use Rattle.udalopek_spec.specs.Host.{readyWords, addNumber, addTable, removeNumber, removeTable, postNumber, postWords, postTable}
@@ -62,42 +61,35 @@ abbrev pub PostKeeps : Type 0
 PostKeeps =
     (w : List ℕ) (rows : List (List ℕ)) (e : Entry) → 32 ≤ postNumber w e → (postWords w e ≡ w) × (postTable w rows e ≡ rows)
 
--- Which packets may name a region, in plain numbers: all but those of SEND, whose opcodes are 0 to 5.
-abbrev pub NamesNone : Type 0
-NamesNone = (p : List ℕ) → (names p ≡ false → getD p 0 0 % 32 ≤ 5) × (getD p 0 0 % 32 ≤ 5 → names p ≡ false)
+-- Another number of words than 30 is refused by every call, before all else.
+abbrev pub LengthRefused : Type 0
+LengthRefused =
+    (w m p out : List ℕ) (rows entries saved : List (List ℕ)) (s : Setup) (r : Region) (key : ℕ) (e : Entry) → (length w ≡ 30 → ⊥)
+    → (inboundNumber w rows entries saved m p out ≡ 34) × (nextNumber w m out ≡ 34) × (setUpNumber w s ≡ 34) × (resetNumber w ≡ 34)
+    × (readyNumber w ≡ 34) × (addNumber w rows r ≡ 34) × (removeNumber w rows key ≡ 34) × (postNumber w e ≡ 34)
 
--- Words that are not those of a pair are refused, and so is a row that is neither free nor a region's.
+-- A word out of its range is refused where the order of checks has 34: inbound after 35,
 abbrev pub WordsRefused : Type 0
 WordsRefused =
-    (w : List ℕ) (regions entries saved : List (List ℕ)) (m p out : List ℕ)
-    → ((q : Pair) → PairFields q → w ≡ pairWords q → ⊥)
-    → inboundNumber w regions entries saved m p out ≡ 34
+    (w : List ℕ) (regions entries saved : List (List ℕ)) (m p out : List ℕ) → length w ≡ 30 → (InRange w → ⊥)
+    → (24 ≤ length out → inboundNumber w regions entries saved m p out ≡ 34)
+    × (length out < 24 → inboundNumber w regions entries saved m p out ≡ 35)
 
+-- next response after 36 and 35, make ready, add region and post entry after 36, by the numbers that the words say, and
+-- reset at once. Remove region does not look at the words.
 abbrev pub OthersRefused : Type 0
 OthersRefused =
-    (w m out : List ℕ) (rows : List (List ℕ)) (r : Region) (key : ℕ) (e : Entry)
-    → ((q : Pair) → PairFields q → w ≡ pairWords q → ⊥)
-    → (nextNumber w m out ≡ 34) × (resetNumber w ≡ 34) × (readyNumber w ≡ 34) × (addNumber w rows r ≡ 34)
-    × (removeNumber w rows key ≡ 34) × (postNumber w e ≡ 34)
-
-abbrev pub RowRefused : Type 0
-RowRefused =
-    (w : List ℕ) (regions entries saved : List (List ℕ)) (m p out : List ℕ) (i : ℕ) → i < 16 → 6 ≤ getD p 0 0 % 32
-    → (Free (getD regions i []) ⊎ RegionNumbers (pairOf w .setup .memory) (getD regions i []) → ⊥)
-    → inboundNumber w regions entries saved m p out ≡ 34
-
--- A table of regions that calls made, with keys of 32 bits; a packet of a SEND looks at none.
-abbrev pub Keyed : List (List ℕ) → Type 0
-Keyed rows = (i : ℕ) → i < 16 → getD (getD rows i []) 0 0 < 2 ^ 32
-
-abbrev pub Readable : Pair → List (List ℕ) → List ℕ → Type 0
-Readable q regions p =
-    (names p ≡ false) ⊎ (RegionsSound (q .setup .memory) regions × Keyed regions)
+    (w m out : List ℕ) (rows : List (List ℕ)) (r : Region) (e : Entry) → length w ≡ 30 → (InRange w → ⊥)
+    → ((getD w 19 0 ≡ 0 → ⊥) → 16 + getD w 0 0 ≤ length out → nextNumber w m out ≡ 34)
+    × (resetNumber w ≡ 34)
+    × (getD w 28 0 % 256 ≡ 0 → readyNumber w ≡ 34)
+    × ((getD w 28 0 % 256 ≡ 2 → ⊥) → addNumber w rows r ≡ 34)
+    × ((getD w 28 0 % 256 ≡ 2 → ⊥) → postNumber w e ≡ 34)
 
 -- On the words of a pair the calls are those of the pair: whatever is proved of these holds of the exported ones.
 abbrev pub InboundIs : Type 0
 InboundIs =
-    (q : Pair) (regions entries saved : List (List ℕ)) (m p out : List ℕ) → PairFields q → Readable q regions p
+    (q : Pair) (regions entries saved : List (List ℕ)) (m p out : List ℕ) → PairFields q
     → let a = arriving q regions entries saved m p out in
     (inboundNumber (pairWords q) regions entries saved m p out ≡ inbound a .number)
     × (inboundWords (pairWords q) regions entries saved m p out ≡ pairWords (inbound a .whole .pair))
@@ -137,15 +129,15 @@ ResetIs =
 
 abbrev pub AddIs : Type 0
 AddIs =
-    (q : Pair) (rows : List (List ℕ)) (r : Region) → PairFields q → RegionsSound (q .setup .memory) rows → Keyed rows
+    (q : Pair) (rows : List (List ℕ)) (r : Region) → PairFields q
     → (addNumber (pairWords q) rows r ≡ statusNumber (addStatus q rows r))
     × (addTable (pairWords q) rows r ≡ addRegions q rows r)
 
 abbrev pub RemoveIs : Type 0
 RemoveIs =
-    (q : Pair) (rows : List (List ℕ)) (key : ℕ) → PairFields q → Sound q → RegionsSound (q .setup .memory) rows → Keyed rows
-    → (removeNumber (pairWords q) rows key ≡ statusNumber (removeStatus rows key))
-    × (removeTable (pairWords q) rows key ≡ removeRegions rows key)
+    (w : List ℕ) (rows : List (List ℕ)) (key : ℕ) → length w ≡ 30
+    → (removeNumber w rows key ≡ statusNumber (removeStatus rows key))
+    × (removeTable w rows key ≡ removeRegions rows key)
 
 -- The report to the host, word by word, listed here once more and not by the definition under test; so are the kinds of
 -- a cut and what a cut reports.
