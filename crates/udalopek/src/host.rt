@@ -1,4 +1,5 @@
 // The calls of a host, on words that are lent.
+use crate::left;
 use pair::Pair;
 use pair::Setup;
 use pair::Status;
@@ -8,15 +9,13 @@ use table::Region;
 ghost use mathlib.Core.Path.{_≡_};
 ghost use Rattle.pair.specs.Answer.{statusNumber};
 ghost use Rattle.abi_spec.specs.Words.{overwriteWords};
-ghost use mathlib.Core.Bool.{false};
-ghost use Rattle.abi_spec.specs.Pair.{pairWords, malformed};
+ghost use Rattle.abi_spec.specs.Pair.{pairWords};
 ghost use Rattle.udalopek_spec.specs.Host.{setUpNumber, setUpWords, setUpTable, resetNumber, resetWords, resetTable, readyNumber, readyWords, addNumber, addTable, removeNumber, removeTable, postNumber, postWords, postTable};
 
 // Writes a pair over its words, and answers a number.
 pub(crate) fn leave(pair: &mut [u64], q: Pair, status: Status) -> u8
     ensures { λ r. ⌜ r ≡ statusNumber status ⌝ }
     ensures { λ r. ⌜ now (pair .exit) ≡ overwriteWords (now (pair .entry)) (pairWords q) ⌝ }
-    ensures { λ r. ⌜ malformed (pairWords q) ≡ false ⌝ }
 {
     let next = abi::pair_words(q);
     abi::overwrite_words(pair, &next);
@@ -44,7 +43,6 @@ pub extern "C" fn udalopek_set_up(
     ensures { λ r. ⌜ r ≡ setUpNumber (now (pair .entry)) (record { pmtu = pmtu; memory = memory; ours = ours; theirs = theirs; start = record { 0 = start }; pkey = pkey; service = service; timer = timer; send = send; write = write; read = read; atomic = atomic }) ⌝ }
     ensures { λ r. ⌜ now (pair .exit) ≡ setUpWords (now (pair .entry)) (record { pmtu = pmtu; memory = memory; ours = ours; theirs = theirs; start = record { 0 = start }; pkey = pkey; service = service; timer = timer; send = send; write = write; read = read; atomic = atomic }) ⌝ }
     ensures { λ r. ⌜ now (regions .exit) ≡ setUpTable (now (pair .entry)) (now (regions .entry)) (record { pmtu = pmtu; memory = memory; ours = ours; theirs = theirs; start = record { 0 = start }; pkey = pkey; service = service; timer = timer; send = send; write = write; read = read; atomic = atomic }) ⌝ }
-    ensures { λ r. ⌜ (r ≡ 0 → malformed (now (pair .exit)) ≡ false) ⌝ }
 {
     if pair.len() != abi::PAIR {
         return header::OUT_OF_RANGE;
@@ -80,20 +78,23 @@ pub extern "C" fn udalopek_reset(pair: &mut [u64], regions: &mut [[u64; 7]; 16])
     ensures { λ r. ⌜ r ≡ resetNumber (now (pair .entry)) ⌝ }
     ensures { λ r. ⌜ now (pair .exit) ≡ resetWords (now (pair .entry)) ⌝ }
     ensures { λ r. ⌜ now (regions .exit) ≡ resetTable (now (pair .entry)) (now (regions .entry)) ⌝ }
-    ensures { λ r. ⌜ malformed (now (pair .exit)) ≡ malformed (now (pair .entry)) ⌝ }
 {
-    let bad = abi::malformed(pair);
-    if bad {
+    if pair.len() != abi::PAIR {
         return header::OUT_OF_RANGE;
     }
-    let q = abi::pair_of(pair);
+    let stray = abi::strays(pair);
+    let q = abi::pair_said(stray, pair);
     let unsound = host_calls::sound::unsound(q);
     if unsound {
         return header::OUT_OF_RANGE;
     }
     let left = host_calls::reset(q, regions);
-    let q = left.pair;
     let status = left.status;
+    let number = status.number();
+    if number != 0 {
+        return number;
+    }
+    let q = left.pair;
     leave(pair, q, status)
 }
 
@@ -102,16 +103,19 @@ pub extern "C" fn udalopek_reset(pair: &mut [u64], regions: &mut [[u64; 7]; 16])
 pub extern "C" fn udalopek_make_ready(pair: &mut [u64]) -> u8
     ensures { λ r. ⌜ r ≡ readyNumber (now (pair .entry)) ⌝ }
     ensures { λ r. ⌜ now (pair .exit) ≡ readyWords (now (pair .entry)) ⌝ }
-    ensures { λ r. ⌜ malformed (now (pair .exit)) ≡ malformed (now (pair .entry)) ⌝ }
 {
-    let bad = abi::malformed(pair);
-    if bad {
+    if pair.len() != abi::PAIR {
         return header::OUT_OF_RANGE;
     }
-    let q = abi::pair_of(pair);
+    let stray = abi::strays(pair);
+    let q = abi::pair_said(stray, pair);
     let left = host_calls::make_ready(q);
-    let q = left.pair;
     let status = left.status;
+    let number = status.number();
+    if number != 0 {
+        return number;
+    }
+    let q = left.pair;
     leave(pair, q, status)
 }
 
@@ -131,15 +135,11 @@ pub extern "C" fn udalopek_add_region(
     ensures { λ r. ⌜ r ≡ addNumber (now (pair .entry)) (now (regions .entry)) (record { key = key; address = address; length = length; offset = offset; write = write; read = read; atomic = atomic }) ⌝ }
     ensures { λ r. ⌜ now (regions .exit) ≡ addTable (now (pair .entry)) (now (regions .entry)) (record { key = key; address = address; length = length; offset = offset; write = write; read = read; atomic = atomic }) ⌝ }
 {
-    let bad = abi::malformed(pair);
-    if bad {
+    if pair.len() != abi::PAIR {
         return header::OUT_OF_RANGE;
     }
-    let q = abi::pair_of(pair);
-    let malformed = abi::regions_malformed(regions, number::usize_to_u64(q.setup.memory));
-    if malformed {
-        return header::OUT_OF_RANGE;
-    }
+    let stray = abi::strays(pair);
+    let q = abi::pair_said(stray, pair);
     let region = Region {
         key,
         address,
@@ -159,17 +159,7 @@ pub extern "C" fn udalopek_remove_region(pair: &[u64], regions: &mut [[u64; 7]; 
     ensures { λ r. ⌜ r ≡ removeNumber (now (pair .entry)) (now (regions .entry)) key ⌝ }
     ensures { λ r. ⌜ now (regions .exit) ≡ removeTable (now (pair .entry)) (now (regions .entry)) key ⌝ }
 {
-    let bad = abi::malformed(pair);
-    if bad {
-        return header::OUT_OF_RANGE;
-    }
-    let q = abi::pair_of(pair);
-    let unsound = host_calls::sound::unsound(q);
-    if unsound {
-        return header::OUT_OF_RANGE;
-    }
-    let malformed = abi::regions_malformed(regions, number::usize_to_u64(q.setup.memory));
-    if malformed {
+    if pair.len() != abi::PAIR {
         return header::OUT_OF_RANGE;
     }
     let status = host_calls::remove_region(regions, key);
@@ -188,23 +178,25 @@ pub extern "C" fn udalopek_post_entry(
     ensures { λ r. ⌜ r ≡ postNumber (now (pair .entry)) (record { number = number; offset = offset; length = length }) ⌝ }
     ensures { λ r. ⌜ now (pair .exit) ≡ postWords (now (pair .entry)) (record { number = number; offset = offset; length = length }) ⌝ }
     ensures { λ r. ⌜ now (entries .exit) ≡ postTable (now (pair .entry)) (now (entries .entry)) (record { number = number; offset = offset; length = length }) ⌝ }
-    ensures { λ r. ⌜ malformed (now (pair .exit)) ≡ malformed (now (pair .entry)) ⌝ }
 {
-    let q = abi::pair_of(pair);
-    let own = abi::pair_words(q);
-    let same = abi::same(pair, &own);
-    if !same {
+    if pair.len() != abi::PAIR {
         return header::OUT_OF_RANGE;
     }
+    let stray = abi::strays(pair);
+    let q = abi::pair_said(stray, pair);
     let entry = Entry {
         number,
         offset,
         length,
     };
-    let left = host_calls::post_entry(q, entries, entry);
-    let after = left.pair;
-    let status = left.status;
-    let next = abi::pair_words(after);
-    abi::overwrite_words(pair, &next);
-    status.number()
+    let posted = host_calls::post_entry(q, entries, entry);
+    let status = posted.status;
+    let answer = status.number();
+    if answer != 0 {
+        return answer;
+    }
+    let after = posted.pair;
+    let ring = after.entries;
+    left::put_entries(pair, ring);
+    answer
 }

@@ -2,5 +2,6 @@
 // Every function answers a number of the rules, and reports the rest through what it is lent.
 mod headers;
 mod host;
+mod left;
 mod messages;
 mod packets;

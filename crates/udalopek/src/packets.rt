@@ -1,29 +1,8 @@
 // The calls of a responder, on words that are lent.
+use crate::left;
 use responder_spec::Completion;
 ghost use mathlib.Core.Path.{_≡_};
-ghost use Rattle.abi_spec.specs.Pair.{malformed};
-ghost use Rattle.udalopek_spec.specs.Packets.{names, malformedFor, inboundNumber, inboundWords, inboundRows, inboundBytes, inboundOutput, inboundReport, reportWords, nextNumber, nextWords, nextOutput, nextReport};
-
-// Whether a packet may name a region: all opcodes but those of SEND.
-fn names(packet: &[u8]) -> bool
-    ensures { λ r. ⌜ r ≡ names (now (packet .entry)) ⌝ }
-{
-    if packet.len() == 0 {
-        return false;
-    }
-    opcode::WRITE <= packet[0] % opcode::PER_SERVICE
-}
-
-// Whether a packet may name a region, and the table has a row that no call wrote.
-fn malformed_for(regions: &[[u64; 7]; 16], memory: u64, packet: &[u8]) -> bool
-    ensures { λ r. ⌜ r ≡ malformedFor (now (regions .entry)) memory (now (packet .entry)) ⌝ }
-{
-    let keyed = names(packet);
-    if keyed {
-        return abi::regions_malformed(regions, memory);
-    }
-    false
-}
+ghost use Rattle.udalopek_spec.specs.Packets.{inboundNumber, inboundWords, inboundRows, inboundBytes, inboundOutput, inboundReport, reportWords, nextNumber, nextWords, nextOutput, nextReport};
 
 // The report to the host: bytes to send, and the completion.
 fn report_words(outgoing: usize, c: Completion) -> [u64; 6]
@@ -37,8 +16,8 @@ fn report_words(outgoing: usize, c: Completion) -> [u64; 6]
     [s, some, c.number, n, i, v]
 }
 
-// Takes a packet. Here, in next response and in post entry the words are read, tested and written in the function
-// itself: a call with the pair would write it to memory for every packet.
+// Takes a packet: as responder::inbound, but that what is left goes into the words, in place. Everything that takes the
+// pair is inlined here; a call with the pair would write it to memory for every packet.
 #[no_mangle]
 pub extern "C" fn udalopek_inbound(
     pair: &mut [u64],
@@ -56,27 +35,22 @@ pub extern "C" fn udalopek_inbound(
     ensures { λ r. ⌜ now (mem .exit) ≡ inboundBytes (now (pair .entry)) (now (regions .entry)) (now (entries .entry)) (now (saved .entry)) (now (mem .entry)) (now (packet .entry)) (now (out .entry)) ⌝ }
     ensures { λ r. ⌜ now (out .exit) ≡ inboundOutput (now (pair .entry)) (now (regions .entry)) (now (entries .entry)) (now (saved .entry)) (now (mem .entry)) (now (packet .entry)) (now (out .entry)) ⌝ }
     ensures { λ r. ⌜ now (report .exit) ≡ inboundReport (now (pair .entry)) (now (regions .entry)) (now (entries .entry)) (now (saved .entry)) (now (mem .entry)) (now (packet .entry)) (now (out .entry)) ⌝ }
-    ensures { λ r. ⌜ malformed (now (pair .exit)) ≡ malformed (now (pair .entry)) ⌝ }
 {
-    let q = abi::pair_of(pair);
-    let own = abi::pair_words(q);
-    let same = abi::same(pair, &own);
-    if !same {
+    if pair.len() != abi::PAIR {
         *report = [0; 6];
         return header::OUT_OF_RANGE;
     }
-    let malformed = malformed_for(regions, number::usize_to_u64(q.setup.memory), packet);
-    if malformed {
-        *report = [0; 6];
-        return header::OUT_OF_RANGE;
-    }
-    let got = responder::inbound(q, regions, entries, saved, mem, packet, out);
-    let completion = got.completion;
-    *report = report_words(got.outgoing, completion);
-    let left = got.pair;
-    let status = got.status;
-    let next = abi::pair_words(left);
-    abi::overwrite_words(pair, &next);
+    let stray = abi::strays(pair);
+    let q = abi::pair_said(stray, pair);
+    let d = responder::decided(q, regions, entries, saved, mem, packet, out);
+    let value = apply::change(mem, packet, d);
+    apply::keep(saved, q.saved, d.act, d.psn, value);
+    let next = apply::pair_after(q, d);
+    acknowledge::write(out, q.setup, d, next.msn, value);
+    let completion = d.completion;
+    *report = report_words(d.outgoing, completion);
+    left::put_left(pair, next, d);
+    let status = d.status;
     status.number()
 }
 
@@ -92,20 +66,22 @@ pub extern "C" fn udalopek_next_response(
     ensures { λ r. ⌜ now (pair .exit) ≡ nextWords (now (pair .entry)) (now (mem .entry)) (now (out .entry)) ⌝ }
     ensures { λ r. ⌜ now (out .exit) ≡ nextOutput (now (pair .entry)) (now (mem .entry)) (now (out .entry)) ⌝ }
     ensures { λ r. ⌜ now (report .exit) ≡ nextReport (now (pair .entry)) (now (mem .entry)) (now (out .entry)) ⌝ }
-    ensures { λ r. ⌜ malformed (now (pair .exit)) ≡ malformed (now (pair .entry)) ⌝ }
 {
-    let q = abi::pair_of(pair);
-    let own = abi::pair_words(q);
-    let same = abi::same(pair, &own);
-    if !same {
+    if pair.len() != abi::PAIR {
         *report = [0; 1];
         return header::OUT_OF_RANGE;
     }
+    let stray = abi::strays(pair);
+    let q = abi::pair_said(stray, pair);
     let got = responder::next_response(q, mem, out);
     *report = [number::usize_to_u64(got.outgoing)];
-    let after = got.pair;
     let status = got.status;
-    let next = abi::pair_words(after);
-    abi::overwrite_words(pair, &next);
-    status.number()
+    let number = status.number();
+    if number != 0 {
+        return number;
+    }
+    let after = got.pair;
+    let read = after.read;
+    left::put_read(pair, read);
+    number
 }

@@ -1,4 +1,5 @@
 pub mod Steps
 pub mod Left
+pub mod Done
 pub mod Claims
 pub mod Keeps

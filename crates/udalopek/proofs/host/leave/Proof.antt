@@ -1,6 +1,5 @@
-use mathlib.Core.Path.{sym, ap, _∙_}
+use mathlib.Core.Path.{_≡_, ap, _∙_}
 use Rattle.abi_spec.specs.Words.{overwriteWords}
-use Rattle.abi_spec.specs.Pair.{malformed}
 use borrow.Author.Needs.{needs}
 use Rattle.udalopek.proofs.host.leave.Statement.{statement}
 use Rattle.udalopek.proofs.host.leave.Tie as tie
@@ -22,9 +21,8 @@ same-length c = search needs
 
 returns : tie.Need-returns
 returns c =
-    let c3 = c .before .before .before in let c6 = c3 .before .before .before in let c8 = c6 .before .before in
-    let e = c6 .pair-words .ensures in
-    (c .number .ensures, (c3 .overwrite-words .ensures ∙ ap (λ x. overwriteWords (c8 .args .pair .now) x) (e .0), sym (ap malformed (e .0)) ∙ e .1))
+    let A = c .before .before .before .before .before .before .before .before .args in
+    (c .number .ensures, c .before .before .before .overwrite-words .ensures ∙ ap (overwriteWords (A .pair .now)) (c .before .before .before .before .before .before .pair-words .ensures))
 
 pub leave-spec : {M : Type 1} → statement M
 leave-spec =

@@ -1,30 +1,45 @@
 use mathlib.Core.Path.{_≡_, refl, sym, ap, _∙_}
-use mathlib.Core.Bool.{false}
+use Rattle.udalopek_spec.proofs.Steps.{second, first, many, few, few-stray, said}
+use Rattle.udalopek_spec.proofs.Done.{done, undone, ready-words, unready-words}
 use Rattle.pair.specs.Answer.{statusNumber}
-use Rattle.abi_spec.specs.Pair.{malformed, pairWords}
-use Rattle.abi_spec.proofs.Laws.{overwrite-pair}
-use Rattle.udalopek_spec.proofs.Steps.{second, first}
 use Rattle.pair.specs.Host.{madeReady}
+use Rattle.abi_spec.specs.Pair.{pairWords}
+use Rattle.abi_spec.proofs.Laws.{overwrite-many}
 use Rattle.udalopek_spec.specs.Host.{readyNumber, readyWords}
 use borrow.Author.Needs.{needs}
 use Rattle.udalopek.proofs.host.udalopek_make_ready.Statement.{statement}
 use Rattle.udalopek.proofs.host.udalopek_make_ready.Tie as tie
 
-malformed-requires : tie.Need-malformed-requires
-malformed-requires c κs = search needs
+returns : tie.Need-returns
+unfolding readyNumber readyWords
+returns c =
+    let f = few _ (c .if1 .taken) in
+    (first _ 34 _ f, first _ _ _ (few-stray _ f))
+
+strays-requires : tie.Need-strays-requires
+strays-requires c κs = search needs
+
+pair-said-requires : tie.Need-pair-said-requires
+pair-said-requires c κs = search needs
+
+make-ready-requires : tie.Need-make-ready-requires
+make-ready-requires c κs = search needs
+
+number-requires : tie.Need-number-requires
+number-requires c κs = search needs
 
 same-length : tie.Need-same-length
 same-length c = search needs
 
-returns : tie.Need-returns
-unfolding readyNumber readyWords
-returns c = let p = sym (c .before .malformed .ensures) ∙ c .if1 .taken in (first _ 34 _ p, (first _ _ _ p, refl))
-
-pair-of-requires : tie.Need-pair-of-requires
-pair-of-requires c κs = search needs
-
-make-ready-requires : tie.Need-make-ready-requires
-make-ready-requires c κs = search needs
+returns-2 : tie.Need-returns-2
+unfolding readyNumber madeReady
+returns-2 c =
+    let A = c .before .before .before .before .before .before .before .before .before .args in
+    let l = many (A .pair .now) (c .before .before .before .before .before .before .before .if1 .left) in
+    let q = said (A .pair .now) _ _ (c .before .before .before .before .before .strays .ensures) (c .before .before .before .pair-said .ensures) in
+    let e = c .before .before .make-ready .ensures ∙ ap madeReady q in
+    let n = c .before .number .ensures ∙ ap (λ o. statusNumber (o .status)) e in
+    (n ∙ second _ 34 _ l, unready-words (A .pair .now) l (undone _ _ n (c .if2 .taken)))
 
 leave-requires : tie.Need-leave-requires
 leave-requires c κs = search needs
@@ -32,31 +47,28 @@ leave-requires c κs = search needs
 same-length-2 : tie.Need-same-length-2
 same-length-2 c = search needs
 
-returns-2 : tie.Need-returns-2
-unfolding readyNumber readyWords
-returns-2 c =
-    let c2 = c .before .before in let c5 = c2 .before .before .before in let c6 = c5 .before in
-    let c8 = c6 .before .before in let c9 = c8 .before in let c12 = c9 .before .before .before in
-    let p : malformed (c12 .args .pair .now) ≡ false = sym (c9 .malformed .ensures) ∙ c8 .if1 .left in
-    let e = c5 .make-ready .ensures ∙ ap (λ x. madeReady x) (c6 .pair-of .ensures) in (
-      c2 .leave .ensures .0 ∙ ap (λ o. statusNumber (o .status)) e
-          ∙ second _ 34 _ p,
-      (
-        c2 .leave .ensures .1 .0 ∙ overwrite-pair _ _ p ∙ ap (λ o. pairWords (o .pair)) e
-            ∙ second _ _ _ p,
-        ap malformed (c2 .leave .ensures .1 .0 ∙ overwrite-pair _ _ p) ∙ c2 .leave .ensures .1 .1 ∙ sym p,
-      ),
-    )
+returns-3 : tie.Need-returns-3
+unfolding readyNumber madeReady
+returns-3 c =
+    let A = c .before .before .before .before .before .before .before .before .before .before .before .before .before .before .args in
+    let l = many (A .pair .now) (c .before .before .before .before .before .before .before .before .before .before .before .before .if1 .left) in
+    let q = said (A .pair .now) _ _ (c .before .before .before .before .before .before .before .before .before .before .strays .ensures) (c .before .before .before .before .before .before .before .before .pair-said .ensures) in
+    let e = c .before .before .before .before .before .before .before .make-ready .ensures ∙ ap madeReady q in
+    let n = c .before .before .before .before .before .before .number .ensures ∙ ap (λ o. statusNumber (o .status)) e in
+    let w = c .before .before .leave .ensures .1 ∙ overwrite-many (A .pair .now) _ (c .before .before .before .before .before .before .before .before .before .before .before .before .if1 .left) ∙ ap (λ o. pairWords (o .pair)) e in
+    (c .before .before .leave .ensures .0 ∙ ap (λ o. statusNumber (o .status)) e ∙ second _ 34 _ l, ready-words (A .pair .now) l (done _ _ n (c .before .before .before .before .before .if2 .left)) _ w)
 
 pub udalopek-make-ready-spec : {M : Type 1} → statement M
 udalopek-make-ready-spec =
     tie.close
     (tie.spec
-    malformed-requires
-    same-length
     returns
-    pair-of-requires
+    strays-requires
+    pair-said-requires
     make-ready-requires
+    number-requires
+    same-length
+    returns-2
     leave-requires
     same-length-2
-    returns-2)
+    returns-3)

@@ -3,10 +3,10 @@ use mathlib.Core.Bool.{not}
 use lib.Dec.{eqb}
 use borrow.Author.Tests.{eq-eqb, ne-eqb}
 use Rattle.pair.specs.Answer.{statusNumber, executed}
-use Rattle.abi_spec.specs.Pair.{pairWords, malformed}
+use Rattle.abi_spec.specs.Pair.{otherLength, pairWords}
 use Rattle.abi_spec.proofs.Laws.{overwrite-many}
-use Rattle.udalopek_spec.proofs.Steps.{second, first, thirty-four}
-use Rattle.udalopek_spec.specs.Host.{setUpNumber, setUpWords, setUpTable, otherLength}
+use Rattle.udalopek_spec.proofs.Steps.{second, first}
+use Rattle.udalopek_spec.specs.Host.{setUpNumber, setUpWords, setUpTable}
 use lib.Dec.{eqb}
 use lib.Dec.{eqb}
 use lib.Dec.{eqb}
@@ -18,7 +18,7 @@ use Rattle.udalopek.proofs.host.udalopek_set_up.Tie as tie
 
 returns : tie.Need-returns
 unfolding setUpNumber setUpWords setUpTable otherLength executed
-returns c = let t = ap not (ne-eqb _ _ (c .if1 .taken)) in (first _ 34 _ t, (first _ _ _ t, (first _ _ _ t, λ z. absurd (thirty-four z))))
+returns c = let t = ap not (ne-eqb _ _ (c .if1 .taken)) in (first _ 34 _ t, (first _ _ _ t, first _ _ _ t))
 
 set-up-requires : tie.Need-set-up-requires
 set-up-requires c κs = search needs
@@ -33,7 +33,7 @@ returns-2 c =
     let t = ap not (eq-eqb _ _ (c4 .if1 .left)) in
     let n = c1 .number .ensures ∙ ap (λ o. statusNumber (o .status)) (c2 .set-up .ensures .0) in
     let x = ap (λ m. eqb m 0) (sym n) ∙ ne-eqb _ _ (c .if2 .taken) in
-    (n ∙ second _ 34 _ t, (second _ _ _ x ∙ second _ _ _ t, (c2 .set-up .ensures .1 ∙ second _ _ _ t, λ z. absurd (c .if2 .taken z))))
+    (n ∙ second _ 34 _ t, (second _ _ _ x ∙ second _ _ _ t, c2 .set-up .ensures .1 ∙ second _ _ _ t))
 
 leave-requires : tie.Need-leave-requires
 leave-requires c κs = search needs
@@ -53,9 +53,9 @@ returns-3 c =
       c2 .leave .ensures .0 ∙ ap (λ o. statusNumber (o .status)) e
           ∙ second _ 34 _ t,
       (
-        c2 .leave .ensures .1 .0 ∙ overwrite-many _ _ (c9 .if1 .left) ∙ ap (λ o. pairWords (o .pair)) e ∙ first _ _ _ x
+        c2 .leave .ensures .1 ∙ overwrite-many _ _ (c9 .if1 .left) ∙ ap (λ o. pairWords (o .pair)) e ∙ first _ _ _ x
             ∙ second _ _ _ t,
-        (c7 .set-up .ensures .1 ∙ second _ _ _ t, λ z. ap malformed (c2 .leave .ensures .1 .0 ∙ overwrite-many _ _ (c9 .if1 .left)) ∙ c2 .leave .ensures .1 .1),
+        c7 .set-up .ensures .1 ∙ second _ _ _ t,
       ),
     )
 
