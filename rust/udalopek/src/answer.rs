@@ -32,11 +32,13 @@ pub enum Answer {
 
 impl Answer {
     /// The number that the rules give this answer.
+    #[inline]
     pub fn number(self) -> u8 {
         self as u8
     }
 
     /// Numbers from 32 on are refusals.
+    #[inline]
     pub(crate) fn of(number: u8) -> Result<Answer, Refusal> {
         Ok(match number {
             0 => Answer::Executed,
@@ -98,10 +100,12 @@ pub enum Refusal {
 
 impl Refusal {
     /// The number that the rules give this refusal.
+    #[inline]
     pub fn number(self) -> u8 {
         self as u8
     }
 
+    #[inline]
     pub(crate) fn of(number: u8) -> Refusal {
         match number {
             32 => Refusal::ReadUnfinished,
@@ -117,6 +121,7 @@ impl Refusal {
     }
 
     /// What a call that answers 0 when done has answered.
+    #[inline]
     pub(crate) fn unless_done(number: u8) -> Result<(), Refusal> {
         match number {
             0 => Ok(()),

@@ -15,6 +15,7 @@ pub enum Service {
 
 impl Service {
     /// Its number, which is also its opcode bits.
+    #[inline]
     pub fn number(self) -> u8 {
         self as u8
     }
@@ -69,6 +70,7 @@ pub struct Region {
 }
 
 impl Region {
+    #[inline]
     fn of([key, address, length, offset, write, read, atomic]: [u64; 7]) -> Region {
         Region {
             key: key as u32,
@@ -129,6 +131,7 @@ pub enum State {
 
 impl State {
     /// Its number.
+    #[inline]
     pub fn number(self) -> u8 {
         self as u8
     }
@@ -167,6 +170,7 @@ const KIND_NONE: u64 = 255;
 impl QueuePair {
     /// A pair in state Init, with empty tables. Refused: [`Refusal::BadNumber`], [`Refusal::OutOfRange`] for memory
     /// over the limit.
+    #[inline]
     pub fn set_up(setup: Setup) -> Result<QueuePair, Refusal> {
         let mut pair = QueuePair {
             words: [0; raw::WORDS],
@@ -196,6 +200,7 @@ impl QueuePair {
 
     /// Lets the other side name a part of memory. Refused: [`Refusal::WrongState`] in Error, [`Refusal::OutOfRange`],
     /// [`Refusal::KeyInUse`], [`Refusal::TableFull`], in this order.
+    #[inline]
     pub fn add_region(&mut self, region: Region) -> Result<(), Refusal> {
         Refusal::unless_done(raw::add_region(
             &self.words,
@@ -211,12 +216,14 @@ impl QueuePair {
     }
 
     /// Takes a key back; a READ that is being answered goes on. Refused: [`Refusal::NoSuchKey`].
+    #[inline]
     pub fn remove_region(&mut self, key: u32) -> Result<(), Refusal> {
         Refusal::unless_done(raw::remove_region(&self.words, &mut self.regions, key))
     }
 
     /// Gives memory for one message, behind the entries that wait. Refused: [`Refusal::WrongState`] in Error,
     /// [`Refusal::OutOfRange`], [`Refusal::TableFull`], in this order.
+    #[inline]
     pub fn post_entry(&mut self, entry: Entry) -> Result<(), Refusal> {
         Refusal::unless_done(raw::post_entry(
             &mut self.words,
@@ -228,17 +235,20 @@ impl QueuePair {
     }
 
     /// Takes packets from now on. Refused: [`Refusal::WrongState`] unless Init.
+    #[inline]
     pub fn make_ready(&mut self) -> Result<(), Refusal> {
         Refusal::unless_done(raw::make_ready(&mut self.words))
     }
 
     /// Back to Init with the numbers of the set-up, empty tables and MSN 0. Memory stays as it is.
+    #[inline]
     pub fn reset(&mut self) -> Result<(), Refusal> {
         Refusal::unless_done(raw::reset(&mut self.words, &mut self.regions))
     }
 
     /// Takes a packet. Refused: [`Refusal::OutputShort`] under 24 bytes, [`Refusal::OutOfRange`] for memory of another
     /// length than was set up, [`Refusal::ReadUnfinished`], in this order.
+    #[inline]
     pub fn inbound(
         &mut self,
         memory: &mut [u8],
@@ -272,6 +282,7 @@ impl QueuePair {
     /// Writes the next response of the READ that is being answered, out of memory as it is now, and answers its length.
     /// Refused: [`Refusal::WrongState`] if none is pending, [`Refusal::OutputShort`] under 16 bytes and a PMTU,
     /// [`Refusal::OutOfRange`] for memory of another length than was set up, in this order.
+    #[inline]
     pub fn next_response(&mut self, memory: &[u8], out: &mut [u8]) -> Result<usize, Refusal> {
         let mut report = [0];
         let number = raw::next_response(&mut self.words, memory, out, &mut report);
@@ -280,16 +291,19 @@ impl QueuePair {
     }
 
     /// The PSN that is expected next.
+    #[inline]
     pub fn expected(&self) -> u32 {
         self.words[EXPECTED] as u32
     }
 
     /// Messages completed since set-up or reset, modulo 2^24.
+    #[inline]
     pub fn msn(&self) -> u32 {
         self.words[MSN] as u32
     }
 
     /// The state.
+    #[inline]
     pub fn state(&self) -> State {
         match self.words[STATE] {
             0 => State::Init,
@@ -300,11 +314,13 @@ impl QueuePair {
 
     /// Whether the NAK mark is set: the other side was told what is missing, and packets ahead are dropped without
     /// another NAK until the expected one is executed.
+    #[inline]
     pub fn nak_mark(&self) -> bool {
         self.words[NAK_MARK] != 0
     }
 
     /// How many responses of a READ are still to be taken.
+    #[inline]
     pub fn responses_pending(&self) -> usize {
         self.words[PENDING] as usize
     }
@@ -317,6 +333,7 @@ impl QueuePair {
     }
 
     /// Whether an open SEND holds the first of the entries.
+    #[inline]
     pub fn held(&self) -> bool {
         self.words[KIND] == KIND_SEND
     }

@@ -23,6 +23,7 @@ pub type Entries = [[u64; 3]; 16];
 /// A row: PSN, value.
 pub type Saved = [[u64; 2]; 16];
 
+#[inline]
 pub fn set_up(
     pair: &mut [u64],
     regions: &mut Regions,
@@ -61,16 +62,19 @@ pub fn set_up(
     }
 }
 
+#[inline]
 pub fn reset(pair: &mut [u64], regions: &mut Regions) -> u8 {
     // SAFETY: `pair` is a slice with its length, `regions` 16 rows; each is borrowed by `&mut`.
     unsafe { ffi::udalopek_reset(pair.as_mut_ptr(), pair.len(), regions.as_mut_ptr()) }
 }
 
+#[inline]
 pub fn make_ready(pair: &mut [u64]) -> u8 {
     // SAFETY: `pair` is a slice with its length, borrowed by `&mut`.
     unsafe { ffi::udalopek_make_ready(pair.as_mut_ptr(), pair.len()) }
 }
 
+#[inline]
 pub fn add_region(
     pair: &[u64],
     regions: &mut Regions,
@@ -99,11 +103,13 @@ pub fn add_region(
     }
 }
 
+#[inline]
 pub fn remove_region(pair: &[u64], regions: &mut Regions, key: u32) -> u8 {
     // SAFETY: `pair` is a slice with its length, only read; `regions` 16 rows, borrowed by `&mut`.
     unsafe { ffi::udalopek_remove_region(pair.as_ptr(), pair.len(), regions.as_mut_ptr(), key) }
 }
 
+#[inline]
 pub fn post_entry(
     pair: &mut [u64],
     entries: &mut Entries,
@@ -124,6 +130,7 @@ pub fn post_entry(
     }
 }
 
+#[inline]
 pub fn inbound(
     pair: &mut [u64],
     regions: &Regions,
@@ -154,6 +161,7 @@ pub fn inbound(
     }
 }
 
+#[inline]
 pub fn next_response(pair: &mut [u64], memory: &[u8], out: &mut [u8], report: &mut [u64; 1]) -> u8 {
     // SAFETY: `pair`, `memory` and `out` are slices with their lengths, `report` one word. `pair`, `out` and `report`
     // are borrowed by `&mut`, and `memory` is only read.
@@ -170,6 +178,7 @@ pub fn next_response(pair: &mut [u64], memory: &[u8], out: &mut [u8], report: &m
     }
 }
 
+#[inline]
 pub fn read_header(packet: &[u8], bth: &mut [u64; 11], extension: &mut [u64; 10]) -> u8 {
     // SAFETY: `packet` is a slice with its length, only read; `bth` and `extension` are arrays of the lengths that the
     // header names, each borrowed by `&mut`.
@@ -183,6 +192,7 @@ pub fn read_header(packet: &[u8], bth: &mut [u64; 11], extension: &mut [u64; 10]
     }
 }
 
+#[inline]
 pub fn write_header(
     bth: &[u64; 11],
     extension: &[u64; 10],
@@ -202,6 +212,7 @@ pub fn write_header(
     }
 }
 
+#[inline]
 pub fn cut(
     service: u8,
     pmtu: usize,

@@ -130,7 +130,8 @@ fn damaged_words_are_not_made_ready() {
     let mut sound = Lent::busy();
     sound.words[word::STATE] = 0;
     refused(&sound, 0, Lent::make_ready, |word, value| match word {
-        word::STATE if value == 3 => Some(36),
+        // Read modulo 256, and looked at first.
+        word::STATE if value % 256 != 0 => Some(36),
         _ => Some(34),
     });
 }
@@ -156,8 +157,15 @@ fn damaged_words_are_not_reset() {
 }
 
 #[test]
-fn damaged_words_lose_no_region() {
-    refused(&Lent::busy(), 0, Lent::remove_region, OUT_OF_RANGE);
+fn remove_region_looks_at_no_word_of_the_pair() {
+    let sound = Lent::busy();
+    for (word, value) in damage() {
+        let mut lent = sound.with(&[(word, value)]);
+        let mut expected = lent.clone();
+        expected.regions[0] = [0; 7];
+        assert_eq!(lent.remove_region(), 0, "{word}: {value}");
+        assert!(lent == expected, "{word}: {value}");
+    }
 }
 
 #[test]
@@ -183,34 +191,23 @@ fn words_of_another_length() {
 }
 
 #[test]
-fn rows_of_regions_that_no_call_wrote() {
-    // The row is one that nothing names. Of each number the last that is in range, and the next.
+fn a_row_of_regions_that_nothing_names_is_not_looked_at() {
     let mut sound = Lent::busy();
     sound.drain();
-    sound.regions[15] = [9, 0, 8, 0, 1, 1, 1];
-    let columns = [
-        (0, u64::from(u32::MAX), 1 << 32),
-        (1, u64::MAX - 8, u64::MAX - 7),
-        (2, 4096, 4097),
-        (2, 4096, u64::MAX),
-        (3, 4088, 4089),
-        (3, 4088, u64::MAX),
-        (4, 1, 2),
-        (5, 1, 2),
-        (6, 1, 2),
-        (6, 0, u64::MAX),
-    ];
-    for (column, last, next) in columns {
-        sound.regions[15][column] = last;
-        assert_eq!(end_write(&mut sound.clone()), 1, "{column}: {last}");
-        assert_eq!(sound.clone().add_region(KEY + 1), 0, "{column}: {last}");
-        assert_eq!(sound.clone().remove_region(), 0, "{column}: {last}");
+    for row in [
+        [1 << 32, 0, 8, 0, 1, 1, 1],
+        [9, u64::MAX - 7, 8, 0, 1, 1, 1],
+        [9, 0, 4097, 0, 1, 1, 1],
+        [9, 0, u64::MAX, 0, 1, 1, 1],
+        [9, 0, 8, 4089, 1, 1, 1],
+        [9, 0, 8, 0, 2, 3, u64::MAX],
+        [u64::MAX; 7],
+    ] {
         let mut lent = sound.clone();
-        lent.regions[15][column] = next;
-        lent.keeps(34, end_write, (column, next));
-        lent.keeps(34, |lent| lent.add_region(KEY + 1), (column, next));
-        lent.keeps(34, Lent::remove_region, (column, next));
-        sound.regions[15] = [9, 0, 8, 0, 1, 1, 1];
+        lent.regions[15] = row;
+        assert_eq!(end_write(&mut lent.clone()), 1, "{row:?}");
+        assert_eq!(lent.clone().add_region(KEY + 1), 0, "{row:?}");
+        assert_eq!(lent.clone().remove_region(), 0, "{row:?}");
     }
 }
 

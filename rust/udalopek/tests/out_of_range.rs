@@ -18,7 +18,7 @@ enum Fit {
     Sound,
     /// Out of them: 34 at its turn in the order of a call.
     Unsound,
-    /// One is over the width of its field: 34 before all else.
+    /// One is over the range of its word: 34 at the same turn. What comes before it is read modulo that range.
     Wide,
 }
 use Fit::*;
@@ -61,17 +61,12 @@ fn tried((set, fit): Case) {
 
 /// Every call on the words answers as the orders of checks have it. What a call does when done is for other tests.
 fn answered(lent: &Lent, fit: Fit, case: &impl std::fmt::Debug) {
-    let state = lent.words[word::STATE];
+    // The state is read modulo 256, before the words are refused.
+    let state = lent.words[word::STATE] % 256;
     let pending = lent.words[word::PENDING] != 0;
     let full = lent.words[word::COUNT] == 16;
     let check = |earlier: &[(bool, u8)], later: &[(bool, u8)], call: &dyn Fn(&mut Lent) -> u8| {
-        let order = [
-            &[(fit == Wide, 34)],
-            earlier,
-            &[(fit == Unsound, 34)],
-            later,
-        ]
-        .concat();
+        let order = [earlier, &[(fit != Sound, 34)], later].concat();
         match order.iter().find(|(holds, _)| *holds) {
             Some(&(_, number)) => lent.keeps(number, call, case),
             None => assert_eq!(call(&mut lent.clone()), 0, "{case:?}"),
@@ -82,7 +77,10 @@ fn answered(lent: &Lent, fit: Fit, case: &impl std::fmt::Debug) {
     check(&[(state == ERROR, 36)], &[], &|lent| {
         lent.add_region(KEY + 1)
     });
-    check(&[], &[], &Lent::remove_region);
+    // Remove region looks at no word.
+    let mut removed = lent.clone();
+    assert_eq!(removed.remove_region(), 0, "{case:?}");
+    assert_eq!(removed.words, lent.words, "{case:?}");
     check(&[], &[], &Lent::reset);
 
     // An empty packet is dropped where nothing refuses it; refusals come before any look at a packet.
@@ -103,8 +101,7 @@ fn answered(lent: &Lent, fit: Fit, case: &impl std::fmt::Debug) {
     }
     let mut short = lent.clone();
     short.out.truncate(23);
-    let number = if fit == Wide { 34 } else { 35 };
-    short.keeps(number, |lent| lent.inbound(b""), case);
+    short.keeps(35, |lent| lent.inbound(b""), case);
 
     // A response needs room for 16 bytes and a PMTU, whatever its length.
     let room = u128::from(lent.words[word::PMTU]) + 16;
@@ -114,11 +111,7 @@ fn answered(lent: &Lent, fit: Fit, case: &impl std::fmt::Debug) {
     if !little.0 {
         let mut short = lent.clone();
         short.out.truncate(room as usize - 1);
-        let number = match fit {
-            Wide => 34,
-            _ if !pending => 36,
-            _ => 35,
-        };
+        let number = if pending { 35 } else { 36 };
         short.keeps(number, Lent::next_response, case);
     }
 }

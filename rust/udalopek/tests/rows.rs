@@ -10,65 +10,26 @@ use udalopek::{Region, Service};
 const LONG: [u64; 7] = [9, 0, 4097, 0, 1, 1, 1];
 
 #[test]
-fn a_regions_row_out_of_range_is_34_to_every_packet_but_a_sends() {
+fn a_regions_row_out_of_range_that_is_not_named_is_no_obstacle() {
     for service in SERVICES {
-        let mut lent = Lent::ready(service, 1);
+        let sound = Lent::ready(service, 1);
+        let mut lent = sound.clone();
         lent.regions[15] = LONG;
         for opcode in 0..=255_u8 {
             let packet = wire(opcode, 7).carrying(256);
-            if opcode % 32 >= WRITE {
-                lent.leaves(34, &packet);
-            } else if opcode / 32 != service.number() {
-                lent.leaves(5, &packet);
-            }
+            let (mut with, mut without) = (lent.clone(), sound.clone());
+            assert_eq!(with.take(&packet.bytes()), without.take(&packet.bytes()));
+            without.regions[15] = LONG;
+            assert!(with == without, "{opcode}");
         }
-        lent.keeps(34, |lent| lent.inbound(&[WRITE]), "an opcode alone");
-        lent.keeps(5, |lent| lent.inbound(&[SEND]), "an opcode alone");
-        lent.keeps(5, |lent| lent.inbound(b""), "no packet");
-        for place in [FIRST, ONLY, ONLY_IMM] {
-            let packet = wire(SEND + place, 7).carrying(256).on(service);
-            lent.after(executed(service), &packet);
-        }
-        for place in [MIDDLE, LAST, LAST_IMM] {
-            let packet = wire(SEND + place, 7).carrying(256).on(service);
-            lent.after(if service == Service::Rc { 17 } else { 5 }, &packet);
-        }
-    }
-}
-
-#[test]
-fn a_regions_row_out_of_range_is_34_before_all_but_the_width_of_words() {
-    for service in SERVICES {
-        let mut lent = Lent::ready(service, 1);
-        lent.regions[15] = LONG;
-        let write = wire(WRITE + ONLY, 7).on(service);
-        let send = wire(SEND + ONLY, 7).on(service);
-        // Before 35.
-        let mut short = lent.clone();
-        short.out.truncate(23);
-        short.leaves(34, &write);
-        short.leaves(35, &send);
-        // Before 32.
-        let reading = lent.with(&[(word::PENDING, 1)]);
-        reading.leaves(34, &write);
-        reading.leaves(32, &send);
-        // Before the drop of a packet in Init or Error, and before 36.
         for state in [INIT, ERROR] {
             let other = lent.with(&[(word::STATE, state)]);
-            other.leaves(34, &write);
-            other.leaves(5, &send);
-            other.keeps(34, |lent| lent.add_region(KEY + 1), state);
-            other.keeps(34, Lent::remove_region, state);
+            other.leaves(5, &wire(WRITE + ONLY, 7).on(service));
         }
-        // Before 34 for the region itself, 38 and 37.
-        let empty = Region {
-            length: 0,
-            ..region()
-        };
-        lent.keeps(34, |lent| lent.add(empty), "no region");
-        lent.keeps(34, |lent| lent.add_region(KEY), "in use");
-        lent.regions[0] = [0; 7];
-        lent.keeps(34, Lent::remove_region, "no such key");
+        lent.keeps(38, |lent| lent.add_region(KEY), "in use");
+        assert_eq!(lent.clone().add_region(KEY + 1), 0);
+        assert_eq!(lent.clone().remove_region(), 0);
+        lent.keeps(37, |lent| lent.remove(KEY + 1), "no such key");
     }
 }
 
@@ -85,7 +46,7 @@ fn reset_and_the_calls_that_are_lent_no_regions_look_at_no_row() {
 }
 
 #[test]
-fn a_write_to_a_row_out_of_range_is_34_and_stays_open() {
+fn a_row_out_of_range_that_is_named_holds_nothing() {
     // Too long, too far in memory, up to the top of addresses, a key over 32 bits.
     let damage = [
         (2, 4097),
@@ -97,23 +58,31 @@ fn a_write_to_a_row_out_of_range_is_34_and_stays_open() {
     ];
     for service in SERVICES {
         let first = wire(WRITE + FIRST, 7).carrying(256).length(600).on(service);
+        let only = wire(WRITE + ONLY, 7).with(b"x").on(service);
         let middle = wire(WRITE + MIDDLE, 8).carrying(256).on(service);
-        let last = wire(WRITE + LAST, 9).carrying(88).on(service);
         let ready = Lent::ready(service, 0);
         let opened = ready.after(executed(service), &first);
+        let access = |psn| acknowledge(0x62, psn, 0);
+        let error = [(word::STATE, ERROR)];
         for (column, value) in damage {
             let mut lent = ready.clone();
             lent.regions[0][column] = value;
-            lent.leaves(34, &first);
-            lent.leaves(34, &wire(WRITE + ONLY, 7).with(b"x").on(service));
-            let mut lent = opened.clone();
-            let good = lent.regions[0];
-            lent.regions[0][column] = value;
-            lent.leaves(34, &middle);
-            lent.regions[0] = good;
-            lent = lent.after(executed(service), &middle);
-            lent = lent.after(executed(service), &last);
-            assert_eq!(lent.words[word::MSN], 1);
+            let mut open = opened.clone();
+            open.regions[0][column] = value;
+            if service == Service::Rc {
+                lent.only_sets(&error, 18, &access(7), &first);
+                lent.only_sets(&error, 18, &access(7), &only);
+                for opcode in [READ, FETCH_ADD, CMP_SWAP] {
+                    let packet = wire(opcode, 7).length(8);
+                    lent.only_sets(&error, 18, &access(7), &packet);
+                }
+                lent.leaves(5, &wire(READ, 6).length(8));
+                open.only_sets(&error, 18, &access(8), &middle);
+            } else {
+                lent.leaves(5, &first);
+                lent.leaves(5, &only);
+                open.only_sets(&CLOSED, 6, b"", &middle);
+            }
         }
     }
 }
