@@ -17,8 +17,9 @@ use Rattle.opcode.specs.Opcode.{serviceOf, lowOf, kindOf, lowClass, reservedCla
 use Rattle.header.specs.declared.Header.{Header}
 use Rattle.header.specs.declared.HeaderRead.the-variants as read
 use Rattle.pmtu.specs.Pieces.{pieces}
-use Rattle.table.specs.Table.{slotAt, noRegion, memoryOffset}
+use Rattle.table.specs.Table.{noRegion, memoryOffset}
 use Rattle.table.specs.View.{regionOf, newestSaved}
+use Rattle.table.proofs.Rings.{entry-slots}
 use Rattle.pair.specs.Answer.{statusNumber, executed}
 use Rattle.pair.specs.Claims.{Sound}
 use Rattle.pair.specs.declared.Setup.{Setup}
@@ -66,10 +67,7 @@ looked q regions entries saved m p out W h e = rw (goes q m out W, e)
 
 -- the entry at the head
 pub head-first : (q : Pair) (entries : List (List ℕ)) → Sound q → headEntry q entries ≡ entryAtHead q entries
-unfolding slotAt
-head-first q entries S =
-    let e : (q .entries .head + 0) % 16 ≡ q .entries .head = omega (arith, S .entries .0) in
-    ap (λ i. getD entries i []) e
+head-first q entries S = ap (λ i. getD entries i []) (entry-slots .start (q .entries .head) (S .entries .0))
 
 -- a SEND has no key, so its code is the same whatever the region
 key-by : (memory kind : ℕ) (t : OpenMessage) (key : ℕ) (regions : List (List ℕ))

@@ -9,10 +9,10 @@ use lib.ListN.{length, take, drop, getD}
 use borrow.Author.Tests.{eq-eqb}
 use Rattle.header.specs.Read.{headerOf}
 use Rattle.packet.specs.Packet.{payloadOf}
-use Rattle.table.specs.Table.{slotAt}
+use Rattle.table.specs.Table.{entryCapacity, entrySlot}
 use Rattle.table.specs.View.{inRing}
 use Rattle.table.specs.declared.Ring.{Ring}
-use Rattle.table.proofs.Rings.{takes}
+use Rattle.table.proofs.Rings.{entry-ring}
 use Rattle.pair.specs.Answer.{statusNumber}
 use Rattle.pair.specs.View.{entriesOf, heldOf, waitingOf}
 use Rattle.pair.specs.Claims.{Sound}
@@ -109,7 +109,7 @@ pub entry-back : EntryBack
 entry-back q regions entries saved m p out e =
     let A = inbound-table q regions entries saved m p out .abandons e in
     let N = none-held (inbound q regions entries saved m p out .pair) entries (A .message) in
-    (N .0, N .1 ∙ (ap (inRing entries) (A .entries) ∙ sym (held-waiting q entries)))
+    (N .0, N .1 ∙ (ap (inRing entrySlot entries) (A .entries) ∙ sym (held-waiting q entries)))
 
 -- a First or Only is no Middle or Last
 apart : (place : ℕ) → Begins place → GoesOn place → ⊥
@@ -120,11 +120,11 @@ apart place (inr b) (inr g) = omega arith
 
 -- the ring without its first
 rest-ring : (rows : List (List ℕ)) (r : Ring) → 1 ≤ r .count
-    → inRing rows (record { head = (r .head + 1) % 16; count = r .count - 1 }) ≡ drop 1 (inRing rows r)
-unfolding slotAt
+    → inRing entrySlot rows (record { head = (r .head + 1) % entryCapacity; count = r .count - 1 }) ≡ drop 1 (inRing entrySlot rows r)
+unfolding entrySlot
 rest-ring rows r some =
     let n : suc (r .count - 1) ≡ r .count = omega arith in
-    takes rows (r .head) (r .count - 1) ∙ ap (λ c. drop 1 (inRing rows (record { head = r .head; count = c }))) n
+    entry-ring .takes rows (r .head) (r .count - 1) ∙ ap (λ c. drop 1 (inRing entrySlot rows (record { head = r .head; count = c }))) n
 
 module _ (q : Pair) (regions entries saved : List (List ℕ)) (m p out : List ℕ) (open-send : q .message .kind ≡ 0) (send : packetIn p .kind ≡ 0)
     (b : Begins (packetIn p .place)) (e : statusNumber (inbound q regions entries saved m p out .status) ≡ 0) where
@@ -157,7 +157,7 @@ module _ (q : Pair) (regions entries saved : List (List ℕ)) (m p out : List �
   first-kept z =
       let H = one-held (l .pair) entries (ap (λ x. x .kind) (stores-payload .opens (inl z)) ∙ send) in
       let G = one-held q entries open-send in
-      let s = ap (inRing entries) (stores-packet .silent (stores-payload .onward (inl z) .some)) in
+      let s = ap (inRing entrySlot entries) (stores-packet .silent (stores-payload .onward (inl z) .some)) in
       (H .0 ∙ (ap (take 1) s ∙ sym (G .0)), H .1 ∙ (ap (drop 1) s ∙ sym (G .1)))
 
   -- an Only: the first of the ring is done with, and no message open
@@ -170,7 +170,7 @@ module _ (q : Pair) (regions entries saved : List (List ℕ)) (m p out : List �
   unfolding packetOf headerOf
   only-taken z =
       let N = none-held (l .pair) entries (stores-packet .ends (omega (arith, z)) .1) in
-      let s = ap (inRing entries) (stores-packet .completes (completed z .some)) in
+      let s = ap (inRing entrySlot entries) (stores-packet .completes (completed z .some)) in
       (N .0, N .1 ∙ (s ∙ (rest-ring entries (q .entries) (held-some q sound open-send) ∙ sym (one-held q entries open-send .1))))
 
 pub held-entry-taken : HeldEntryTaken

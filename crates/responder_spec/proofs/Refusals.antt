@@ -134,7 +134,7 @@ inbound-answered q regions entries saved m p out h e S r E =
       uc =
           λ region z. absurd
           (never-34 (viewed (numbersOf p .place) q) entries (numbersOf p) region (viewed-sound (numbersOf p .place) q S)
-          (record { rows16 = E .rows16; each = E .each }) z);
+          (record { sized = E .sized; each = E .each }) z);
     })
     (goes q m out h e S r))
 

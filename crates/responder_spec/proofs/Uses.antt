@@ -8,7 +8,7 @@ use native.Mathlib.Omega.{arith}
 use lib.Dec.{eqb, leb}
 use lib.ListN.{length, getD}
 use Rattle.opcode.specs.Place.{ends}
-use Rattle.table.specs.Table.{slotAt}
+use Rattle.table.specs.Table.{entrySlot}
 use Rattle.table.specs.declared.Ring.{Ring}
 use Rattle.pair.specs.Answer.{statusNumber, executed}
 use Rattle.pair.specs.Claims.{Sound}
@@ -113,7 +113,7 @@ module _ (q : Pair) (regions entries : List (List ℕ)) (k : Packet) where
       → d .completion ≡ completionOf k M (getD entry 0 0)
       → (uses k ≡ true → 1 ≤ q .entries .count)
       → Uses (q .entries) entries (d .completion) (pairBy q d .entries)
-  unfolding ringTaken slotAt
+  unfolding ringTaken entrySlot
   store-uses S d s c t =
       let known : d .completion .some ≡ true → (uses k ≡ true) × (d .completion .number ≡ getD entry 0 0) =
       subst (λ x. x .some ≡ true → (uses k ≡ true) × (x .number ≡ getD entry 0 0)) (sym c) (completed k M (getD entry 0 0)) in

@@ -170,11 +170,11 @@ module _ (capacity : ℕ) (slot : ℕ → ℕ → ℕ) (w : SlotLaws capacity sl
 -- The rings of a pair
 pub entry-slots : EntrySlots
 unfolding entrySlot
-entry-slots = slot-laws entryCapacity 16 (omega arith) (omega arith)
+entry-slots = slot-laws entryCapacity _ (omega arith) (omega arith)
 
 pub saved-slots : SavedSlots
 unfolding savedSlot
-saved-slots = slot-laws savedCapacity 16 (omega arith) (omega arith)
+saved-slots = slot-laws savedCapacity _ (omega arith) (omega arith)
 
 pub entry-ring : EntryRing
 entry-ring = ring-laws entryCapacity entrySlot entry-slots
