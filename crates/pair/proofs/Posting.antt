@@ -8,7 +8,8 @@ use native.Mathlib.Omega.{arith}
 use lib.Dec.{eqb, leb}
 use lib.ListN.{length, set, take, drop, length-append, take-append-drop}
 use lib.Seq.{take-append-le, drop-append-le}
-use borrow.Author.Tests.{le-leb, lt-leb, eq-eqb, ne-eqb, leb-true, leb-false, eqb-true, eqb-false}
+use borrow.Author.Tests.{lt-leb, eq-eqb, ne-eqb, leb-true, leb-false, eqb-true, eqb-false}
+use Rattle.lemmas.proofs.Auto.{tests}
 use Rattle.pmtu.specs.Claims.{IsPmtu}
 use Rattle.table.specs.Table.{entryCapacity, entrySlot, outside, entryRow}
 use Rattle.table.specs.View.{ringFrom, oneMore}
@@ -22,7 +23,7 @@ use Rattle.pair.specs.declared.Status.the-variants as status
 use Rattle.pair.specs.Answer.{statusNumber, executed}
 use Rattle.pair.specs.Pair.{blankPair, freshPair, moved}
 use Rattle.pair.specs.Sound.{pairUnsound}
-use Rattle.pair.specs.Host.{entryCount, postStatus, posted, postEntries}
+use Rattle.pair.specs.Host.{entryCount, entriesFull, postStatus, posted, postEntries}
 use Rattle.pair.specs.View.{heldOf, waitingOf, entriesOf}
 use Rattle.pair.specs.Claims.{Unmoved, HeldFirst, HeldNone, BlankUnsound, IsBlank, SetupSound, MessageSound, Sound, PostError, PostRange, PostFull, PostDone, HeldWaiting, BlankRefused}
 use Rattle.pair.proofs.Known.{unmoved, holds-true, either, kept, done, unsound, sound}
@@ -88,7 +89,7 @@ module _ (q : Pair) (rows : List (List ℕ)) (e : Entry) where
     full-post : entryCapacity ≤ entryCount q → postStatus q e ≡ status.TableFull
     unfolding postStatus
     full-post n =
-        rw (ne-eqb (q .state) 2 h, sound q S, entry-tested (q .setup .memory) e .1 f, le-leb entryCapacity (entryCount q) n)
+        rw (ne-eqb (q .state) 2 h, sound q S, entry-tested (q .setup .memory) e .1 f, holds-true (entriesFull q) (λ z. omega (arith, tests)))
 
     pub done-post : entryCount q < entryCapacity → postStatus q e ≡ status.Executed
     unfolding postStatus

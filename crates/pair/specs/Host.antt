@@ -1,6 +1,6 @@
 -- The host's calls: each one's answer, the pair it leaves, and the table.
 use Prim.Native.Nat.{ℕ}
-use mathlib.Core.Bool.{cond}
+use mathlib.Core.Bool.{Bool, cond}
 use mathlib.Core.List.{List}
 use lib.Dec.{eqb, ltb, leb}
 use lib.ListN.{replicate, set}
@@ -74,13 +74,16 @@ removeRegions rows key = cond (executed (removeStatus rows key)) (set rows (keyR
 abbrev pub entryCount : Pair → ℕ
 entryCount q = q .entries .count
 
+abbrev pub entriesFull : Pair → Bool
+entriesFull q = leb entryCapacity (entryCount q)
+
 -- Post entry: 36 in Error, 34 for an entry outside memory, 33 where all its rows are held or waiting
 unfoldable pub postStatus : Pair → Entry → Status
 postStatus q e =
     cond (eqb (q .state) State.error) WrongState
     (cond (pairUnsound q) OutOfRange
     (cond (outside (e .offset) (e .length) (q .setup .memory)) OutOfRange
-    (cond (leb entryCapacity (entryCount q)) TableFull Executed)))
+    (cond (entriesFull q) TableFull Executed)))
 
 unfoldable pub posted : Pair → Entry → HostOutcome
 posted q e = outcome (postStatus q e) (cond (executed (postStatus q e)) (moved q (q .state) (oneMore (q .entries))) q)

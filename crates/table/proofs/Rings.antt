@@ -15,7 +15,7 @@ use Rattle.table.specs.declared.Ring.{Ring}
 use Rattle.table.specs.declared.Saved.{Saved}
 use Rattle.table.specs.declared.Saved.the-variants.{Value, Nothing}
 use Rattle.table.specs.Table.{entryCapacity, savedCapacity, entrySlot, savedSlot, entryRow}
-use Rattle.table.specs.View.{ringFrom, inRing, oneMore, overwritten, later, newest, newestSaved, savedRing, savedRows}
+use Rattle.table.specs.View.{ringFrom, inRing, oneMore, turned, overwritten, later, newest, newestSaved, savedRing, savedRows}
 use Rattle.table.specs.Claims.{SlotLaws, EntrySlots, SavedSlots, RingSound, RingLaws, EntryRing, SavedRing, EntrySound, SavedNumbers, PostedSound}
 use Rattle.table.specs.Claims.{Saves, SavesFull, SavesSound, Newest, NewestNone, NewestSaved, NewestOver, SavedFound, SavedOther, SavedOtherFull}
 
@@ -110,11 +110,11 @@ module _ (capacity : ℕ) (slot : ℕ → ℕ → ℕ) (w : SlotLaws capacity sl
   -- what holds of the ring with a row more, if there is room, and else of the ring from the next row on, holds after a
   -- store
   by-room : (P : Ring → Type 0) (r : Ring) → (r .count < capacity → P (oneMore r))
-      → (capacity ≤ r .count → P (record { head = slot (r .head) 1; count = r .count }))
+      → (capacity ≤ r .count → P (turned slot r))
       → P (overwritten capacity slot r)
   by-room P r more full = go (ltb (r .count) capacity) refl
     where
-      go : (t : Bool) → ltb (r .count) capacity ≡ t → P (cond t (oneMore r) (record { head = slot (r .head) 1; count = r .count }))
+      go : (t : Bool) → ltb (r .count) capacity ≡ t → P (cond t (oneMore r) (turned slot r))
       go true e = more (ltb-true (r .count) capacity e)
       go false e = full (ltb-false (r .count) capacity e)
 
@@ -124,6 +124,16 @@ module _ (capacity : ℕ) (slot : ℕ → ℕ → ℕ) (w : SlotLaws capacity sl
   unfolding ringFrom
   oldest-gone rows head row k l h =
       from-next (set rows (slot head (suc k)) row) head 0 (suc k) ∙ behind rows head row 1 k (suc k) l (omega arith) (omega arith)
+
+  grown-sound : (good : List ℕ → Type 0) (rows : List (List ℕ)) (r : Ring) (row : List ℕ) → RingSound capacity slot good rows r
+      → r .count < capacity
+      → good row
+      → RingSound capacity slot good (set rows (slot (r .head) (r .count)) row) (oneMore r)
+  grown-sound good rows r row S h new =
+      record {
+        sized = length-set rows (slot (r .head) (r .count)) row ∙ S .sized;
+        each = λ i b. each-behind rows (r .head) good row 0 (r .count) (S .sized) (omega arith) new (λ k z c. S .each k c) i (omega arith) b;
+      }
 
   pub ring-laws : RingLaws capacity slot
   unfolding ringFrom
@@ -142,27 +152,21 @@ module _ (capacity : ℕ) (slot : ℕ → ℕ → ℕ) (w : SlotLaws capacity sl
             by-room (λ x. inRing slot (set rows (slot (r .head) (r .count)) row) x ≡ drop 1 (inRing slot rows r) ++ (row ∷ [])) r (λ more. absurd (omega arith))
             (λ full. subst (λ k. ringFrom slot (set rows (slot (r .head) k) row) (slot (r .head) 1) 0 k ≡ drop 1 (ringFrom slot rows (r .head) 0 k) ++ (row ∷ [])) n
             (oldest-gone rows (r .head) row (r .count - 1) l (n ∙ h)));
-        appends-sound =
-            λ good rows r row S h new.
-            record {
-              sized = length-set rows (slot (r .head) (r .count)) row ∙ S .sized;
-              each = λ i b. each-behind rows (r .head) good row 0 (r .count) (S .sized) (omega arith) new (λ k z c. S .each k c) i (omega arith) b;
-            };
+        appends-sound = grown-sound;
         takes-sound =
             λ good rows r S.
             record { sized = S .sized; each = λ i h. subst (λ k. good (getD rows k [])) (sym (w .next (r .head) i)) (S .each (suc i) (omega arith)) };
         overwrites-sound =
             λ good rows r row S h new.
             let stored = set rows (slot (r .head) (r .count)) row in
+            by-room (RingSound capacity slot good stored) r (λ more. grown-sound good rows r row S more new)
+            (λ full.
             record {
               sized = length-set rows (slot (r .head) (r .count)) row ∙ S .sized;
               each =
-                  by-room (λ x. (i : ℕ) → i < x .count → good (getD stored (slot (x .head) i) [])) r
-                  (λ more i b. each-behind rows (r .head) good row 0 (r .count) (S .sized) (omega arith) new (λ k z c. S .each k c) i (omega arith) b)
-                  (λ full i b.
-                  subst (λ k. good (getD stored k [])) (sym (w .next (r .head) i))
-                  (each-behind rows (r .head) good row 1 (r .count) (S .sized) (omega arith) new (λ k z c. S .each k c) (suc i) (omega arith) (omega arith)));
-            };
+                  λ i b. subst (λ k. good (getD stored k [])) (sym (w .next (r .head) i))
+                  (each-behind rows (r .head) good row 1 (r .count) (S .sized) (omega arith) new (λ k z c. S .each k c) (suc i) (omega arith) (omega arith));
+            });
         overwrites-within =
             λ r a b. by-room (λ x. (x .head < capacity) × (x .count ≤ capacity)) r (λ more. (a, omega arith)) (λ full. (w .below (r .head) 1, b));
       }
@@ -187,7 +191,7 @@ posted-sound memory rows r e S h fits = entry-ring .appends-sound (EntrySound me
 
 -- by the ring of the saved atomics, with room and full
 saved-by : (P : Ring → Type 0) (r : Ring) → (r .count < savedCapacity → P (oneMore r))
-    → (savedCapacity ≤ r .count → P (record { head = savedSlot (r .head) 1; count = r .count }))
+    → (savedCapacity ≤ r .count → P (turned savedSlot r))
     → P (savedRing r)
 unfolding savedRing
 saved-by = by-room savedCapacity savedSlot saved-slots

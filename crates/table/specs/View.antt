@@ -27,10 +27,13 @@ inRing slot rows r = ringFrom slot rows (r .head) 0 (r .count)
 abbrev pub oneMore : Ring → Ring
 oneMore r = record { head = r .head; count = r .count + 1 }
 
--- the ring after a store behind the last row, which in a full ring overwrites the oldest
+-- the ring from its second row on, with the row behind its last
+abbrev pub turned : (ℕ → ℕ → ℕ) → Ring → Ring
+turned slot r = record { head = slot (r .head) 1; count = r .count }
+
+-- the ring after a store behind its last row, which in a full ring overwrites the oldest
 abbrev pub overwritten : ℕ → (ℕ → ℕ → ℕ) → Ring → Ring
-overwritten capacity slot r =
-    cond (ltb (r .count) capacity) (oneMore r) (record { head = slot (r .head) 1; count = r .count })
+overwritten capacity slot r = cond (ltb (r .count) capacity) (oneMore r) (turned slot r)
 
 abbrev pub later : Saved → Saved → Saved
 later (Value v) s = Value v
