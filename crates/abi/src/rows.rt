@@ -30,11 +30,11 @@ fn row_malformed(row: [u64; 7], memory: u64) -> bool
 }
 
 // Whether some row is.
-pub fn regions_malformed(regions: &[[u64; 7]; 16], memory: u64) -> bool
+pub fn regions_malformed(regions: &[[u64; 7]; table::REGIONS], memory: u64) -> bool
     ensures { λ r. ⌜ r ≡ malformedFrom (now (regions .entry)) memory 0 16 ⌝ }
 {
     let mut i: usize = 0;
-    while i < 16 {
+    while i < table::REGIONS {
         let row = regions[i];
         let bad = row_malformed(row, memory);
         if bad {

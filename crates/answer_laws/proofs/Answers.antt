@@ -20,8 +20,9 @@ use Rattle.opcode.specs.Opcode.{serviceOf, lowOf, kindOf, lowClass, reservedCla
 use Rattle.header.specs.declared.Header.{Header}
 use Rattle.header.specs.declared.HeaderRead.the-variants as read
 use Rattle.pmtu.specs.Pieces.{pieces}
-use Rattle.table.specs.Table.{slotAt, noRegion, memoryOffset}
+use Rattle.table.specs.Table.{noRegion, memoryOffset}
 use Rattle.table.specs.View.{regionOf, newestSaved}
+use Rattle.table.proofs.Rings.{entry-slots}
 use Rattle.pair.specs.Answer.{statusNumber, executed}
 use Rattle.pair.specs.Claims.{Sound}
 use Rattle.pair.specs.declared.Setup.{Setup}
@@ -70,10 +71,7 @@ looked a W h e = rw (goes a W, e)
 
 -- the entry at the head
 pub head-first : (w : Whole) → Sound (w .pair) → headEntry (w .pair) (w .entries) ≡ entryAtHead w
-unfolding slotAt
-head-first w S =
-    let e : (w .pair .entries .head + 0) % 16 ≡ w .pair .entries .head = omega (arith, S .entries .0) in
-    ap (λ i. getD (w .entries) i []) e
+head-first w S = ap (λ i. getD (w .entries) i []) (entry-slots .start (w .pair .entries .head) (S .entries .0))
 
 -- a SEND has no key, so its code is the same whatever the region
 key-by : (memory kind : ℕ) (t : OpenMessage) (key : ℕ) (regions : List (List ℕ))

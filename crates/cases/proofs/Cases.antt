@@ -12,7 +12,7 @@ use Rattle.memory.specs.Word.{lowBytes, lowNumber, wordAt, storeWord, fetchAdde
 use Rattle.packet.specs.Packet.{padOf, packetBytes}
 use Rattle.opcode.specs.Place.{ends, starts}
 use Rattle.pmtu.specs.Pieces.{pmtuFits, pieces, placeAt, pieceAt, partAt}
-use Rattle.table.specs.Table.{outside, pastTop, regionOutside, regionRow, entryRow, sought, firstFrom, slotAt}
+use Rattle.table.specs.Table.{outside, pastTop, regionOutside, regionRow, entryRow, sought, firstFrom, entrySlot}
 use Rattle.table.specs.View.{regionOf}
 use Rattle.pair.specs.Answer.{statusNumber, executed}
 use Rattle.pair.specs.Pair.{freshPair}
@@ -85,7 +85,7 @@ unfolding classAt psnClass opcode.placeOf kindOf placeIn sendWriteFollows follow
     read.readBy bthOf extensionOf headerOf badLength otherService bthBytes aethBytes extensionBytes headerBytes
     headerLength fullMember pkeysMatch wrongService isResponse beyondService headerReason admitted overwrite store padOf
     packetBytes pmtuFits pieces placeAt ends starts pieceAt partAt outside pastTop regionOutside regionRow entryRow
-    sought firstFrom slotAt regionOf statusNumber executed freshPair setupUnfit setupUnsound countersUnsound ringUnsound
+    sought firstFrom entrySlot regionOf statusNumber executed freshPair setupUnfit setupUnsound countersUnsound ringUnsound
     messageUnsound readUnsound pairUnsound setUpStatus setUp setUpRegions readyStatus madeReady addStatus addRegions
     postStatus posted postEntries begun called calledAll carries carried carriedLength packetsOf lowFor extensionFor
     bthAt sizeAt headerAt payloadAt cutBytes operandsOf packetOf carrying outOfSequence notEnabled padEarly overLimit

@@ -13,6 +13,7 @@ use Rattle.sequence.specs.Sequence.{distance, psnAfter}
 use Rattle.sequence.specs.declared.Psn.{Psn}
 use Rattle.sequence.proofs.Circle.{after-distance}
 use Rattle.opcode.specs.Place.{starts}
+use Rattle.table.specs.Table.{entryCapacity, savedCapacity}
 use Rattle.pair.specs.Pair.{noMessage}
 use Rattle.pair.specs.Claims.{Sound, SetupSound, MessageSound, ReadSound}
 use Rattle.pair.specs.declared.Setup.{Setup}
@@ -118,8 +119,8 @@ sound-with q r S a b c d e f m n =
       state = subst (λ x. x ≤ 2) (sym b) (S .state);
       expected = subst (λ x. x .0 < 2 ^ 24) (sym c) (S .expected);
       msn = subst (λ x. x .0 < 2 ^ 24) (sym d) (S .msn);
-      entries = subst (λ x. (x .head < 16) × (x .count ≤ 16)) (sym e) (S .entries);
-      saved = subst (λ x. (x .head < 16) × (x .count ≤ 16)) (sym f) (S .saved);
+      entries = subst (λ x. (x .head < entryCapacity) × (x .count ≤ entryCapacity)) (sym e) (S .entries);
+      saved = subst (λ x. (x .head < savedCapacity) × (x .count ≤ savedCapacity)) (sym f) (S .saved);
       message = m;
       read = n;
     }

@@ -21,7 +21,7 @@ use Rattle.memory.proofs.Words.{fetch-within, swap-within}
 use Rattle.packet.specs.Packet.{payloadOf}
 use Rattle.opcode.specs.Place.{ends}
 use Rattle.pmtu.specs.Pieces.{pieces}
-use Rattle.table.specs.Table.{slotAt, memoryOffset}
+use Rattle.table.specs.Table.{entrySlot, memoryOffset}
 use Rattle.table.specs.View.{regionOf, savedRing, savedRows}
 use Rattle.pair.specs.Answer.{statusNumber, executed}
 use Rattle.pair.specs.Claims.{statusOf}
@@ -239,7 +239,7 @@ module _ (arrival : Arrival) where
       → (q .setup .service ≡ 1 → psnAfter (q .expected) n ≡ psnAfter (bthOf p .psn) 1)
       → targetOffset (packetIn p .kind) t entry region + payloadSize (packetIn p) ≤ q .setup .memory
       → StoresPacket arrival (L (answering a n outgoing (storePayload (packetIn p) t entry region)))
-  unfolding leftBy storePayload executedPair readAnswerBy savedRingBy savedBy actsAtomic memoryBy ringTaken slotAt packetOf headerOf
+  unfolding leftBy storePayload executedPair readAnswerBy savedRingBy savedBy actsAtomic memoryBy ringTaken entrySlot packetOf headerOf
   stores-packet-by a n outgoing t entry region few rc uc w =
       let k = packetIn p in
       let d = answering a n outgoing (storePayload k t entry region) in

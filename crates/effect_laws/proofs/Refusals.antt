@@ -138,7 +138,7 @@ inbound-answered arrival h e S r E =
       uc =
           λ region z. absurd
           (never-34 (viewed (packetIn (arrival .packet) .place) (arrival .whole .pair)) (arrival .whole .entries) (packetIn (arrival .packet)) region (viewed-sound (packetIn (arrival .packet) .place) (arrival .whole .pair) S)
-          (record { rows16 = E .rows16; each = E .each }) z);
+          (record { sized = E .sized; each = E .each }) z);
     })
     (goes (arrival .whole .pair) (arrival .memory) (arrival .out) h e S r))
 

@@ -103,7 +103,7 @@ fn execute(
 }
 
 // The row of the key's region; a SEND has no key.
-fn key_region(regions: &[[u64; 7]; 16], kind: u8, key: u32) -> [u64; 7]
+fn key_region(regions: &[[u64; 7]; table::REGIONS], kind: u8, key: u32) -> [u64; 7]
     ensures { λ r. ⌜ r ≡ regionFor kind key (now (regions .entry)) ⌝ }
 {
     if kind == opcode::SEND {
@@ -150,8 +150,8 @@ fn open_kind(uc: bool, place: u8, opened: OpenMessage) -> u8
 pub fn decision(
     uc: bool,
     pair: Pair,
-    regions: &[[u64; 7]; 16],
-    entries: &[[u64; 3]; 16],
+    regions: &[[u64; 7]; table::REGIONS],
+    entries: &[[u64; 3]; table::ENTRIES],
     p: Packet,
 ) -> Decision
     ensures { λ r. ⌜ r ≡ cond (unformed p (pair .setup .timer)) (noReply Status.OutOfRange) (either uc p (pair .setup) (pair .expected) (pair .message) (pair .entries .count) (headEntry pair (now (entries .entry))) (regionFor (p .kind) (current (pair .message) p .key) (now (regions .entry)))) ⌝ }

@@ -45,9 +45,9 @@ fn outcome_with(pair: Pair, d: Decision) -> Outcome
 // pair's service says by whose rules it is decided.
 pub fn inbound(
     pair: Pair,
-    regions: &[[u64; 7]; 16],
-    entries: &[[u64; 3]; 16],
-    saved: &mut [[u64; 2]; 16],
+    regions: &[[u64; 7]; table::REGIONS],
+    entries: &[[u64; 3]; table::ENTRIES],
+    saved: &mut [[u64; 2]; table::SAVED],
     mem: &mut [u8],
     packet: &[u8],
     out: &mut [u8],

@@ -31,11 +31,11 @@ fn unsound(pair: Pair) -> bool
     if b {
         return true;
     }
-    let c = ring_unsound(pair.entries.head, pair.entries.count);
+    let c = ring_unsound(table::ENTRIES, pair.entries.head, pair.entries.count);
     if c {
         return true;
     }
-    let d = ring_unsound(pair.saved.head, pair.saved.count);
+    let d = ring_unsound(table::SAVED, pair.saved.head, pair.saved.count);
     if d {
         return true;
     }

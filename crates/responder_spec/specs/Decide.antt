@@ -17,7 +17,7 @@ use Rattle.header.specs.declared.HeaderRead.{HeaderRead}
 use Rattle.header.specs.declared.HeaderRead.the-variants as read
 use Rattle.opcode.specs.Place.{starts, ends}
 use Rattle.pmtu.specs.Pieces.{pieces}
-use Rattle.table.specs.Table.{slotAt, noRegion, memoryOffset}
+use Rattle.table.specs.Table.{entrySlot, noRegion, memoryOffset}
 use Rattle.table.specs.View.{regionOf, newestSaved}
 use Rattle.table.specs.EntryRow as EntryRow
 use Rattle.table.specs.declared.Saved.{Saved}
@@ -257,7 +257,7 @@ regionFor kind key regions = cond (eqb kind Kind.send) noRegion (regionOf key re
 
 -- the entry at the head of the ring: the one that an open SEND holds, else the first that waits
 abbrev pub headEntry : Pair → List (List ℕ) → List ℕ
-headEntry q entries = getD entries (slotAt (q .entries .head) 0) []
+headEntry q entries = getD entries (entrySlot (q .entries .head) 0) []
 
 -- By the class of its number
 abbrev pub decisionByClass : Class → Pair → Packet → List ℕ → List ℕ → Saved → Decision

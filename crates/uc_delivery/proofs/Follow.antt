@@ -13,7 +13,7 @@ use Rattle.sequence.specs.declared.Psn.{Psn}
 use Rattle.sequence.specs.declared.Msn.{Msn}
 use Rattle.memory.specs.Memory.{overwrite}
 use Rattle.pmtu.specs.Pieces.{pieceAt}
-use Rattle.table.specs.Table.{outside, slotAt}
+use Rattle.table.specs.Table.{outside, entrySlot}
 use Rattle.table.specs.declared.Entry.{Entry}
 use Rattle.pair.specs.Calls.{Whole}
 use Rattle.pair.specs.Claims.{SetupFit}
@@ -176,7 +176,7 @@ module _ (w : Whole) (m : Message) (first : Psn) (P : Permitted (w .pair .setup)
   slot i = record { message = m; first = first; index = i }
 
   abbrev pub entry : List ℕ
-  entry = getD (w .entries) (slotAt (w .pair .entries .head) 0) []
+  entry = getD (w .entries) (entrySlot (w .pair .entries .head) 0) []
 
   abbrev pub held : ℕ → List Entry
   held i = heldAt (eqb i 0) (m .request) (firstWaiting w)

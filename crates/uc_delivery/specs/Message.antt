@@ -11,7 +11,7 @@ use Rattle.sequence.specs.declared.Psn.{Psn}
 use Rattle.header.specs.Bytes.{Bytes}
 use Rattle.header.specs.Read.{bthOf}
 use Rattle.memory.specs.Memory.{overwrite}
-use Rattle.table.specs.Table.{slotAt}
+use Rattle.table.specs.Table.{entrySlot}
 use Rattle.table.specs.declared.Entry.{Entry}
 use Rattle.table.specs.declared.Ring.{Ring}
 use Rattle.pair.specs.Calls.{Whole, HostCall, begun, calledAll}
@@ -68,7 +68,7 @@ pub record MayCome (outs : ℕ → List ℕ) (m : Message) (first : Psn) (x : Ru
 
 -- The first entry of the ring: the one of an open SEND, which a First or Only closes, else the first that waits.
 abbrev pub firstWaiting : Whole → Entry
-firstWaiting w = entryOf (getD (w .entries) (slotAt (w .pair .entries .head) 0) [])
+firstWaiting w = entryOf (getD (w .entries) (entrySlot (w .pair .entries .head) 0) [])
 
 -- an entry is there if the message takes one, and a SEND fits it
 pub record HasEntry (w : Whole) (m : Message) : Type 0 where
@@ -87,7 +87,7 @@ target (FetchAdd t v) regions e = 0
 
 -- the entry, if the message takes one, is used up
 abbrev pub without : Bool → Ring → Ring
-without takesEntry r = cond takesEntry (record { head = slotAt (r .head) 1; count = r .count - 1 }) r
+without takesEntry r = cond takesEntry (record { head = entrySlot (r .head) 1; count = r .count - 1 }) r
 
 -- The whole of what is left: the message's bytes where they belong and no other byte changed; one completion, if the
 -- message takes an entry; the MSN one higher, the PSN behind the last packet's expected, no message open.

@@ -15,7 +15,7 @@ fn names(packet: &[u8]) -> bool
 }
 
 // Whether a packet may name a region, and the table has a row that no call wrote.
-fn malformed_for(regions: &[[u64; 7]; 16], memory: u64, packet: &[u8]) -> bool
+fn malformed_for(regions: &[[u64; 7]; table::REGIONS], memory: u64, packet: &[u8]) -> bool
     ensures { λ r. ⌜ r ≡ malformedFor (now (regions .entry)) memory (now (packet .entry)) ⌝ }
 {
     let keyed = names(packet);
@@ -42,9 +42,9 @@ fn report_words(outgoing: usize, c: Completion) -> [u64; 6]
 #[no_mangle]
 pub extern "C" fn udalopek_inbound(
     pair: &mut [u64],
-    regions: &[[u64; 7]; 16],
-    entries: &[[u64; 3]; 16],
-    saved: &mut [[u64; 2]; 16],
+    regions: &[[u64; 7]; table::REGIONS],
+    entries: &[[u64; 3]; table::ENTRIES],
+    saved: &mut [[u64; 2]; table::SAVED],
     mem: &mut [u8],
     packet: &[u8],
     out: &mut [u8],
