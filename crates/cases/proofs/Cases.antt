@@ -25,7 +25,7 @@ use Rattle.cut_spec.specs.Cut.{lowFor, extensionFor, bthAt, sizeAt, headerAt, p
 use Rattle.request_spec.specs.Packet.{operandsOf, packetOf}
 use Rattle.request_spec.specs.Verdict.{carrying, outOfSequence, notEnabled, padEarly, overLimit, needsEntry}
 use Rattle.request_spec.specs.Verdict.{entriesWaiting, noneWaiting, usesEntry, entryOutside, keyLacking, keyFails}
-use Rattle.request_spec.specs.Verdict.{sizeOff, totalOff, payloadSize, lengthsOff, current, requestCode, expectedCode}
+use Rattle.request_spec.specs.Verdict.{sizeOff, totalOff, payloadSize, lengthsOff, current, requestCheck, expectedCheck}
 use Rattle.responder_spec.specs.Decide.{acknowledging, completes, completionOf, messageAfter, targetOffset}
 use Rattle.responder_spec.specs.Decide.{storePayload, execute, checkedDecision, expectedDecision, psnBefore}
 use Rattle.responder_spec.specs.Decide.{duplicateDecision, rcDecision, packetDecision, readsFull, inboundRefusal}
@@ -90,7 +90,7 @@ unfolding classAt psnClass opcode.placeOf kindOf placeIn sendWriteFollows follow
     postStatus posted postEntries begun called calledAll carries carried carriedLength packetsOf lowFor extensionFor
     bthAt sizeAt headerAt payloadAt cutBytes operandsOf packetOf carrying outOfSequence notEnabled padEarly overLimit
     needsEntry entriesWaiting noneWaiting usesEntry entryOutside keyLacking keyFails sizeOff totalOff payloadSize
-    lengthsOff current requestCode expectedCode acknowledging completes completionOf messageAfter targetOffset
+    lengthsOff current requestCheck expectedCheck acknowledging completes completionOf messageAfter targetOffset
     storePayload execute checkedDecision expectedDecision psnBefore duplicateDecision rcDecision packetDecision
     readsFull inboundRefusal memoryBy actsAtomic savedRingBy ringTaken entriesBy msnBy readAnswerBy executedPair pairByNumber
     pairBy replyHeader ackHeader answerBytes over outBy leftBy decision inbound

@@ -20,7 +20,7 @@ use Rattle.pair.specs.declared.Setup.{Setup}
 use Rattle.pair.specs.declared.OpenMessage.{OpenMessage}
 use Rattle.pair.specs.declared.Pair.{Pair}
 use Rattle.pair.specs.declared.Status.the-variants as status
-use Rattle.request_spec.specs.Verdict.{outOfSequence, current, requestCode, expectedCode}
+use Rattle.request_spec.specs.Verdict.{outOfSequence, current, requestCheck, expectedCheck}
 use Rattle.request_spec.specs.declared.Packet.{Packet}
 use Rattle.responder_spec.specs.declared.Decision.{Decision}
 use Rattle.responder_spec.specs.Decide.{noReply, orphaned, strays, closedBy, ucCheckedDecision, ucDecision}
@@ -57,7 +57,7 @@ module _ (p : Packet) (s : Setup) (expected : Psn) (opened : OpenMessage) (count
   D = ucDecision p s expected opened count entry region
 
   abbrev checked : Decision
-  checked = ucCheckedDecision (requestCode s (closedBy (p .place) opened) p count entry region) p expected opened entry region
+  checked = ucCheckedDecision (requestCheck s (closedBy (p .place) opened) p count entry region) p expected opened entry region
 
   pub orphan-dropped : orphaned (p .place) (opened .kind) ≡ true → D ≡ noReply status.Dropped
   unfolding ucDecision
@@ -153,10 +153,10 @@ in-sequence opened p expected h = go (starts (p .place)) h
 
 pub same-code : (s : Setup) (opened : OpenMessage) (p : Packet) (expected : Psn) (count : ℕ) (entry region : List ℕ)
     → strays p expected (opened .kind) ≡ false
-    → expectedCode s (closedBy (p .place) opened) p count entry region ≡ requestCode s (closedBy (p .place) opened) p count entry region
-unfolding expectedCode
+    → expectedCheck s (closedBy (p .place) opened) p count entry region ≡ requestCheck s (closedBy (p .place) opened) p count entry region
+unfolding expectedCheck
 same-code s opened p expected count entry region h =
-    ap (λ b. cond b 17 (requestCode s (closedBy (p .place) opened) p count entry region)) (in-sequence opened p expected h)
+    ap (λ b. cond b 1 (requestCheck s (closedBy (p .place) opened) p count entry region)) (in-sequence opened p expected h)
 
 -- what strays finds a message open
 pub stray-open : (p : Packet) (expected : Psn) (opened : ℕ) → orphaned (p .place) opened ≡ false → strays p expected opened ≡ true

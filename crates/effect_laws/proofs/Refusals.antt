@@ -35,7 +35,7 @@ use Rattle.decision_laws.proofs.Rows.UcRow.{unheard, abandon, deliver}
 use Rattle.decision_laws.proofs.Rows.AnyRow.{reliable, unreliable}
 use Rattle.decision_laws.proofs.Rows.{UcRow, AnyRow, Late, Row, taken-row}
 use Rattle.decision_laws.proofs.Views.{viewed, viewed-sound}
-use Rattle.decision_laws.proofs.Codes.{never-34}
+use Rattle.decision_laws.proofs.Codes.{never-row}
 use Rattle.effect_laws.proofs.Effects.{silent}
 
 -- a refusal is the answer
@@ -134,10 +134,10 @@ unfolding inbound leftBy decision
 inbound-answered arrival h e S r E =
     any-late Unread (λ a. statusNumber a ≤ 19) unread-number (λ a z. z) (arrival .whole) (packetIn (arrival .packet)) (decision arrival)
     (taken-row Unread away arrival (record {
-      rc = λ region z. absurd (never-34 (arrival .whole .pair) (arrival .whole .entries) (packetIn (arrival .packet)) region S E z);
+      rc = λ region z. absurd (never-row (arrival .whole .pair) (arrival .whole .entries) (packetIn (arrival .packet)) region S E z);
       uc =
           λ region z. absurd
-          (never-34 (viewed (packetIn (arrival .packet) .place) (arrival .whole .pair)) (arrival .whole .entries) (packetIn (arrival .packet)) region (viewed-sound (packetIn (arrival .packet) .place) (arrival .whole .pair) S)
+          (never-row (viewed (packetIn (arrival .packet) .place) (arrival .whole .pair)) (arrival .whole .entries) (packetIn (arrival .packet)) region (viewed-sound (packetIn (arrival .packet) .place) (arrival .whole .pair) S)
           (record { sized = E .sized; each = E .each }) z);
     })
     (goes (arrival .whole .pair) (arrival .memory) (arrival .out) h e S r))
