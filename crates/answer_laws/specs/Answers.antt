@@ -57,10 +57,15 @@ HeaderDropped =
 abbrev pub entryAtHead : Whole → List ℕ
 entryAtHead w = getD (w .entries) (w .pair .entries .head) []
 
+-- The request checks of a packet k of the message t, while `opened` is open: the check that fails.
+abbrev pub JudgedIn : Whole → OpenMessage → Packet → OpenMessage → ℕ → Type 0
+JudgedIn w opened k t check =
+    JudgedBy (w .pair .setup) opened k t (w .pair .entries .count) (entryAtHead w) (regionOf (t .key) (w .regions)) check
+
 -- The expected PSN: by the request check that fails, and where none does, which is 0, by kind and AckReq.
 pub record Expects (w : Whole) (k : Packet) (t : OpenMessage) (number : ℕ) : Type 0 where
   pub check : ℕ
-  pub judged : JudgedBy (w .pair .setup) (w .pair .message) k t (w .pair .entries .count) (entryAtHead w) (regionOf (t .key) (w .regions)) check
+  pub judged : JudgedIn w (w .pair .message) k t check
   pub fails : (check ≡ 0 → ⊥) → AnswerOf check number
   pub reads : check ≡ 0 → k .kind ≡ 12 → number ≡ 2
   pub swaps : check ≡ 0 → IsAtomic (k .kind) → number ≡ 3
@@ -131,8 +136,7 @@ Comes a c = (headerBy a ≡ read.Accepted (headerOf (a .packet))) × (psnClass (
 -- a packet with the expected PSN, and the check that fails
 pub record Examined (a : Arrival) (t : OpenMessage) (check : ℕ) : Type 0 where
   pub comes : Comes a class.Expected
-  pub judged :
-      JudgedBy (a .whole .pair .setup) (a .whole .pair .message) (packetIn (a .packet)) t (a .whole .pair .entries .count) (entryAtHead (a .whole)) (regionOf (t .key) (a .whole .regions)) check
+  pub judged : JudgedIn (a .whole) (a .whole .pair .message) (packetIn (a .packet)) t check
 
 pub data Reason (a : Arrival) (t : OpenMessage) : ℕ → Type 0 where
   unread : (reason : ℕ) → headerBy a ≡ read.Dropped reason → Reason a t 5
@@ -183,7 +187,8 @@ pub record StoresPayload (a : Arrival) (k : Packet) (t : OpenMessage) (l : Left)
   pub carried : length (payloadOf (a .packet)) ≡ k .body - k .pad
   pub sends : k .kind ≡ 0 → InEntry (entryAtHead (a .whole)) (a .whole .pair .setup .memory) (t .stored) (payloadOf (a .packet)) (a .memory) (l .memory)
   pub writes : k .kind ≡ 6 → 0 < t .length - t .stored
-      → InRegion (regionOf (t .key) (a .whole .regions)) (a .whole .pair .setup .memory) (t .address + t .stored) (t .length - t .stored) (payloadOf (a .packet)) (a .memory) (l .memory)
+      → InRegion (regionOf (t .key) (a .whole .regions)) (a .whole .pair .setup .memory) (t .address + t .stored) (t .length - t .stored)
+      (payloadOf (a .packet)) (a .memory) (l .memory)
   pub nothing : k .kind ≡ 6 → t .length - t .stored ≡ 0 → l .memory ≡ a .memory
   pub sent-whole : k .kind ≡ 0 → Ends (k .place)
       → Completes k (getD (entryAtHead (a .whole)) 0 0) (t .stored + length (payloadOf (a .packet))) (l .completion)
@@ -217,5 +222,5 @@ pub record OnRegion (region : List ℕ) (q : Pair) (k : Packet) (old new : List 
 abbrev pub InboundSwaps : Type 0
 InboundSwaps =
     (a : Arrival) → AnswersWith a 3
-    → OnRegion (regionOf (packetIn (a .packet) .operands .key) (a .whole .regions)) (a .whole .pair) (packetIn (a .packet)) (a .memory) (inbound a .memory) (a .whole .saved)
-    (inbound a .whole .saved)
+    → OnRegion (regionOf (packetIn (a .packet) .operands .key) (a .whole .regions)) (a .whole .pair) (packetIn (a .packet))
+    (a .memory) (inbound a .memory) (a .whole .saved) (inbound a .whole .saved)

@@ -19,11 +19,11 @@ use Rattle.pair.specs.View.{heldOf, waitingOf}
 use Rattle.pair.specs.declared.OpenMessage.{OpenMessage}
 use Rattle.pair.specs.declared.Pair.{Pair}
 use Rattle.request_spec.specs.Packet.{packetOf}
-use Rattle.request_spec.specs.Claims.{Begins, GoesOn, Carries, IsCurrent, JudgedBy}
+use Rattle.request_spec.specs.Claims.{Begins, GoesOn, Carries, IsCurrent}
 use Rattle.request_spec.specs.declared.Packet.{Packet}
 use Rattle.responder_spec.specs.Inbound.{inbound}
 use Rattle.effect_laws.specs.Effects.{AnswersWith}
-use Rattle.answer_laws.specs.Answers.{Willing, headerBy, entryAtHead, InEntry, Completes}
+use Rattle.answer_laws.specs.Answers.{JudgedIn, Willing, headerBy, entryAtHead, InEntry, Completes}
 use Rattle.request_spec.specs.Packet.{packetIn}
 
 -- Only SENDs and WRITEs pass the header checks: UC has no other opcode.
@@ -50,7 +50,7 @@ Fails check = (1 ≤ check) × (check ≤ 7)
 -- open when the packet came, and 5 if none was.
 pub record UcChecked (w : Whole) (opened : OpenMessage) (k : Packet) (t : OpenMessage) (number : ℕ) : Type 0 where
   pub check : ℕ
-  pub judged : JudgedBy (w .pair .setup) opened k t (w .pair .entries .count) (entryAtHead w) (regionOf (t .key) (w .regions)) check
+  pub judged : JudgedIn w opened k t check
   pub good : check ≡ 0 → number ≡ 0
   pub outside : check ≡ 8 → number ≡ 34
   pub closes : Fails check → (w .pair .message .kind ≡ 255 → ⊥) → number ≡ 6
@@ -75,14 +75,15 @@ pub record UcExamined (a : Arrival) (t : OpenMessage) (check : ℕ) : Type 0 whe
   pub passes : headerBy a ≡ read.Accepted (headerOf (a .packet))
   pub opened : OpenMessage
   pub meets : CheckedUnder (a .whole .pair) (packetIn (a .packet)) opened
-  pub judged :
-      JudgedBy (a .whole .pair .setup) opened (packetIn (a .packet)) t (a .whole .pair .entries .count) (entryAtHead (a .whole)) (regionOf (t .key) (a .whole .regions)) check
+  pub judged : JudgedIn (a .whole) opened (packetIn (a .packet)) t check
 
 -- The reasons, each by the number of its answer.
 pub data UcCause (a : Arrival) (t : OpenMessage) : ℕ → Type 0 where
   unread : (reason : ℕ) → headerBy a ≡ read.Dropped reason → UcCause a t 5
   orphan : headerBy a ≡ read.Accepted (headerOf (a .packet)) → GoesOn (packetIn (a .packet) .place) → a .whole .pair .message .kind ≡ 255 → UcCause a t 5
-  stray : headerBy a ≡ read.Accepted (headerOf (a .packet)) → GoesOn (packetIn (a .packet) .place) → (a .whole .pair .message .kind ≡ 255 → ⊥) → Strays (a .whole .pair) (packetIn (a .packet))
+  stray : headerBy a ≡ read.Accepted (headerOf (a .packet)) → GoesOn (packetIn (a .packet) .place)
+      → (a .whole .pair .message .kind ≡ 255 → ⊥)
+      → Strays (a .whole .pair) (packetIn (a .packet))
       → UcCause a t 6
   dropped : (check : ℕ) → UcExamined a t check → Fails check → a .whole .pair .message .kind ≡ 255 → UcCause a t 5
   closed : (check : ℕ) → UcExamined a t check → Fails check → (a .whole .pair .message .kind ≡ 255 → ⊥) → UcCause a t 6
@@ -128,7 +129,8 @@ pub record TakesHeldEntry (a : Arrival) (l : Left) : Type 0 where
   pub waiting : waitingOf (l .whole .pair) (a .whole .entries) ≡ waitingOf (a .whole .pair) (a .whole .entries)
   pub first : packetIn (a .packet) .place ≡ 0 → heldOf (l .whole .pair) (a .whole .entries) ≡ heldOf (a .whole .pair) (a .whole .entries)
   pub only : packetIn (a .packet) .place ≡ 4
-      → (heldOf (l .whole .pair) (a .whole .entries) ≡ []) × Completes (packetIn (a .packet)) (getD (entryAtHead (a .whole)) 0 0) (length (payloadOf (a .packet))) (l .completion)
+      → (heldOf (l .whole .pair) (a .whole .entries) ≡ [])
+      × Completes (packetIn (a .packet)) (getD (entryAtHead (a .whole)) 0 0) (length (payloadOf (a .packet))) (l .completion)
 
 abbrev pub HeldEntryTaken : Type 0
 HeldEntryTaken =

@@ -144,7 +144,8 @@ inbound-answered arrival h e S r E =
 
 -- the other way round: what was not refused
 pub inbound-meant : InboundMeant
-inbound-meant arrival h = go (ltb (length (arrival .out)) 24) (eqb (length (arrival .memory)) (arrival .whole .pair .setup .memory)) (pairUnsound (arrival .whole .pair)) (eqb (arrival .whole .pair .read .remaining) 0) refl refl refl refl
+inbound-meant arrival h = go (ltb (length (arrival .out)) 24) (eqb (length (arrival .memory)) (arrival .whole .pair .setup .memory))
+    (pairUnsound (arrival .whole .pair)) (eqb (arrival .whole .pair .read .remaining) 0) refl refl refl refl
   where
     N : ℕ
     N = inbound arrival .number
@@ -152,7 +153,8 @@ inbound-meant arrival h = go (ltb (length (arrival .out)) 24) (eqb (length (arri
     no : {A : Type 0} (k : ℕ) → N ≡ k → 32 ≤ k → A
     no k e l = absurd (omega (arith, h))
 
-    go : (a b c d : Bool) → ltb (length (arrival .out)) 24 ≡ a → eqb (length (arrival .memory)) (arrival .whole .pair .setup .memory) ≡ b → pairUnsound (arrival .whole .pair) ≡ c → eqb (arrival .whole .pair .read .remaining) 0 ≡ d
+    go : (a b c d : Bool) → ltb (length (arrival .out)) 24 ≡ a → eqb (length (arrival .memory)) (arrival .whole .pair .setup .memory) ≡ b
+        → pairUnsound (arrival .whole .pair) ≡ c → eqb (arrival .whole .pair .read .remaining) 0 ≡ d
         → (24 ≤ length (arrival .out)) × (length (arrival .memory) ≡ arrival .whole .pair .setup .memory) × Sound (arrival .whole .pair) × (arrival .whole .pair .read .remaining ≡ 0)
     go true b c d w x y z = no 35 (inbound-short arrival (ltb-true (length (arrival .out)) 24 w)) (omega arith)
     go false false c d w x y z =

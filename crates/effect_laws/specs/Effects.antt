@@ -132,9 +132,12 @@ pub record StoresPacket (a : Arrival) (l : Left) : Type 0 where
   pub expected : (a .whole .pair .setup .service ≡ 1 → ⊥) → l .whole .pair .expected ≡ psnAfter (a .whole .pair .expected) 1
   pub taken : a .whole .pair .setup .service ≡ 1 → l .whole .pair .expected ≡ psnAfter (bthOf (a .packet) .psn) 1
   pub memory : (at : ℕ) × (at + length (payloadOf (a .packet)) ≤ a .whole .pair .setup .memory) × (l .memory ≡ store (a .memory) at (payloadOf (a .packet)))
-  pub ends : 2 ≤ classOf (bthOf (a .packet) .opcode) .place → (l .whole .pair .msn ≡ msnNext (a .whole .pair .msn)) × (l .whole .pair .message ≡ (record { kind = 255; stored = 0; address = 0; key = 0; length = 0 }))
+  pub ends : 2 ≤ classOf (bthOf (a .packet) .opcode) .place
+      → (l .whole .pair .msn ≡ msnNext (a .whole .pair .msn))
+      × (l .whole .pair .message ≡ (record { kind = 255; stored = 0; address = 0; key = 0; length = 0 }))
   pub onward : classOf (bthOf (a .packet) .opcode) .place < 2 → (l .whole .pair .msn ≡ a .whole .pair .msn) × Silent (l .completion)
-  pub completes : l .completion .some ≡ true → l .whole .pair .entries ≡ (record { head = (a .whole .pair .entries .head + 1) % 16; count = a .whole .pair .entries .count - 1 })
+  pub completes : l .completion .some ≡ true
+      → l .whole .pair .entries ≡ (record { head = (a .whole .pair .entries .head + 1) % 16; count = a .whole .pair .entries .count - 1 })
   pub silent : l .completion .some ≡ false → l .whole .pair .entries ≡ a .whole .pair .entries
   pub read : l .whole .pair .read ≡ a .whole .pair .read
   pub ring : l .whole .pair .saved ≡ a .whole .pair .saved

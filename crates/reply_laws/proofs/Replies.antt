@@ -200,7 +200,8 @@ module _ (arrival : Arrival) (S : Sound (arrival .whole .pair)) (P : arrival .wh
 module _ (arrival : Arrival) where
   abbrev Swapped : Left → Type 0
   Swapped l =
-      (at : ℕ) × ValueSent arrival l (bthOf (arrival .packet) .psn) (wordAt (arrival .memory) at) × (l .whole .saved ≡ savedRows (arrival .whole .saved) (arrival .whole .pair .saved) (bthOf (arrival .packet) .psn .0) (wordAt (arrival .memory) at))
+      (at : ℕ) × ValueSent arrival l (bthOf (arrival .packet) .psn) (wordAt (arrival .memory) at) ×
+      (l .whole .saved ≡ savedRows (arrival .whole .saved) (arrival .whole .pair .saved) (bthOf (arrival .packet) .psn .0) (wordAt (arrival .memory) at))
 
   abbrev DuplicateLeaves : Left → Type 0
   DuplicateLeaves l =
@@ -228,7 +229,8 @@ module _ (arrival : Arrival) where
   Reply status.KeyInUse l = Unit {0}
   Reply status.BadNumber l = Unit {0}
 
-  module _ (S : Sound (arrival .whole .pair)) (P : arrival .whole .pair .setup .pkey < 2 ^ 16) (M : Bytes (arrival .memory)) (B : Bytes (arrival .packet)) (W : SavedSound (arrival .whole .saved) (arrival .whole .pair .saved)) where
+  module _ (S : Sound (arrival .whole .pair)) (P : arrival .whole .pair .setup .pkey < 2 ^ 16) (M : Bytes (arrival .memory))
+      (B : Bytes (arrival .packet)) (W : SavedSound (arrival .whole .saved) (arrival .whole .pair .saved)) where
     store-reply : (t : OpenMessage) (entry region : List ℕ) (b : Bool) → packetIn (arrival .packet) .ackreq ≡ b
         → Reply (cond b status.Acknowledged status.Executed) (leftBy arrival (storePayload (packetIn (arrival .packet)) t entry region))
     unfolding storePayload packetOf headerOf

@@ -2,7 +2,7 @@
 use Prim.Native.Nat.{ℕ, _≤_}
 use mathlib.Core.Path.{_≡_, refl, sym, subst, _∙_}
 use mathlib.Core.Bool.{Bool, true, false, cond, true≢false}
-use mathlib.Core.Logic.{_⊎_, inl, inr}
+use mathlib.Core.Logic.{inl, inr}
 use native.Mathlib.Omega.{arith}
 use lib.Dec.{eqb}
 use lib.ListN.{getD}
@@ -126,7 +126,8 @@ module _ (A B C D E F G H : Type 0) (a b c d e f g h : Bool) (sa : Tells a A) (s
       let p = pass g 6 _ v z6 (t .6) in
       (t .0, t .1, t .2, t .3, t .4, t .5, sg (t .1) .0 (p .0), p .1)
 
-  eight : (v : ℕ) → eqb 1 v ≡ false → eqb 2 v ≡ false → eqb 3 v ≡ false → eqb 4 v ≡ false → eqb 5 v ≡ false → eqb 8 v ≡ false → eqb 6 v ≡ false → eqb 7 v ≡ false → from1 ≡ v → A × B × C × D × E × F × G × H × (0 ≡ v)
+  eight : (v : ℕ) → eqb 1 v ≡ false → eqb 2 v ≡ false → eqb 3 v ≡ false → eqb 4 v ≡ false → eqb 5 v ≡ false → eqb 8 v ≡ false
+      → eqb 6 v ≡ false → eqb 7 v ≡ false → from1 ≡ v → A × B × C × D × E × F × G × H × (0 ≡ v)
   eight v z1 z2 z3 z4 z5 z8 z6 z7 q =
       let t = seven v z1 z2 z3 z4 z5 z8 z6 q in
       let p = pass h 7 _ v z7 (t .7) in

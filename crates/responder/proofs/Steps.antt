@@ -205,7 +205,8 @@ module _ (arrival : Arrival) (t : Status) (is : t ≡ refusalOf arrival)
           ∙ (ap (λ b. cond b (noReply status.OutOfRange) (packetDecision (arrival .whole) (packetOf h (length (arrival .packet))))) formed
           ∙ sym (decided-by (read.Accepted h) (A .0))))
 
-      kept : cond (actsAtomic (d .act)) (savedRows (arrival .whole .saved) (arrival .whole .pair .saved) (d .psn .0) value) (arrival .whole .saved) ≡ savedBy (arrival .whole .pair .saved) d (arrival .whole .saved) (arrival .memory)
+      kept : cond (actsAtomic (d .act)) (savedRows (arrival .whole .saved) (arrival .whole .pair .saved) (d .psn .0) value)
+          (arrival .whole .saved) ≡ savedBy (arrival .whole .pair .saved) d (arrival .whole .saved) (arrival .memory)
       kept = ap (λ x. cond (actsAtomic (d .act)) (savedRows (arrival .whole .saved) (arrival .whole .pair .saved) (d .psn .0) x) (arrival .whole .saved)) v ∙ saved-value (arrival .whole .pair .saved) d (arrival .whole .saved) (arrival .memory)
 
       outgoing : cond (ltb (length (arrival .out)) 24) (arrival .out) (over (answerBytes (arrival .whole .pair .setup) d (next .msn) value) (arrival .out)) ≡ over (answerBytes (arrival .whole .pair .setup) d (pairBy (arrival .whole .pair) d .msn) (valueBy d (arrival .memory))) (arrival .out)

@@ -1,5 +1,5 @@
 -- What is proved of the tables, each statement by a name; the proofs stand in proofs/.
-use Prim.Native.Nat.{ℕ, suc, _+_, _-_, _^_, _≤_, _<_}
+use Prim.Native.Nat.{ℕ, suc, _+_, _-_, _%_, _^_, _≤_, _<_}
 use mathlib.Core.Path.{_≡_}
 use mathlib.Core.Bool.{cond, false}
 use mathlib.Core.List.{List, [], _∷_, _++_}
@@ -124,6 +124,11 @@ EntrySlots = SlotLaws 16 entrySlot
 
 abbrev pub SavedSlots : Type 0
 SavedSlots = SlotLaws 16 savedSlot
+
+-- The remainder is such a slot at each capacity that the rules have now and will have.
+abbrev pub Capacities : Type 0
+Capacities =
+    SlotLaws 16 (λ head i. (head + i) % 16) × SlotLaws 64 (λ head i. (head + i) % 64) × SlotLaws 4096 (λ head i. (head + i) % 4096)
 
 -- A ring that calls made: all rows of its table, and those in use good.
 pub record RingSound (capacity : ℕ) (slot : ℕ → ℕ → ℕ) (good : List ℕ → Type 0) (rows : List (List ℕ)) (r : Ring) : Type 0 where
