@@ -1,5 +1,5 @@
-// What a decision does: to memory, to the saved atomics and to the pair. The definitions and their laws stand in the
-// crate responder_spec.
+// What a decision does: to memory, to the saved atomics and to the pair. The definitions stand in the crate
+// responder_spec.
 mod state;
 
 use responder_spec::Decision;

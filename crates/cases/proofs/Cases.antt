@@ -34,7 +34,7 @@ use Rattle.responder_spec.specs.Apply.{memoryBy, actsAtomic, savedRingBy, ringT
 use Rattle.responder_spec.specs.Reply.{replyHeader, ackHeader, answerBytes, over, outBy}
 use Rattle.responder_spec.specs.Inbound.{leftBy, inbound}
 use Rattle.cases.specs.Cases.Case.{W1, W2, W3, W4, W5, W6, W7, W8, W9, W10, W11, W12}
-use Rattle.cases.specs.Cases.{classNumber, count, next, posts, ready, standing, zeros, completionNumbers, leftNumbers, arrives, given, once, found, said, Cases}
+use Rattle.cases.specs.Cases.{classNumber, count, next, posts, ready, standing, zeros, completionNumbers, leftNumbers, given, once, found, said, Cases}
 
 w1 : found W1 ≡ said W1
 unfolding classAt psnClass classNumber found said
@@ -94,7 +94,7 @@ unfolding classAt psnClass opcode.placeOf kindOf placeIn sendWriteFollows follow
     storePayload execute checkedDecision expectedDecision psnBefore duplicateDecision rcDecision packetDecision
     readsFull inboundRefusal memoryBy actsAtomic savedRingBy ringTaken entriesBy msnBy readAnswerBy executedPair pairByNumber
     pairBy replyHeader ackHeader answerBytes over outBy leftBy decision inbound
-    posts ready standing zeros completionNumbers leftNumbers arrives given once found said
+    posts ready standing zeros completionNumbers leftNumbers given once found said
 w12 = refl
 
 pub cases : Cases

@@ -1,5 +1,5 @@
 // What a request leads to: a decision, which changes nothing yet, by the rules of the pair's service. The definitions
-// and their laws stand in the crate responder_spec.
+// stand in the crate responder_spec.
 use pair::Pair;
 use pair::Status;
 use request_spec::Packet;

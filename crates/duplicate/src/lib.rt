@@ -1,4 +1,4 @@
-// What a duplicate is answered with. The definitions and their laws stand in the crate responder_spec.
+// What a duplicate is answered with. The definitions stand in the crate responder_spec.
 use pair::OpenMessage;
 use pair::Pair;
 use pair::Setup;

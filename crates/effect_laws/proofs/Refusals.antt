@@ -24,11 +24,12 @@ use Rattle.request_spec.specs.declared.Packet.{Packet}
 use Rattle.responder_spec.specs.declared.Decision.{Decision}
 use Rattle.responder_spec.specs.Decide.{noReply, acknowledging, storePayload, runAtomic, readsFull, inboundRefusal, decision}
 use Rattle.responder_spec.specs.Reply.{over}
+use Rattle.responder_spec.specs.Calls.{drained}
 use Rattle.responder_spec.specs.Response.{nextStatus, nextResponse, nextOut}
 use Rattle.responder_spec.specs.Inbound.{leftBy, inbound}
 use Rattle.effect_laws.specs.Effects.{InboundShort, InboundRange, InboundUnfinished, InboundTaken}
 use Rattle.effect_laws.specs.Effects.{InboundAnswered, InboundMeant, NextRefused, NextNone, NextShort}
-use Rattle.effect_laws.specs.Effects.{NextRange, NextDone, NextAnswers}
+use Rattle.effect_laws.specs.Effects.{NextRange, NextDone, NextAnswers, NextReads}
 use Rattle.decision_laws.proofs.Rows.Late.{unread, outside}
 use Rattle.decision_laws.proofs.Rows.Row.{quiet, ahead, invalid, access, unready, ackDuplicate, readDuplicate, atomicDuplicate, stored, begin, swap}
 use Rattle.decision_laws.proofs.Rows.UcRow.{unheard, abandon, deliver}
@@ -209,3 +210,7 @@ unfolding nextStatus
 next-answers q m out h k e S =
     next-done q m out
     (rw (ne-eqb (q .read .remaining) 0 h, le-ltb (length out) (16 + q .setup .pmtu) k, eq-eqb (length m) (q .setup .memory) e, sound q S))
+
+pub next-reads : NextReads
+unfolding drained
+next-reads w m out = (refl, refl, refl)

@@ -7,6 +7,7 @@ use native.Mathlib.Omega.{arith}
 use lib.Dec.{eqb, leb}
 use lib.ListN.{length, getD, set, length-set}
 use borrow.Author.Tests.{leb-false}
+use Rattle.responder_spec.specs.Arrival.{arrivingAt}
 use Rattle.responder_spec.specs.Inbound.{inbound, leftBy}
 use Rattle.table.specs.Table.{entryCapacity, entrySlot, outside, entryRow}
 use Rattle.table.specs.View.{ringFrom, inRing, oneMore}
@@ -28,7 +29,7 @@ use Rattle.responder_spec.specs.Calls.{drained, reports}
 use Rattle.answer_laws.specs.Entries.{Uses}
 use Rattle.responder_spec.specs.declared.Completion.{Completion}
 use Rattle.answer_laws.proofs.Uses.{inbound-uses, next-uses}
-use Rattle.entry_order.specs.Order.{arrival, AnyCall, History, newHistory, goes, hosted, historyAfter, ran, PostingOrder, EntriesInOrder, SinceSetUp, SinceReset}
+use Rattle.entry_order.specs.Order.{AnyCall, History, newHistory, goes, hosted, historyAfter, ran, PostingOrder, EntriesInOrder, SinceSetUp, SinceReset}
 use Rattle.entry_order.specs.Order.AnyCall.{Host, Inbound, Next}
 
 -- what is kept: the entries held and waiting are the rows of the ring, and the table has all its rows
@@ -181,7 +182,7 @@ module _ (x : History) (k : Keeps x) where
   step-keeps : (c : AnyCall) → Keeps (historyAfter x c)
   unfolding historyAfter inbound leftBy drained
   step-keeps (Host c) = hosted-keeps c
-  step-keeps (Inbound m p out) = reported _ _ (inbound-uses (arrival x m p out))
+  step-keeps (Inbound m p out) = reported _ _ (inbound-uses (arrivingAt (x .whole) m p out))
   step-keeps (Next m out) = reported _ _ (next-uses q rows m out)
 
 all : (calls : List AnyCall) (x : History) → Keeps x → Keeps (ran x calls)

@@ -1,5 +1,5 @@
 // What a request leads to that is not a duplicate: it is executed, or a check refuses it. A decision, which changes
-// nothing yet, by the rules of either service. The definitions and their laws stand in the crate responder_spec.
+// nothing yet, by the rules of either service. The definitions stand in the crate responder_spec.
 mod message;
 mod single;
 mod uc;
@@ -34,7 +34,7 @@ fn failed(check: u8, psn: Psn, timer: u8) -> Decision
     if check == check::KEY {
         return reply::acknowledging(Status::AccessNak, psn, reply::ACCESS);
     }
-    if check == check::ENTRY_ROW {
+    if check == check::ENTRY_OUTSIDE {
         return reply::no_reply(Status::OutOfRange);
     }
     reply::acknowledging(Status::InvalidRequestNak, psn, reply::INVALID_REQUEST)

@@ -66,7 +66,7 @@ pub(crate) fn closed_by(place: u8, opened: OpenMessage) -> OpenMessage
 pub(crate) fn abandoning(check: u8, opened: u8) -> Decision
     ensures { λ r. ⌜ r ≡ abandoning check opened ⌝ }
 {
-    if check == check::ENTRY_ROW {
+    if check == check::ENTRY_OUTSIDE {
         return reply::no_reply(Status::OutOfRange);
     }
     if opened == pair::CLOSED {

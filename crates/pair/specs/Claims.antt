@@ -8,7 +8,7 @@ use mathlib.Core.Logic.{_⊎_}
 use lib.ListN.{length, getD, set}
 use Rattle.pmtu.specs.Pieces.{pieces}
 use Rattle.pmtu.specs.Claims.{IsPmtu}
-use Rattle.table.specs.Table.{entryCapacity, savedCapacity, entrySlot, regionRow, entryRow, noRegion}
+use Rattle.table.specs.Table.{entrySlot, regionRow, entryRow, noRegion}
 use Rattle.table.specs.View.{regionOf, newestSaved}
 use Rattle.table.specs.Claims.{RegionFits, EntryFits, Free, HasKey, First, RegionsSound, EntriesSound, SavedSound}
 use Rattle.table.specs.declared.Region.{Region}
@@ -332,7 +332,7 @@ pub record WholeSound (w : Whole) : Type 0 where
 -- which each set-up is accepted.
 abbrev pub BegunSound : Type 0
 BegunSound =
-    (s : Setup) (regions entries saved : List (List ℕ)) → SetupSound s → length entries ≡ entryCapacity → length saved ≡ savedCapacity
+    (s : Setup) (regions entries saved : List (List ℕ)) → SetupSound s → length entries ≡ 16 → length saved ≡ 16
     → WholeSound (begun s regions entries saved)
 
 abbrev pub Accepted : HostCall → Type 0

@@ -140,7 +140,7 @@ fn request_check(
     }
     let stray = place::entry_outside(p.kind, p.operands.immediate, entry, s.memory);
     if stray {
-        return check::ENTRY_ROW;
+        return check::ENTRY_OUTSIDE;
     }
     bytes_check(p, m, s, region, entry[table::ENTRY_LENGTH])
 }

@@ -27,5 +27,5 @@ abbrev pub lengths : ℕ
 lengths = 7
 
 -- not in the rules' list, and made between 5 and 6: the entry's row is out of range, so no call wrote it
-abbrev pub entryRow : ℕ
-entryRow = 8
+abbrev pub entryOutside : ℕ
+entryOutside = 8

@@ -139,7 +139,7 @@ requestCheckOf s opened m p count entry region =
     (cond (padEarly (p .place) (p .pad)) RequestCheck.pad
     (cond (overLimit (p .operands .length)) RequestCheck.dmaLength
     (cond (noneWaiting (p .kind) (p .place) (p .operands .immediate) opened count) RequestCheck.entry
-    (cond (entryOutside (p .kind) (p .operands .immediate) entry (s .memory)) RequestCheck.entryRow
+    (cond (entryOutside (p .kind) (p .operands .immediate) entry (s .memory)) RequestCheck.entryOutside
     (cond (keyFails (s .memory) (p .kind) m region) RequestCheck.key
     (cond (lengthsOff p (s .pmtu) m (EntryRow.length entry)) RequestCheck.lengths RequestCheck.none))))))
 
@@ -162,4 +162,4 @@ checkAnswer check =
     cond (eqb check RequestCheck.none) Number.executed
     (cond (eqb check RequestCheck.entry) Number.notReadyNak
     (cond (eqb check RequestCheck.key) Number.accessNak
-    (cond (eqb check RequestCheck.entryRow) Number.outOfRange Number.invalidRequestNak)))
+    (cond (eqb check RequestCheck.entryOutside) Number.outOfRange Number.invalidRequestNak)))

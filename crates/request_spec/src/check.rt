@@ -16,4 +16,4 @@ pub const KEY: u8 = 6;
 pub const LENGTHS: u8 = 7;
 
 // The entry's row is out of range, so no call wrote it; made between 5 and 6.
-pub const ENTRY_ROW: u8 = 8;
+pub const ENTRY_OUTSIDE: u8 = 8;

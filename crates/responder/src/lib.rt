@@ -1,5 +1,5 @@
-// The two calls of a responder: a packet comes in, and the next response of a READ goes out. The definitions and their
-// laws stand in the crate responder_spec.
+// The two calls of a responder: a packet comes in, and the next response of a READ goes out. The definitions stand
+// in the crate responder_spec.
 mod refuse;
 mod response;
 

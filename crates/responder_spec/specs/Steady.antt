@@ -1,4 +1,4 @@
--- A sound pair with sound tables, and that calls keep it so.
+-- A sound pair with sound tables, and that calls keep it so, which the crate sound_laws proves.
 use Prim.Native.Nat.{ℕ, _≤_, _<_, _^_}
 use mathlib.Core.Path.{_≡_}
 use mathlib.Core.List.{List, []}

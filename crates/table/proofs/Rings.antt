@@ -16,7 +16,7 @@ use Rattle.table.specs.declared.Saved.{Saved}
 use Rattle.table.specs.declared.Saved.the-variants.{Value, Nothing}
 use Rattle.table.specs.Table.{entryCapacity, savedCapacity, entrySlot, savedSlot, entryRow}
 use Rattle.table.specs.View.{ringFrom, inRing, oneMore, turned, overwritten, later, newest, newestSaved, savedRing, savedRows}
-use Rattle.table.specs.Claims.{SlotLaws, Capacities, EntrySlots, SavedSlots, RingSound, RingLaws, EntryRing, SavedRing, EntrySound, SavedNumbers, PostedSound}
+use Rattle.table.specs.Claims.{SlotLaws, SlotsAre, Capacities, EntrySlots, SavedSlots, RingSound, RingLaws, EntryRing, SavedRing, EntrySound, SavedNumbers, PostedSound}
 use Rattle.table.specs.Claims.{Saves, SavesFull, SavesSound, Newest, NewestNone, NewestSaved, NewestOver, SavedFound, SavedOther, SavedOtherFull}
 
 -- numbers less than n apart have different remainders
@@ -179,6 +179,10 @@ entry-slots = slot-laws entryCapacity _ (omega arith) (omega arith)
 pub saved-slots : SavedSlots
 unfolding savedSlot
 saved-slots = slot-laws savedCapacity _ (omega arith) (omega arith)
+
+pub slots-are : SlotsAre
+unfolding entrySlot savedSlot
+slots-are head i = (refl, refl)
 
 pub capacities : Capacities
 capacities =

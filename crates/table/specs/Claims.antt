@@ -10,7 +10,7 @@ use Rattle.table.specs.declared.Region.{Region}
 use Rattle.table.specs.declared.Entry.{Entry}
 use Rattle.table.specs.declared.Ring.{Ring}
 use Rattle.table.specs.declared.Saved.the-variants.{Value, Nothing}
-use Rattle.table.specs.Table.{entryCapacity, savedCapacity, entrySlot, savedSlot, outside, regionOutside, regionRow, entryRow, noRegion, keyRow, freeRow}
+use Rattle.table.specs.Table.{entrySlot, savedSlot, outside, regionOutside, regionRow, entryRow, noRegion, keyRow, freeRow}
 use Rattle.table.specs.View.{regionOf, inRing, oneMore, overwritten, newest, newestSaved, savedRing, savedRows}
 
 -- A region that the rules allow in memory of that length, and an entry.
@@ -118,7 +118,11 @@ pub record SlotLaws (capacity : ℕ) (slot : ℕ → ℕ → ℕ) : Type 0 where
   pub start : (head : ℕ) → head < capacity → slot head 0 ≡ head
   pub around : (head : ℕ) → slot head capacity ≡ slot head 0
 
--- So it is with 16 entries and 16 saved atomics, and with other numbers it is not.
+-- The slot of each position, of both rings.
+abbrev pub SlotsAre : Type 0
+SlotsAre = (head i : ℕ) → (entrySlot head i ≡ (head + i) % 16) × (savedSlot head i ≡ (head + i) % 16)
+
+-- So it is with 16 entries and 16 saved atomics.
 abbrev pub EntrySlots : Type 0
 EntrySlots = SlotLaws 16 entrySlot
 
@@ -163,28 +167,28 @@ pub record RingLaws (capacity : ℕ) (slot : ℕ → ℕ → ℕ) : Type 1 where
       → (overwritten capacity slot r .head < capacity) × (overwritten capacity slot r .count ≤ capacity)
 
 abbrev pub EntryRing : Type 1
-EntryRing = RingLaws entryCapacity entrySlot
+EntryRing = RingLaws 16 entrySlot
 
 abbrev pub SavedRing : Type 1
-SavedRing = RingLaws savedCapacity savedSlot
+SavedRing = RingLaws 16 savedSlot
 
 -- Entries that calls posted: the rows in use are those of entries that fit. Saved atomics: numbers of 24 and 64 bits.
 abbrev pub EntrySound : ℕ → List ℕ → Type 0
 EntrySound memory row = (e : Entry) × (row ≡ entryRow e) × EntryFits memory e
 
 abbrev pub EntriesSound : ℕ → List (List ℕ) → Ring → Type 0
-EntriesSound memory rows r = RingSound entryCapacity entrySlot (EntrySound memory) rows r
+EntriesSound memory rows r = RingSound 16 entrySlot (EntrySound memory) rows r
 
 abbrev pub SavedNumbers : List ℕ → Type 0
 SavedNumbers row = (getD row 0 0 < 2 ^ 24) × (getD row 1 0 < 2 ^ 64)
 
 abbrev pub SavedSound : List (List ℕ) → Ring → Type 0
-SavedSound rows r = RingSound savedCapacity savedSlot SavedNumbers rows r
+SavedSound rows r = RingSound 16 savedSlot SavedNumbers rows r
 
 -- An entry put behind the last leaves the entries sound.
 abbrev pub PostedSound : Type 0
 PostedSound =
-    (memory : ℕ) (rows : List (List ℕ)) (r : Ring) (e : Entry) → EntriesSound memory rows r → r .count < entryCapacity → EntryFits memory e
+    (memory : ℕ) (rows : List (List ℕ)) (r : Ring) (e : Entry) → EntriesSound memory rows r → r .count < 16 → EntryFits memory e
     → EntriesSound memory (set rows (entrySlot (r .head) (r .count)) (entryRow e)) (oneMore r)
 
 -- A saved atomic is the last of those saved; with 16 saved before, the oldest is gone, and none else.
