@@ -1,7 +1,8 @@
 //! The RC and the UC responder, duplicates and read responses.
 
-use crate::header::{encode, encode_packet, opcode, read_header, Extension, Header};
+use crate::header::{encode, encode_packet, read_header, Extension, Header};
 use crate::number::{after, before, distance, packets, pad, standing, Standing, LIMIT};
+use crate::opcode;
 use crate::pair::{Answer, Completion, Inbound, Open, QueuePair, Region, Saved, State};
 use crate::refusal::{RANGE, SHORT, STATE, UNFINISHED};
 use crate::{RC, UC};
