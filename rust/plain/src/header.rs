@@ -387,7 +387,7 @@ pub fn write_header(header: &Header, out: &mut [u8]) -> Result<usize, u8> {
 
 /// Writes a header known to be good into an output known to be long enough.
 #[inline]
-pub(crate) fn encode(header: &Header, out: &mut [u8]) -> usize {
+fn encode(header: &Header, out: &mut [u8]) -> usize {
     let bytes = header.bytes();
     let (bth, rest) = out[..bytes].split_at_mut(BTH);
     bth.copy_from_slice(&header.bth().to_bytes());
