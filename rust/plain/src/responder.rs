@@ -75,6 +75,12 @@ impl<'a> Packet<'a> {
     }
 }
 
+/// The answer to a packet that goes no further: a drop or a host refusal.
+#[cold]
+fn dropped(number: u8) -> Inbound {
+    quiet(number)
+}
+
 #[inline]
 fn quiet(number: u8) -> Inbound {
     Inbound {
@@ -97,19 +103,19 @@ impl QueuePair {
     /// Takes one packet. Refusals: 35, 34, 32 in that order.
     pub fn inbound(&mut self, memory: &mut [u8], packet: &[u8], out: &mut [u8]) -> Inbound {
         let Some(out) = out.first_chunk_mut() else {
-            return quiet(SHORT);
+            return dropped(SHORT);
         };
         if memory.len() != self.setup.memory {
-            return quiet(RANGE);
+            return dropped(RANGE);
         }
         if self.answer.is_some() {
-            return quiet(UNFINISHED);
+            return dropped(UNFINISHED);
         }
         let Ok(packet) = Packet::read(packet) else {
-            return quiet(DROPPED);
+            return dropped(DROPPED);
         };
         if !self.admits(&packet) {
-            return quiet(DROPPED);
+            return dropped(DROPPED);
         }
         if self.setup.service == UC {
             // First and Only take any PSN.
@@ -147,6 +153,7 @@ impl QueuePair {
     }
 
     /// A packet ahead on RC: one NAK until an expected packet is executed.
+    #[cold]
     fn ahead(&mut self, out: &mut [u8; ANSWER]) -> Inbound {
         if self.marked {
             return quiet(DROPPED);
@@ -156,6 +163,7 @@ impl QueuePair {
     }
 
     /// A packet whose turn it was and that is not executed.
+    #[cold]
     fn fail(&mut self, fault: Fault, packet: &Packet, out: &mut [u8; ANSWER]) -> Inbound {
         if self.setup.service == UC {
             return self.abandon();
@@ -174,6 +182,7 @@ impl QueuePair {
 
     /// A packet on UC that is not executed closes what is open. An open SEND's
     /// entry is at the head of the queue and stays there.
+    #[cold]
     fn abandon(&mut self) -> Inbound {
         match self.open.take() {
             Some(_) => quiet(ABANDONED),
