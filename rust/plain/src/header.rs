@@ -242,7 +242,7 @@ impl<'a> Packet<'a> {
     /// bits, 8 too short, tested in that order.
     #[inline]
     pub fn read(packet: &'a [u8]) -> Result<Packet<'a>, u8> {
-        if packet.len() > LONGEST || !packet.len().is_multiple_of(4) {
+        if packet.len() > LONGEST || packet.len() % 4 != 0 {
             return Err(1);
         }
         let (bth, rest) = packet.split_first_chunk().ok_or(1)?;
