@@ -126,3 +126,52 @@ impl Class {
         }
     }
 }
+
+#[cfg(test)]
+mod tests {
+    use super::*;
+
+    /// The table against the paper's sentences, on every opcode.
+    #[test]
+    fn every_opcode() {
+        for opcode in 0..=u8::MAX {
+            let (service, low) = (opcode >> 5, opcode & 31);
+            let Some(class) = Class::of(opcode) else {
+                assert!(service != RC && service != UC);
+                continue;
+            };
+            assert!(service == RC || service == UC);
+            let known = low <= if service == RC { FETCH_ADD } else { LAST_UC };
+            let function = match low {
+                _ if !known => Function::Reserved,
+                0..=5 => Function::Send,
+                6..=11 => Function::Write,
+                12 => Function::Read,
+                13..=18 => Function::Response,
+                _ => Function::Atomic,
+            };
+            assert_eq!(class.function, function, "{opcode}");
+            if matches!(function, Function::Send | Function::Write) {
+                let part = [
+                    Part::First,
+                    Part::Middle,
+                    Part::Last,
+                    Part::Last,
+                    Part::Only,
+                    Part::Only,
+                ];
+                assert_eq!(class.part, part[usize::from(low % 6)], "{opcode}");
+            } else if function != Function::Response {
+                assert_eq!(class.part, Part::Only, "{opcode}");
+            }
+            let has = |lows: &[u8]| usize::from(known && lows.contains(&low));
+            let bytes = 16 * has(&[6, 10, 11, 12])
+                + 28 * has(&[19, 20])
+                + 4 * has(&[3, 5, 9, 11])
+                + 4 * has(&[13, 15, 16, 17, 18])
+                + 8 * has(&[18]);
+            assert_eq!(usize::from(class.bytes), bytes, "{opcode}");
+            assert_eq!(class.form.bytes(), bytes, "{opcode}");
+        }
+    }
+}
