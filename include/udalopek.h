@@ -6,15 +6,15 @@
  *
  * The state of a pair is 30 words and three tables, all lent by the caller. They are tested, so that no words can make
  * a call read or write outside what it is lent:
- * - not 30 words, or one that does not fit its field: 34, before all else, in every call that is lent the words;
- * - words out of range, so that they are no sound pair: 34, at its turn in the call's order of checks; in reset and
- *   remove region at once;
- * - a row of the regions whose key, range or right is out of range: 34, next after the first test, by add and remove
- *   region and by a packet that may name a region, which is any whose opcode is not one of SEND's;
+ * - not 30 words: 34, before all else, in every call that is lent the words;
+ * - a word out of its range, or words that are no sound pair: 34, at its turn in the call's order of checks, and in reset
+ *   at once; what is tested before that turn is read modulo its range. Remove region looks at no word;
+ * - a row of the regions whose range is not in memory holds nothing: 18 to the packet that names it, as for a key that
+ *   no row has; no call looks at rows that nothing names;
  * - an entry's row whose range is not in memory: 34 by the packet that would take it.
  * What is in range and yet no call would have left so is not distinguished: a key that stands twice (the first row
- * counts), a count of bytes stored that is not what came, a READ pending on UC, the words of an open message where none
- * is open.
+ * counts), a right other than 0 and 1 (it counts as 1), a count of bytes stored that is not what came, a READ pending on
+ * UC, the words of an open message where none is open.
  *
  * What a caller owes, since C cannot say it: a pointer is never null, even with length 0; it points to as many elements
  * as the length beside it says, or as its array type has; what is written overlaps nothing else that is lent. */

@@ -1,5 +1,5 @@
 // The packets that answer a request: ACKs and NAKs, Atomic Acknowledges; and the BTH of any reply, a READ response's
-// too. The definitions and their laws stand in the crate responder_spec.
+// too. The definitions stand in the crate responder_spec.
 use header::Aeth;
 use header::Bth;
 use pair::Setup;

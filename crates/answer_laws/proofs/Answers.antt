@@ -20,8 +20,9 @@ use Rattle.opcode.specs.Opcode.{serviceOf, lowOf, kindOf, lowClass, reservedCla
 use Rattle.header.specs.declared.Header.{Header}
 use Rattle.header.specs.declared.HeaderRead.the-variants as read
 use Rattle.pmtu.specs.Pieces.{pieces}
-use Rattle.table.specs.Table.{slotAt, noRegion, memoryOffset}
+use Rattle.table.specs.Table.{noRegion, memoryOffset}
 use Rattle.table.specs.View.{regionOf, newestSaved}
+use Rattle.table.proofs.Rings.{entry-slots}
 use Rattle.pair.specs.Answer.{statusNumber, executed}
 use Rattle.pair.specs.Claims.{Sound}
 use Rattle.pair.specs.declared.Setup.{Setup}
@@ -33,8 +34,9 @@ use Rattle.pair.proofs.Known.{sound}
 use Rattle.request_spec.specs.Packet.{packetOf}
 use Rattle.request_spec.specs.Verdict.{carrying, outOfSequence, notEnabled, padEarly, overLimit, noneWaiting}
 use Rattle.request_spec.specs.Verdict.{entryOutside, rightOf, lacks, bytesToCome, keyLacking, keyFails, lengthsOff}
-use Rattle.request_spec.specs.Verdict.{current, requestCode, expectedCode}
-use Rattle.request_spec.specs.Claims.{Place, Carries, IsAtomic, Served, KeyGood, IsCurrent, Tells, JudgedBy}
+use Rattle.request_spec.specs.Verdict.{current, requestCheck, expectedCheck, checkAnswer}
+use Rattle.request_spec.specs.Claims.{Place, Carries, IsAtomic, Served, KeyGood, IsCurrent, Tells, JudgedBy, AnswerOf}
+use Rattle.request_spec.proofs.Answered.{check-answered}
 use Rattle.request_spec.proofs.Conditions.{limit-tested, key-tested}
 use Rattle.header.proofs.Reasons.{of-not}
 use Rattle.request_spec.proofs.Order.{current-one, order}
@@ -49,7 +51,6 @@ use Rattle.responder_spec.specs.Inbound.{leftBy, inbound}
 use Rattle.answer_laws.specs.Answers.{Willing, headerBy, HeaderDropped, entryAtHead, Expects, Aheads}
 use Rattle.answer_laws.specs.Answers.{ReadAnswerable, DuplicateAnswers, Classed, HeaderPassed}
 use Rattle.answer_laws.specs.Answers.{DuplicateReplies, DuplicateSent}
-use Rattle.decision_laws.proofs.Codes.{Codes, codes}
 
 -- nothing refuses the call
 pub goes : (a : Arrival) → Willing a → executed (refusalOf a) ≡ true
@@ -70,10 +71,7 @@ looked a W h e = rw (goes a W, e)
 
 -- the entry at the head
 pub head-first : (w : Whole) → Sound (w .pair) → headEntry (w .pair) (w .entries) ≡ entryAtHead w
-unfolding slotAt
-head-first w S =
-    let e : (w .pair .entries .head + 0) % 16 ≡ w .pair .entries .head = omega (arith, S .entries .0) in
-    ap (λ i. getD (w .entries) i []) e
+head-first w S = ap (λ i. getD (w .entries) i []) (entry-slots .start (w .pair .entries .head) (S .entries .0))
 
 -- a SEND has no key, so its code is the same whatever the region
 key-by : (memory kind : ℕ) (t : OpenMessage) (key : ℕ) (regions : List (List ℕ))
@@ -94,27 +92,37 @@ key-by memory kind t key regions = go (eqb kind 0)
     go false = refl
 
 pub code-by : (s : Setup) (opened : OpenMessage) (k : Packet) (count : ℕ) (entry : List ℕ) (regions : List (List ℕ))
-    → expectedCode s opened k count entry (regionFor (k .kind) (current opened k .key) regions)
-    ≡ expectedCode s opened k count entry (regionOf (current opened k .key) regions)
-unfolding expectedCode requestCode
+    → expectedCheck s opened k count entry (regionFor (k .kind) (current opened k .key) regions)
+    ≡ expectedCheck s opened k count entry (regionOf (current opened k .key) regions)
+unfolding expectedCheck requestCheck
 code-by s opened k count entry regions =
-    ap (λ b. cond (outOfSequence (opened .kind) (k .kind) (k .place)) 17
-    (cond (notEnabled s (k .kind)) 17
-    (cond (padEarly (k .place) (k .pad)) 17
-    (cond (overLimit (k .operands .length)) 17
-    (cond (noneWaiting (k .kind) (k .place) (k .operands .immediate) (opened .kind) count) 19
-    (cond (entryOutside (k .kind) (k .operands .immediate) entry (s .memory)) 34
-    (cond b 18 (cond (lengthsOff k (s .pmtu) (current opened k) (getD entry 2 0)) 17 0))))))))
+    ap (λ b. cond (outOfSequence (opened .kind) (k .kind) (k .place)) 1
+    (cond (notEnabled s (k .kind)) 2
+    (cond (padEarly (k .place) (k .pad)) 3
+    (cond (overLimit (k .operands .length)) 4
+    (cond (noneWaiting (k .kind) (k .place) (k .operands .immediate) (opened .kind) count) 5
+    (cond (entryOutside (k .kind) (k .operands .immediate) entry (s .memory)) 8
+    (cond b 6 (cond (lengthsOff k (s .pmtu) (current opened k) (getD entry 2 0)) 7 0))))))))
     (key-by (s .memory) (k .kind) (current opened k) (current opened k .key) regions)
 
--- what the checks refuse has their code as its number
-failed-number : (code : ℕ) (psn : Psn) (timer : ℕ) → Codes code → (code ≡ 0 → ⊥) → statusNumber (failed code psn timer .status) ≡ code
-unfolding failed statusNumber acknowledging noReply
-failed-number code psn timer (inl e) n = absurd (n e)
-failed-number code psn timer (inr (inl e)) n = subst (λ c. statusNumber (failed c psn timer .status) ≡ c) (sym e) refl
-failed-number code psn timer (inr (inr (inl e))) n = subst (λ c. statusNumber (failed c psn timer .status) ≡ c) (sym e) refl
-failed-number code psn timer (inr (inr (inr (inl e)))) n = subst (λ c. statusNumber (failed c psn timer .status) ≡ c) (sym e) refl
-failed-number code psn timer (inr (inr (inr (inr (inl e))))) n = subst (λ c. statusNumber (failed c psn timer .status) ≡ c) (sym e) refl
+-- what a check refuses has that check's answer
+failed-number : (check : ℕ) (psn : Psn) (timer : ℕ) → (check ≡ 0 → ⊥) → statusNumber (failed check psn timer .status) ≡ checkAnswer check
+unfolding failed checkAnswer statusNumber acknowledging noReply
+failed-number check psn timer n = rw (ne-eqb check 0 n) (go (eqb check 5) (eqb check 6) (eqb check 8))
+  where
+    answer : Bool → Bool → Bool → ℕ
+    answer a b c = cond a 19 (cond b 18 (cond c 34 17))
+
+    go : (a b c : Bool)
+        → statusNumber
+        (cond (eqb (answer a b c) 17) (acknowledging status.InvalidRequestNak psn 97)
+        (cond (eqb (answer a b c) 18) (acknowledging status.AccessNak psn 98)
+        (cond (eqb (answer a b c) 19) (acknowledging status.NotReadyNak psn (32 + timer)) (noReply status.OutOfRange))) .status)
+        ≡ answer a b c
+    go true b c = refl
+    go false true c = refl
+    go false false true = refl
+    go false false false = refl
 
 -- kinds, by the tests
 pub carry : (kind : ℕ) → Carries kind → carrying kind ≡ true
@@ -157,11 +165,11 @@ expected-by : (w : Whole) (k : Packet) (t : OpenMessage) → Sound (w .pair) →
 unfolding expectedDecision checkedDecision
 expected-by w k t S P C =
     record {
-      code = c;
+      check = c;
       judged =
           subst (λ x. JudgedAt x t c) (head-first w S)
           (subst (λ n. JudgedAt (headEntry (w .pair) (w .entries)) t n) (sym c-is) (order s opened k t (w .pair .entries .count) (headEntry (w .pair) (w .entries)) (regionOf (t .key) (w .regions)) P C));
-      fails = λ n. rw (ne-eqb c 0 n) (failed-number c (k .psn) (s .timer) (codes s opened k (w .pair .entries .count) (headEntry (w .pair) (w .entries)) (regionFor (k .kind) (current opened k .key) (w .regions))) n);
+      fails = λ n. rw (ne-eqb c 0 n) (subst (AnswerOf c) (sym (failed-number c (k .psn) (s .timer) n)) (check-answered c most));
       reads = λ z e. rw (eq-eqb c 0 z) (read-number k (current opened k) opened (headEntry (w .pair) (w .entries)) region (s .pmtu) e);
       swaps = λ z a. rw (eq-eqb c 0 z) (swap-number k (current opened k) opened (headEntry (w .pair) (w .entries)) region (s .pmtu) a);
       asked = λ z x a. rw (eq-eqb c 0 z) (carry-number k (current opened k) opened (headEntry (w .pair) (w .entries)) region (s .pmtu) x true a);
@@ -178,15 +186,19 @@ expected-by w k t S P C =
     region = regionFor (k .kind) (current (w .pair .message) k .key) (w .regions)
 
     c : ℕ
-    c = expectedCode (w .pair .setup) (w .pair .message) k (w .pair .entries .count) (headEntry (w .pair) (w .entries)) (regionFor (k .kind) (current (w .pair .message) k .key) (w .regions))
+    c = expectedCheck (w .pair .setup) (w .pair .message) k (w .pair .entries .count) (headEntry (w .pair) (w .entries)) (regionFor (k .kind) (current (w .pair .message) k .key) (w .regions))
 
     JudgedAt : List ℕ → OpenMessage → ℕ → Type 0
     JudgedAt entry t n = JudgedBy (w .pair .setup) (w .pair .message) k t (w .pair .entries .count) entry (regionOf (t .key) (w .regions)) n
 
-    c-is : c ≡ expectedCode (w .pair .setup) (w .pair .message) k (w .pair .entries .count) (headEntry (w .pair) (w .entries)) (regionOf (t .key) (w .regions))
+    c-is : c ≡ expectedCheck (w .pair .setup) (w .pair .message) k (w .pair .entries .count) (headEntry (w .pair) (w .entries)) (regionOf (t .key) (w .regions))
     c-is =
         code-by (w .pair .setup) (w .pair .message) k (w .pair .entries .count) (headEntry (w .pair) (w .entries)) (w .regions)
-        ∙ ap (λ x. expectedCode (w .pair .setup) (w .pair .message) k (w .pair .entries .count) (headEntry (w .pair) (w .entries)) (regionOf (x .key) (w .regions))) (sym (current-one (w .pair .message) k t P C))
+        ∙ ap (λ x. expectedCheck (w .pair .setup) (w .pair .message) k (w .pair .entries .count) (headEntry (w .pair) (w .entries)) (regionOf (x .key) (w .regions))) (sym (current-one (w .pair .message) k t P C))
+
+    most : c ≤ 8
+    most =
+        subst (λ n. n ≤ 8) (sym c-is) (order (w .pair .setup) (w .pair .message) k t (w .pair .entries .count) (headEntry (w .pair) (w .entries)) (regionOf (t .key) (w .regions)) P C .most)
 
 ahead-by : (nakmark : Bool) (expected : Psn) → Aheads nakmark (statusNumber (aheadDecision nakmark expected .status))
 unfolding aheadDecision statusNumber noReply acknowledging

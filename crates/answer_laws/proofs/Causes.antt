@@ -1,9 +1,10 @@
 -- Each answer of a call that is not refused has its reason, on the unreliable connection.
-use Prim.Native.Nat.{ℕ, _%_}
+use Prim.Native.Nat.{ℕ, _%_, _≤_}
 use mathlib.Core.Path.{_≡_, refl, sym, subst}
 use mathlib.Core.Bool.{Bool, true, false}
 use mathlib.Core.List.{List}
-use mathlib.Core.Logic.{_⊎_, inl, inr}
+use mathlib.Core.Logic.{inl, inr}
+use native.Mathlib.Omega.{arith}
 use lib.Dec.{eqb}
 use borrow.Author.Tests.{eqb-true, eqb-false}
 use Rattle.responder_spec.specs.Arrival.{Arrival}
@@ -28,6 +29,9 @@ use Rattle.answer_laws.specs.Unreliable.UcCause.{unread, orphan, stray, 
 use Rattle.answer_laws.proofs.Answers.{header-dropped}
 use Rattle.answer_laws.proofs.Unreliable.{uc-kinds, uc-passed}
 
+others : (check : ℕ) → (check ≡ 0 → ⊥) → (check ≡ 8 → ⊥) → check ≤ 8 → Fails check
+others check a b h = (omega arith, omega arith)
+
 module _ (arrival : Arrival) (t : OpenMessage) (n : ℕ) (f : headerBy arrival ≡ read.Accepted (headerOf (arrival .packet)))
     (K : Carries (packetIn (arrival .packet) .kind)) (X : UcComes (arrival .whole) (packetIn (arrival .packet)) t n) where
   abbrev R : ℕ → Type 0
@@ -37,25 +41,30 @@ module _ (arrival : Arrival) (t : OpenMessage) (n : ℕ) (f : headerBy arrival �
   k = packetIn (arrival .packet)
 
   module _ (opened : OpenMessage) (M : CheckedUnder (arrival .whole .pair) k opened) (Y : UcChecked (arrival .whole) opened k t n) where
-    examined : UcExamined arrival t (Y .code)
+    examined : UcExamined arrival t (Y .check)
     examined = record { passes = f; opened = opened; meets = M; judged = Y .judged }
 
-    failed : Fails (Y .code) → R n
+    failed : Fails (Y .check) → R n
     failed F = go (eqb (arrival .whole .pair .message .kind) 255) refl
       where
         go : (b : Bool) → eqb (arrival .whole .pair .message .kind) 255 ≡ b → R n
-        go true e = let z = eqb-true (arrival .whole .pair .message .kind) 255 e in subst R (sym (Y .drops F z)) (dropped (Y .code) examined F z)
-        go false e = let z = eqb-false (arrival .whole .pair .message .kind) 255 e in subst R (sym (Y .closes F z)) (closed (Y .code) examined F z)
+        go true e = let z = eqb-true (arrival .whole .pair .message .kind) 255 e in subst R (sym (Y .drops F z)) (dropped (Y .check) examined F z)
+        go false e = let z = eqb-false (arrival .whole .pair .message .kind) 255 e in subst R (sym (Y .closes F z)) (closed (Y .check) examined F z)
 
-    by-code : (Y .code ≡ 0) ⊎ ((Y .code ≡ 17) ⊎ ((Y .code ≡ 18) ⊎ ((Y .code ≡ 19) ⊎ (Y .code ≡ 34)))) → R n
-    by-code (inl e) = subst R (sym (Y .good e)) (executed (subst (UcExamined arrival t) e examined) K)
-    by-code (inr (inl e)) = failed (inl e)
-    by-code (inr (inr (inl e))) = failed (inr (inl e))
-    by-code (inr (inr (inr (inl e)))) = failed (inr (inr e))
-    by-code (inr (inr (inr (inr e)))) = subst R (sym (Y .outside e)) (outside (subst (UcExamined arrival t) e examined))
+    by-check : R n
+    by-check = go (eqb (Y .check) 0) refl (eqb (Y .check) 8) refl
+      where
+        go : (a : Bool) → eqb (Y .check) 0 ≡ a → (b : Bool) → eqb (Y .check) 8 ≡ b → R n
+        go true e b f =
+            let z = eqb-true (Y .check) 0 e in
+            subst R (sym (Y .good z)) (executed (subst (UcExamined arrival t) z examined) K)
+        go false e true f =
+            let z = eqb-true (Y .check) 8 f in
+            subst R (sym (Y .outside z)) (outside (subst (UcExamined arrival t) z examined))
+        go false e false f = failed (others (Y .check) (eqb-false (Y .check) 0 e) (eqb-false (Y .check) 8 f) (Y .judged .most))
 
   checked-cause : (opened : OpenMessage) → CheckedUnder (arrival .whole .pair) k opened → R n
-  checked-cause opened M = let Y = X .checked opened M in by-code opened M Y (Y .judged .codes)
+  checked-cause opened M = by-check opened M (X .checked opened M)
 
   onward-cause : GoesOn (k .place) → R n
   onward-cause g = go (eqb (arrival .whole .pair .message .kind) 255) refl (eqb psn expected) refl (eqb (arrival .whole .pair .message .kind) (k .kind)) refl

@@ -10,10 +10,10 @@ use borrow.Author.Tests.{eq-eqb}
 use Rattle.responder_spec.specs.Arrival.{Arrival, Left}
 use Rattle.header.specs.Read.{headerOf}
 use Rattle.packet.specs.Packet.{payloadOf}
-use Rattle.table.specs.Table.{slotAt}
+use Rattle.table.specs.Table.{entryCapacity, entrySlot}
 use Rattle.table.specs.View.{inRing}
 use Rattle.table.specs.declared.Ring.{Ring}
-use Rattle.table.proofs.Rings.{takes}
+use Rattle.table.proofs.Rings.{entry-ring}
 use Rattle.pair.specs.Answer.{statusNumber}
 use Rattle.pair.specs.View.{entriesOf, heldOf, waitingOf}
 use Rattle.pair.specs.Claims.{Sound}
@@ -112,7 +112,7 @@ pub entry-back : EntryBack
 entry-back a e =
     let A = inbound-table a .abandons e in
     let N = none-held (inbound a .whole .pair) (a .whole .entries) (A .message) in
-    (N .0, N .1 ∙ (ap (inRing (a .whole .entries)) (A .entries) ∙ sym (held-waiting (a .whole .pair) (a .whole .entries))))
+    (N .0, N .1 ∙ (ap (inRing entrySlot (a .whole .entries)) (A .entries) ∙ sym (held-waiting (a .whole .pair) (a .whole .entries))))
 
 -- a First or Only is no Middle or Last
 apart : (place : ℕ) → Begins place → GoesOn place → ⊥
@@ -123,11 +123,11 @@ apart place (inr b) (inr g) = omega arith
 
 -- the ring without its first
 rest-ring : (rows : List (List ℕ)) (r : Ring) → 1 ≤ r .count
-    → inRing rows (record { head = (r .head + 1) % 16; count = r .count - 1 }) ≡ drop 1 (inRing rows r)
-unfolding slotAt
+    → inRing entrySlot rows (record { head = (r .head + 1) % entryCapacity; count = r .count - 1 }) ≡ drop 1 (inRing entrySlot rows r)
+unfolding entrySlot
 rest-ring rows r some =
     let n : suc (r .count - 1) ≡ r .count = omega arith in
-    takes rows (r .head) (r .count - 1) ∙ ap (λ c. drop 1 (inRing rows (record { head = r .head; count = c }))) n
+    entry-ring .takes rows (r .head) (r .count - 1) ∙ ap (λ c. drop 1 (inRing entrySlot rows (record { head = r .head; count = c }))) n
 
 module _ (arrival : Arrival) (open-send : arrival .whole .pair .message .kind ≡ 0) (send : packetIn (arrival .packet) .kind ≡ 0)
     (b : Begins (packetIn (arrival .packet) .place)) (e : inbound arrival .number ≡ 0) where
@@ -160,7 +160,7 @@ module _ (arrival : Arrival) (open-send : arrival .whole .pair .message .kind �
   first-kept z =
       let H = one-held (l .whole .pair) (arrival .whole .entries) (ap (λ x. x .kind) (stores-payload .opens (inl z)) ∙ send) in
       let G = one-held (arrival .whole .pair) (arrival .whole .entries) open-send in
-      let s = ap (inRing (arrival .whole .entries)) (stores-packet .silent (stores-payload .onward (inl z) .some)) in
+      let s = ap (inRing entrySlot (arrival .whole .entries)) (stores-packet .silent (stores-payload .onward (inl z) .some)) in
       (H .0 ∙ (ap (take 1) s ∙ sym (G .0)), H .1 ∙ (ap (drop 1) s ∙ sym (G .1)))
 
   -- an Only: the first of the ring is done with, and no message open
@@ -173,7 +173,7 @@ module _ (arrival : Arrival) (open-send : arrival .whole .pair .message .kind �
   unfolding packetOf headerOf
   only-taken z =
       let N = none-held (l .whole .pair) (arrival .whole .entries) (stores-packet .ends (omega (arith, z)) .1) in
-      let s = ap (inRing (arrival .whole .entries)) (stores-packet .completes (completed z .some)) in
+      let s = ap (inRing entrySlot (arrival .whole .entries)) (stores-packet .completes (completed z .some)) in
       (N .0, N .1 ∙ (s ∙ (rest-ring (arrival .whole .entries) (arrival .whole .pair .entries) (held-some (arrival .whole .pair) sound open-send) ∙ sym (one-held (arrival .whole .pair) (arrival .whole .entries) open-send .1))))
 
 pub held-entry-taken : HeldEntryTaken

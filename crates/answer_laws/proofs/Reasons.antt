@@ -40,7 +40,7 @@ module _ (arrival : Arrival) (t : OpenMessage) where
   k = packetIn (arrival .packet)
 
   -- the expected PSN
-  done : (n : ℕ) → Examined arrival t 0 → (X : Expects (arrival .whole) k t n) → X .code ≡ 0 → Served (k .kind) → R n
+  done : (n : ℕ) → Examined arrival t 0 → (X : Expects (arrival .whole) k t n) → X .check ≡ 0 → Served (k .kind) → R n
   done n c X z (inl x) = go (k .ackreq) refl
     where
       go : (b : Bool) → k .ackreq ≡ b → R n
@@ -50,15 +50,15 @@ module _ (arrival : Arrival) (t : OpenMessage) where
   done n c X z (inr (inr a)) = subst R (sym (X .swaps z a)) (exchanged c a)
 
   expected-reason : (n : ℕ) → Comes arrival class.Expected → Expects (arrival .whole) k t n → R n
-  expected-reason n c X = go (eqb (X .code) 0) refl
+  expected-reason n c X = go (eqb (X .check) 0) refl
     where
-      go : (b : Bool) → eqb (X .code) 0 ≡ b → R n
+      go : (b : Bool) → eqb (X .check) 0 ≡ b → R n
       go true e =
-          let z : X .code ≡ 0 = eqb-true (X .code) 0 e in
-          done n (subst (Examined arrival t) z (record { comes = c; judged = X .judged })) X z (served (arrival .whole .pair .setup) (k .kind) (X .judged .only z .1))
+          let z : X .check ≡ 0 = eqb-true (X .check) 0 e in
+          done n (subst (Examined arrival t) z (record { comes = c; judged = X .judged })) X z (served (arrival .whole .pair .setup) (k .kind) (X .judged .none .0 z .1))
       go false e =
-          let z = eqb-false (X .code) 0 e in
-          subst R (sym (X .fails z)) (refused (X .code) (record { comes = c; judged = X .judged }) z)
+          let z = eqb-false (X .check) 0 e in
+          refused (X .check) n (record { comes = c; judged = X .judged }) z (X .fails z)
 
   ahead-reason : (n : ℕ) → Comes arrival class.Ahead → Aheads (arrival .whole .pair .nakmark) n → R n
   ahead-reason n c A = go (arrival .whole .pair .nakmark) refl

@@ -169,7 +169,7 @@ module _ (arrival : Arrival) (S : Sound (arrival .whole .pair)) (n : length (arr
   stores-by : carrying (k .kind) ≡ true → StoresPayload arrival k M (leftBy arrival D)
   unfolding leftBy storePayload
   stores-by c =
-      let T = judged .only refl in
+      let T = judged .none .0 refl in
       let L = T .7 in
       let size = payload-size p in
       record {
@@ -289,7 +289,7 @@ module _ (arrival : Arrival) (S : Sound (arrival .whole .pair)) (n : length (arr
 
   swaps-by : carrying (k .kind) ≡ false → eqb (k .kind) 12 ≡ false → OnRegion word q k m (memoryBy E m p) (arrival .whole .saved) (savedBy (q .saved) E (arrival .whole .saved) m)
   swaps-by c r =
-      let T = judged .only refl in
+      let T = judged .none .0 refl in
       let a = which-atomic (q .setup) (k .kind) (T .1) c r in
       let G = gives-word a (T .6 .atomics a) in
       let O = one-word a in

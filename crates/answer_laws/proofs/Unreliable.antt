@@ -22,8 +22,9 @@ use Rattle.pair.specs.Claims.{Sound}
 use Rattle.pair.specs.declared.OpenMessage.{OpenMessage}
 use Rattle.pair.specs.declared.Pair.{Pair}
 use Rattle.request_spec.specs.Packet.{packetOf}
-use Rattle.request_spec.specs.Verdict.{requestCode, expectedCode}
+use Rattle.request_spec.specs.Verdict.{requestCheck, expectedCheck, checkAnswer}
 use Rattle.request_spec.specs.Claims.{GoesOn, Place, Carries, IsCurrent, JudgedBy}
+use Rattle.request_spec.proofs.Answered.{row-told}
 use Rattle.request_spec.proofs.Conditions.{begins-starts}
 use Rattle.header.proofs.Reasons.{of-not}
 use Rattle.request_spec.proofs.Order.{current-one, order}
@@ -158,7 +159,7 @@ module _ (w : Whole) (k : Packet) (t : OpenMessage) (S : Sound (w .pair)) (P : P
   number = numbered (ucDecision k (w .pair .setup) (w .pair .expected) (w .pair .message) (w .pair .entries .count) entry region)
 
   abbrev codeOf : ℕ
-  codeOf = requestCode (w .pair .setup) below k (w .pair .entries .count) entry region
+  codeOf = requestCheck (w .pair .setup) below k (w .pair .entries .count) entry region
 
   abbrev checkedDecision : ℕ
   checkedDecision = numbered (ucCheckedDecision codeOf k (w .pair .expected) (w .pair .message) entry region)
@@ -169,12 +170,12 @@ module _ (w : Whole) (k : Packet) (t : OpenMessage) (S : Sound (w .pair)) (P : P
       record { own = C .own; old = λ g. C .old g ∙ sym (closed-onward (k .place) (w .pair .message) (goes-starts (k .place) g)) }
 
   abbrev coded : OpenMessage → OpenMessage → ℕ
-  coded u x = expectedCode (w .pair .setup) u k (w .pair .entries .count) entry (regionOf (x .key) (w .regions))
+  coded u x = expectedCheck (w .pair .setup) u k (w .pair .entries .count) entry (regionOf (x .key) (w .regions))
 
   code-is : strays k (w .pair .expected) (w .pair .message .kind) ≡ false → codeOf ≡ coded below t
   code-is s =
       sym (same-code (w .pair .setup) (w .pair .message) k (w .pair .expected) (w .pair .entries .count) entry region s)
-      ∙ (ap (λ x. expectedCode (w .pair .setup) below k (w .pair .entries .count) entry (regionFor (k .kind) (x .key) (w .regions))) (sym (current-closed (w .pair .message) k))
+      ∙ (ap (λ x. expectedCheck (w .pair .setup) below k (w .pair .entries .count) entry (regionFor (k .kind) (x .key) (w .regions))) (sym (current-closed (w .pair .message) k))
       ∙ (code-by (w .pair .setup) below k (w .pair .entries .count) entry (w .regions) ∙ ap (coded below) (sym (current-one below k t P current-below))))
 
   judged-by : strays k (w .pair .expected) (w .pair .message .kind) ≡ false
@@ -189,14 +190,12 @@ module _ (w : Whole) (k : Packet) (t : OpenMessage) (S : Sound (w .pair)) (P : P
   unfolding ucCheckedDecision ucExecute statusNumber
   good-number z = rw (eq-eqb codeOf 0 z, carry (k .kind) K)
 
-  outside-number : codeOf ≡ 34 → checkedDecision ≡ 34
-  unfolding ucCheckedDecision abandoning noReply statusNumber
+  outside-number : codeOf ≡ 8 → checkedDecision ≡ 34
+  unfolding ucCheckedDecision abandoning noReply statusNumber checkAnswer
   outside-number z = rw z
 
-  failing : Fails codeOf → (eqb codeOf 0 ≡ false) × (eqb codeOf 34 ≡ false)
-  failing (inl e) = (ne-eqb codeOf 0 (λ z. omega arith), ne-eqb codeOf 34 (λ z. omega arith))
-  failing (inr (inl e)) = (ne-eqb codeOf 0 (λ z. omega arith), ne-eqb codeOf 34 (λ z. omega arith))
-  failing (inr (inr e)) = (ne-eqb codeOf 0 (λ z. omega arith), ne-eqb codeOf 34 (λ z. omega arith))
+  failing : Fails codeOf → (eqb codeOf 0 ≡ false) × (eqb (checkAnswer codeOf) 34 ≡ false)
+  failing f = (ne-eqb codeOf 0 (λ z. omega (arith, f .0)), row-told codeOf ∙ ne-eqb codeOf 8 (λ z. omega (arith, f .1)))
 
   closes-number : Fails codeOf → (w .pair .message .kind ≡ 255 → ⊥) → checkedDecision ≡ 6
   unfolding ucCheckedDecision abandoning noReply statusNumber
@@ -211,7 +210,7 @@ module _ (w : Whole) (k : Packet) (t : OpenMessage) (S : Sound (w .pair)) (P : P
       let e : number ≡ checkedDecision =
       ap numbered (others-checked k (w .pair .setup) (w .pair .expected) (w .pair .message) (w .pair .entries .count) entry region (meets-orphaned (w .pair) k K opened M) (meets-stray (w .pair) k opened M)) in
       record {
-        code = codeOf;
+        check = codeOf;
         judged =
             subst (λ u. JudgedBy (w .pair .setup) u k t (w .pair .entries .count) (entryAtHead w) (regionOf (t .key) (w .regions)) codeOf)
             (meets-closed (w .pair) k opened M) (judged-by (meets-stray (w .pair) k opened M));

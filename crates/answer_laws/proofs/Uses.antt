@@ -9,7 +9,7 @@ use lib.Dec.{eqb, leb}
 use lib.ListN.{length, getD}
 use Rattle.pair.specs.Calls.{Whole}
 use Rattle.opcode.specs.Place.{ends}
-use Rattle.table.specs.Table.{slotAt}
+use Rattle.table.specs.Table.{entrySlot}
 use Rattle.table.specs.declared.Ring.{Ring}
 use Rattle.pair.specs.Answer.{statusNumber, executed}
 use Rattle.pair.specs.Claims.{Sound}
@@ -114,7 +114,7 @@ module _ (w : Whole) (k : Packet) where
       → d .completion ≡ completionOf k M (getD entry 0 0)
       → (uses k ≡ true → 1 ≤ w .pair .entries .count)
       → Uses (w .pair .entries) (w .entries) (d .completion) (pairBy (w .pair) d .entries)
-  unfolding ringTaken slotAt
+  unfolding ringTaken entrySlot
   store-uses S d s c t =
       let known : d .completion .some ≡ true → (uses k ≡ true) × (d .completion .number ≡ getD entry 0 0) =
       subst (λ x. x .some ≡ true → (uses k ≡ true) × (x .number ≡ getD entry 0 0)) (sym c) (completed k M (getD entry 0 0)) in

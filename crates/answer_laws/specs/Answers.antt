@@ -29,7 +29,7 @@ use Rattle.pair.specs.Claims.{Sound}
 use Rattle.pair.specs.declared.OpenMessage.{OpenMessage}
 use Rattle.pair.specs.declared.Pair.{Pair}
 use Rattle.request_spec.specs.Packet.{packetOf, packetIn}
-use Rattle.request_spec.specs.Claims.{HasMore, Ends, Carries, IsAtomic, Served, Gives, GivesRest, IsCurrent, JudgedBy}
+use Rattle.request_spec.specs.Claims.{HasMore, Ends, Carries, IsAtomic, Served, Gives, GivesRest, IsCurrent, JudgedBy, AnswerOf}
 use Rattle.request_spec.specs.declared.Packet.{Packet}
 use Rattle.responder_spec.specs.declared.Completion.{Completion}
 use Rattle.responder_spec.specs.Inbound.{inbound}
@@ -57,15 +57,20 @@ HeaderDropped =
 abbrev pub entryAtHead : Whole → List ℕ
 entryAtHead w = getD (w .entries) (w .pair .entries .head) []
 
--- The expected PSN: the code of the request checks, and where that is 0, by kind and AckReq.
+-- The request checks of a packet k of the message t, while `opened` is open: the check that fails.
+abbrev pub JudgedIn : Whole → OpenMessage → Packet → OpenMessage → ℕ → Type 0
+JudgedIn w opened k t check =
+    JudgedBy (w .pair .setup) opened k t (w .pair .entries .count) (entryAtHead w) (regionOf (t .key) (w .regions)) check
+
+-- The expected PSN: by the request check that fails, and where none does, which is 0, by kind and AckReq.
 pub record Expects (w : Whole) (k : Packet) (t : OpenMessage) (number : ℕ) : Type 0 where
-  pub code : ℕ
-  pub judged : JudgedBy (w .pair .setup) (w .pair .message) k t (w .pair .entries .count) (entryAtHead w) (regionOf (t .key) (w .regions)) code
-  pub fails : (code ≡ 0 → ⊥) → number ≡ code
-  pub reads : code ≡ 0 → k .kind ≡ 12 → number ≡ 2
-  pub swaps : code ≡ 0 → IsAtomic (k .kind) → number ≡ 3
-  pub asked : code ≡ 0 → Carries (k .kind) → k .ackreq ≡ true → number ≡ 1
-  pub unasked : code ≡ 0 → Carries (k .kind) → k .ackreq ≡ false → number ≡ 0
+  pub check : ℕ
+  pub judged : JudgedIn w (w .pair .message) k t check
+  pub fails : (check ≡ 0 → ⊥) → AnswerOf check number
+  pub reads : check ≡ 0 → k .kind ≡ 12 → number ≡ 2
+  pub swaps : check ≡ 0 → IsAtomic (k .kind) → number ≡ 3
+  pub asked : check ≡ 0 → Carries (k .kind) → k .ackreq ≡ true → number ≡ 1
+  pub unasked : check ≡ 0 → Carries (k .kind) → k .ackreq ≡ false → number ≡ 0
 
 -- A PSN ahead: quiet where the NAK mark stands, else a sequence NAK.
 pub record Aheads (marked : Bool) (number : ℕ) : Type 0 where
@@ -128,11 +133,10 @@ Recalled w k t =
 abbrev pub Comes : Arrival → Class → Type 0
 Comes a c = (headerBy a ≡ read.Accepted (headerOf (a .packet))) × (psnClass (packetIn (a .packet) .psn .0) (a .whole .pair .expected .0) ≡ c)
 
--- a packet with the expected PSN, and the code of its checks
-pub record Examined (a : Arrival) (t : OpenMessage) (code : ℕ) : Type 0 where
+-- a packet with the expected PSN, and the check that fails
+pub record Examined (a : Arrival) (t : OpenMessage) (check : ℕ) : Type 0 where
   pub comes : Comes a class.Expected
-  pub judged :
-      JudgedBy (a .whole .pair .setup) (a .whole .pair .message) (packetIn (a .packet)) t (a .whole .pair .entries .count) (entryAtHead (a .whole)) (regionOf (t .key) (a .whole .regions)) code
+  pub judged : JudgedIn (a .whole) (a .whole .pair .message) (packetIn (a .packet)) t check
 
 pub data Reason (a : Arrival) (t : OpenMessage) : ℕ → Type 0 where
   unread : (reason : ℕ) → headerBy a ≡ read.Dropped reason → Reason a t 5
@@ -140,7 +144,7 @@ pub data Reason (a : Arrival) (t : OpenMessage) : ℕ → Type 0 where
   ahead : Comes a class.Ahead → a .whole .pair .nakmark ≡ false → Reason a t 16
   again : Comes a class.Duplicate → Recalled (a .whole) (packetIn (a .packet)) t → Reason a t 4
   forgotten : Comes a class.Duplicate → (Recalled (a .whole) (packetIn (a .packet)) t → ⊥) → Reason a t 5
-  refused : (code : ℕ) → Examined a t code → (code ≡ 0 → ⊥) → Reason a t code
+  refused : (check answer : ℕ) → Examined a t check → (check ≡ 0 → ⊥) → AnswerOf check answer → Reason a t answer
   executed : Examined a t 0 → Carries (packetIn (a .packet) .kind) → packetIn (a .packet) .ackreq ≡ false → Reason a t 0
   acknowledged : Examined a t 0 → Carries (packetIn (a .packet) .kind) → packetIn (a .packet) .ackreq ≡ true → Reason a t 1
   accepted : Examined a t 0 → packetIn (a .packet) .kind ≡ 12 → Reason a t 2
@@ -183,7 +187,8 @@ pub record StoresPayload (a : Arrival) (k : Packet) (t : OpenMessage) (l : Left)
   pub carried : length (payloadOf (a .packet)) ≡ k .body - k .pad
   pub sends : k .kind ≡ 0 → InEntry (entryAtHead (a .whole)) (a .whole .pair .setup .memory) (t .stored) (payloadOf (a .packet)) (a .memory) (l .memory)
   pub writes : k .kind ≡ 6 → 0 < t .length - t .stored
-      → InRegion (regionOf (t .key) (a .whole .regions)) (a .whole .pair .setup .memory) (t .address + t .stored) (t .length - t .stored) (payloadOf (a .packet)) (a .memory) (l .memory)
+      → InRegion (regionOf (t .key) (a .whole .regions)) (a .whole .pair .setup .memory) (t .address + t .stored) (t .length - t .stored)
+      (payloadOf (a .packet)) (a .memory) (l .memory)
   pub nothing : k .kind ≡ 6 → t .length - t .stored ≡ 0 → l .memory ≡ a .memory
   pub sent-whole : k .kind ≡ 0 → Ends (k .place)
       → Completes k (getD (entryAtHead (a .whole)) 0 0) (t .stored + length (payloadOf (a .packet))) (l .completion)
@@ -217,5 +222,5 @@ pub record OnRegion (region : List ℕ) (q : Pair) (k : Packet) (old new : List 
 abbrev pub InboundSwaps : Type 0
 InboundSwaps =
     (a : Arrival) → AnswersWith a 3
-    → OnRegion (regionOf (packetIn (a .packet) .operands .key) (a .whole .regions)) (a .whole .pair) (packetIn (a .packet)) (a .memory) (inbound a .memory) (a .whole .saved)
-    (inbound a .whole .saved)
+    → OnRegion (regionOf (packetIn (a .packet) .operands .key) (a .whole .regions)) (a .whole .pair) (packetIn (a .packet))
+    (a .memory) (inbound a .memory) (a .whole .saved) (inbound a .whole .saved)

@@ -1,7 +1,7 @@
 -- Which answer the inbound call gives on the unreliable connection, UC, which is service 1, and what it never does
 -- there; the proofs stand in proofs/. The conditions are in plain numbers, those of the checks as in the claims of
 -- request_spec.
-use Prim.Native.Nat.{ℕ, _%_}
+use Prim.Native.Nat.{ℕ, _%_, _≤_}
 use mathlib.Core.Path.{_≡_}
 use mathlib.Core.Bool.{false}
 use mathlib.Core.List.{List, [], _∷_, _++_}
@@ -19,11 +19,11 @@ use Rattle.pair.specs.View.{heldOf, waitingOf}
 use Rattle.pair.specs.declared.OpenMessage.{OpenMessage}
 use Rattle.pair.specs.declared.Pair.{Pair}
 use Rattle.request_spec.specs.Packet.{packetOf}
-use Rattle.request_spec.specs.Claims.{Begins, GoesOn, Carries, IsCurrent, JudgedBy}
+use Rattle.request_spec.specs.Claims.{Begins, GoesOn, Carries, IsCurrent}
 use Rattle.request_spec.specs.declared.Packet.{Packet}
 use Rattle.responder_spec.specs.Inbound.{inbound}
 use Rattle.effect_laws.specs.Effects.{AnswersWith}
-use Rattle.answer_laws.specs.Answers.{Willing, headerBy, entryAtHead, InEntry, Completes}
+use Rattle.answer_laws.specs.Answers.{JudgedIn, Willing, headerBy, entryAtHead, InEntry, Completes}
 use Rattle.request_spec.specs.Packet.{packetIn}
 
 -- Only SENDs and WRITEs pass the header checks: UC has no other opcode.
@@ -42,19 +42,19 @@ pub data CheckedUnder (q : Pair) (k : Packet) : OpenMessage → Type 0 where
   begins : Begins (k .place) → CheckedUnder q k (record { kind = 255; stored = 0; address = 0; key = 0; length = 0 })
   onward : GoesOn (k .place) → k .psn .0 % 16777216 ≡ q .expected .0 % 16777216 → q .message .kind ≡ k .kind → CheckedUnder q k (q .message)
 
--- The codes with which a check fails; 34 is not one: it says that no call made the entry.
+-- The checks that a packet can fail; 8 is not one: it says that no call made the entry.
 abbrev pub Fails : ℕ → Type 0
-Fails code = (code ≡ 17) ⊎ ((code ≡ 18) ⊎ (code ≡ 19))
+Fails check = (1 ≤ check) × (check ≤ 7)
 
 -- The request checks of a packet that meets the message `opened`. What fails, by whichever check, is 6 if a message was
 -- open when the packet came, and 5 if none was.
 pub record UcChecked (w : Whole) (opened : OpenMessage) (k : Packet) (t : OpenMessage) (number : ℕ) : Type 0 where
-  pub code : ℕ
-  pub judged : JudgedBy (w .pair .setup) opened k t (w .pair .entries .count) (entryAtHead w) (regionOf (t .key) (w .regions)) code
-  pub good : code ≡ 0 → number ≡ 0
-  pub outside : code ≡ 34 → number ≡ 34
-  pub closes : Fails code → (w .pair .message .kind ≡ 255 → ⊥) → number ≡ 6
-  pub drops : Fails code → w .pair .message .kind ≡ 255 → number ≡ 5
+  pub check : ℕ
+  pub judged : JudgedIn w opened k t check
+  pub good : check ≡ 0 → number ≡ 0
+  pub outside : check ≡ 8 → number ≡ 34
+  pub closes : Fails check → (w .pair .message .kind ≡ 255 → ⊥) → number ≡ 6
+  pub drops : Fails check → w .pair .message .kind ≡ 255 → number ≡ 5
 
 -- Of a packet k whose header passes, which is of the message t: a Middle or Last with none open is 5, whatever its PSN,
 -- and one that strays 6; all others are checked.
@@ -70,23 +70,24 @@ UcPassed =
     → (t : OpenMessage) → IsCurrent (a .whole .pair .message) (packetOf h (length (a .packet))) t
     → UcComes (a .whole) (packetOf h (length (a .packet))) t (inbound a .number)
 
--- a packet that is checked, and the code of its checks
-pub record UcExamined (a : Arrival) (t : OpenMessage) (code : ℕ) : Type 0 where
+-- a packet that is checked, and the check that fails
+pub record UcExamined (a : Arrival) (t : OpenMessage) (check : ℕ) : Type 0 where
   pub passes : headerBy a ≡ read.Accepted (headerOf (a .packet))
   pub opened : OpenMessage
   pub meets : CheckedUnder (a .whole .pair) (packetIn (a .packet)) opened
-  pub judged :
-      JudgedBy (a .whole .pair .setup) opened (packetIn (a .packet)) t (a .whole .pair .entries .count) (entryAtHead (a .whole)) (regionOf (t .key) (a .whole .regions)) code
+  pub judged : JudgedIn (a .whole) opened (packetIn (a .packet)) t check
 
 -- The reasons, each by the number of its answer.
 pub data UcCause (a : Arrival) (t : OpenMessage) : ℕ → Type 0 where
   unread : (reason : ℕ) → headerBy a ≡ read.Dropped reason → UcCause a t 5
   orphan : headerBy a ≡ read.Accepted (headerOf (a .packet)) → GoesOn (packetIn (a .packet) .place) → a .whole .pair .message .kind ≡ 255 → UcCause a t 5
-  stray : headerBy a ≡ read.Accepted (headerOf (a .packet)) → GoesOn (packetIn (a .packet) .place) → (a .whole .pair .message .kind ≡ 255 → ⊥) → Strays (a .whole .pair) (packetIn (a .packet))
+  stray : headerBy a ≡ read.Accepted (headerOf (a .packet)) → GoesOn (packetIn (a .packet) .place)
+      → (a .whole .pair .message .kind ≡ 255 → ⊥)
+      → Strays (a .whole .pair) (packetIn (a .packet))
       → UcCause a t 6
-  dropped : (code : ℕ) → UcExamined a t code → Fails code → a .whole .pair .message .kind ≡ 255 → UcCause a t 5
-  closed : (code : ℕ) → UcExamined a t code → Fails code → (a .whole .pair .message .kind ≡ 255 → ⊥) → UcCause a t 6
-  outside : UcExamined a t 34 → UcCause a t 34
+  dropped : (check : ℕ) → UcExamined a t check → Fails check → a .whole .pair .message .kind ≡ 255 → UcCause a t 5
+  closed : (check : ℕ) → UcExamined a t check → Fails check → (a .whole .pair .message .kind ≡ 255 → ⊥) → UcCause a t 6
+  outside : UcExamined a t 8 → UcCause a t 34
   executed : UcExamined a t 0 → Carries (packetIn (a .packet) .kind) → UcCause a t 0
 
 -- And back: each answer of a call that is not refused has one of them.
@@ -128,7 +129,8 @@ pub record TakesHeldEntry (a : Arrival) (l : Left) : Type 0 where
   pub waiting : waitingOf (l .whole .pair) (a .whole .entries) ≡ waitingOf (a .whole .pair) (a .whole .entries)
   pub first : packetIn (a .packet) .place ≡ 0 → heldOf (l .whole .pair) (a .whole .entries) ≡ heldOf (a .whole .pair) (a .whole .entries)
   pub only : packetIn (a .packet) .place ≡ 4
-      → (heldOf (l .whole .pair) (a .whole .entries) ≡ []) × Completes (packetIn (a .packet)) (getD (entryAtHead (a .whole)) 0 0) (length (payloadOf (a .packet))) (l .completion)
+      → (heldOf (l .whole .pair) (a .whole .entries) ≡ [])
+      × Completes (packetIn (a .packet)) (getD (entryAtHead (a .whole)) 0 0) (length (payloadOf (a .packet))) (l .completion)
 
 abbrev pub HeldEntryTaken : Type 0
 HeldEntryTaken =

@@ -1,5 +1,5 @@
-// What a decision does: to memory, to the saved atomics and to the pair. The definitions and their laws stand in the
-// crate responder_spec.
+// What a decision does: to memory, to the saved atomics and to the pair. The definitions stand in the crate
+// responder_spec.
 mod state;
 
 use responder_spec::Decision;
@@ -53,7 +53,7 @@ pub fn acts_atomic(act: u8) -> bool
 }
 
 // Saves the value that an atomic answered.
-pub fn keep(saved: &mut [[u64; 2]; 16], ring: Ring, act: u8, psn: Psn, value: u64)
+pub fn keep(saved: &mut [[u64; 2]; table::SAVED], ring: Ring, act: u8, psn: Psn, value: u64)
     ensures { λ _. ⌜ now (saved .exit) ≡ cond (actsAtomic act) (savedRows (now (saved .entry)) ring (psn .0) value) (now (saved .entry)) ⌝ }
 {
     let atomic = acts_atomic(act);

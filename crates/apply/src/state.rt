@@ -18,7 +18,7 @@ fn entries_by(completes: bool, ring: Ring) -> Ring
     ensures { λ r. ⌜ r ≡ entriesBy completes ring ⌝ }
 {
     if completes {
-        let head = table::slot(ring.head, 1);
+        let head = table::entry_slot(ring.head, 1);
         let count = number::saturating_sub(ring.count, 1);
         return Ring { head, count };
     }

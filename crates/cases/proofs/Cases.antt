@@ -12,7 +12,7 @@ use Rattle.memory.specs.Word.{lowBytes, lowNumber, wordAt, storeWord, fetchAdde
 use Rattle.packet.specs.Packet.{padOf, packetBytes}
 use Rattle.opcode.specs.Place.{ends, starts}
 use Rattle.pmtu.specs.Pieces.{pmtuFits, pieces, placeAt, pieceAt, partAt}
-use Rattle.table.specs.Table.{outside, pastTop, regionOutside, regionRow, entryRow, sought, firstFrom, slotAt}
+use Rattle.table.specs.Table.{outside, pastTop, regionOutside, regionRow, entryRow, sought, firstFrom, entrySlot}
 use Rattle.table.specs.View.{regionOf}
 use Rattle.pair.specs.Answer.{statusNumber, executed}
 use Rattle.pair.specs.Pair.{freshPair}
@@ -25,7 +25,7 @@ use Rattle.cut_spec.specs.Cut.{lowFor, extensionFor, bthAt, sizeAt, headerAt, p
 use Rattle.request_spec.specs.Packet.{operandsOf, packetOf}
 use Rattle.request_spec.specs.Verdict.{carrying, outOfSequence, notEnabled, padEarly, overLimit, needsEntry}
 use Rattle.request_spec.specs.Verdict.{entriesWaiting, noneWaiting, usesEntry, entryOutside, keyLacking, keyFails}
-use Rattle.request_spec.specs.Verdict.{sizeOff, totalOff, payloadSize, lengthsOff, current, requestCode, expectedCode}
+use Rattle.request_spec.specs.Verdict.{sizeOff, totalOff, payloadSize, lengthsOff, current, requestCheck, expectedCheck}
 use Rattle.responder_spec.specs.Decide.{acknowledging, completes, completionOf, messageAfter, targetOffset}
 use Rattle.responder_spec.specs.Decide.{storePayload, execute, checkedDecision, expectedDecision, psnBefore}
 use Rattle.responder_spec.specs.Decide.{duplicateDecision, rcDecision, packetDecision, readsFull, inboundRefusal}
@@ -34,7 +34,7 @@ use Rattle.responder_spec.specs.Apply.{memoryBy, actsAtomic, savedRingBy, ringT
 use Rattle.responder_spec.specs.Reply.{replyHeader, ackHeader, answerBytes, over, outBy}
 use Rattle.responder_spec.specs.Inbound.{leftBy, inbound}
 use Rattle.cases.specs.Cases.Case.{W1, W2, W3, W4, W5, W6, W7, W8, W9, W10, W11, W12}
-use Rattle.cases.specs.Cases.{classNumber, count, next, posts, ready, standing, zeros, completionNumbers, leftNumbers, arrives, given, once, found, said, Cases}
+use Rattle.cases.specs.Cases.{classNumber, count, next, posts, ready, standing, zeros, completionNumbers, leftNumbers, given, once, found, said, Cases}
 
 w1 : found W1 ≡ said W1
 unfolding classAt psnClass classNumber found said
@@ -85,16 +85,16 @@ unfolding classAt psnClass opcode.placeOf kindOf placeIn sendWriteFollows follow
     read.readBy bthOf extensionOf headerOf badLength otherService bthBytes aethBytes extensionBytes headerBytes
     headerLength fullMember pkeysMatch wrongService isResponse beyondService headerReason admitted overwrite store padOf
     packetBytes pmtuFits pieces placeAt ends starts pieceAt partAt outside pastTop regionOutside regionRow entryRow
-    sought firstFrom slotAt regionOf statusNumber executed freshPair setupUnfit setupUnsound countersUnsound ringUnsound
+    sought firstFrom entrySlot regionOf statusNumber executed freshPair setupUnfit setupUnsound countersUnsound ringUnsound
     messageUnsound readUnsound pairUnsound setUpStatus setUp setUpRegions readyStatus madeReady addStatus addRegions
     postStatus posted postEntries begun called calledAll carries carried carriedLength packetsOf lowFor extensionFor
     bthAt sizeAt headerAt payloadAt cutBytes operandsOf packetOf carrying outOfSequence notEnabled padEarly overLimit
     needsEntry entriesWaiting noneWaiting usesEntry entryOutside keyLacking keyFails sizeOff totalOff payloadSize
-    lengthsOff current requestCode expectedCode acknowledging completes completionOf messageAfter targetOffset
+    lengthsOff current requestCheck expectedCheck acknowledging completes completionOf messageAfter targetOffset
     storePayload execute checkedDecision expectedDecision psnBefore duplicateDecision rcDecision packetDecision
     readsFull inboundRefusal memoryBy actsAtomic savedRingBy ringTaken entriesBy msnBy readAnswerBy executedPair pairByNumber
     pairBy replyHeader ackHeader answerBytes over outBy leftBy decision inbound
-    posts ready standing zeros completionNumbers leftNumbers arrives given once found said
+    posts ready standing zeros completionNumbers leftNumbers given once found said
 w12 = refl
 
 pub cases : Cases

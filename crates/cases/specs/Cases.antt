@@ -4,7 +4,7 @@ use mathlib.Core.Path.{_≡_}
 use mathlib.Core.Bool.{true}
 use mathlib.Core.List.{List, [], _∷_, _++_}
 use lib.ListN.{length, replicate}
-use Rattle.responder_spec.specs.Arrival.{Arrival, Left}
+use Rattle.responder_spec.specs.Arrival.{Left, arrivingAt}
 use Rattle.sequence.specs.Sequence.{space, distance, psnClass}
 use Rattle.sequence.specs.declared.Psn.{Psn}
 use Rattle.sequence.specs.declared.Class.{Class}
@@ -131,15 +131,13 @@ unfoldable pub leftNumbers : Left → List ℕ
 leftNumbers l =
     l .number ∷ l .whole .pair .expected .0 ∷ l .whole .pair .msn .0 ∷ l .outgoing ∷ completionNumbers (l .completion)
 
--- the packet given to a pair, which has this memory: the numbers of what it leaves, output and memory
-unfoldable pub arrives : Whole → List ℕ → Arrival
-arrives w m = record { whole = w; memory = m; packet = packet; out = output }
-
+-- what is left: its numbers, output and memory
 unfoldable pub given : Left → List ℕ
 given l = leftNumbers l ++ (l .out ++ l .memory)
 
+-- the packet given to the pair
 unfoldable pub once : Left
-once = inbound (arrives ready zeros)
+once = inbound (arrivingAt ready zeros packet output)
 
 -- What the definitions give.
 unfoldable pub found : Case → List ℕ
@@ -164,7 +162,7 @@ found W11 = bit (pkeysMatch 32767 65535) ∷ bit (pkeysMatch 65535 32767) ∷ bi
 -- abc cut as a SEND of PSN 7; the pair; the packet given to it, and given to what that left
 found W12 =
     cutBytes link Send abc (at 7) 0
-    ++ (standing ready ++ (given once ++ given (inbound (arrives (once .whole) (once .memory)))))
+    ++ (standing ready ++ (given once ++ given (inbound (arrivingAt (once .whole) (once .memory) packet output))))
 
 -- What the rules say.
 unfoldable pub said : Case → List ℕ

@@ -1,5 +1,5 @@
 // What a request leads to: a decision, which changes nothing yet, by the rules of the pair's service. The definitions
-// and their laws stand in the crate responder_spec.
+// stand in the crate responder_spec.
 use pair::Pair;
 use pair::Status;
 use request_spec::Packet;
@@ -34,9 +34,9 @@ fn class_of(uc: bool, psn: Psn, expected: Psn) -> Class
 // mistake.
 pub fn decision(
     pair: Pair,
-    regions: &[[u64; 7]; 16],
-    entries: &[[u64; 3]; 16],
-    saved: &[[u64; 2]; 16],
+    regions: &[[u64; 7]; table::REGIONS],
+    entries: &[[u64; 3]; table::ENTRIES],
+    saved: &[[u64; 2]; table::SAVED],
     p: Packet,
 ) -> Decision
     ensures { λ r. ⌜ r ≡ cond (unformed p (pair .setup .timer)) (noReply Status.OutOfRange) (packetDecision (record { pair = pair; regions = now (regions .entry); entries = now (entries .entry); saved = now (saved .entry) }) p) ⌝ }

@@ -17,7 +17,7 @@ use Rattle.header.proofs.Reasons.{of-not}
 use Rattle.request_spec.specs.declared.Packet.{Packet}
 use Rattle.request_spec.specs.Verdict.{carrying, outOfSequence, notEnabled, padEarly, overLimit, noneWaiting}
 use Rattle.request_spec.specs.Verdict.{entryOutside, rightOf, lacks, keyLacking, keyFails, lengthsOff, current}
-use Rattle.request_spec.specs.Verdict.{requestCode, expectedCode}
+use Rattle.request_spec.specs.Verdict.{requestCheck, expectedCheck}
 
 -- each check, passed
 pub record Checked (s : Setup) (opened : OpenMessage) (p : Packet) (count : ℕ) (entry region : List ℕ) : Type 0 where
@@ -34,17 +34,17 @@ pass true n x h e = absurd (omega arith)
 pass false n x h e = (refl, e)
 
 module _ (s : Setup) (opened : OpenMessage) (p : Packet) (count : ℕ) (entry region : List ℕ) where
-  pub checked : expectedCode s opened p count entry region ≡ 0 → Checked s opened p count entry region
-  unfolding expectedCode requestCode
+  pub checked : expectedCheck s opened p count entry region ≡ 0 → Checked s opened p count entry region
+  unfolding expectedCheck requestCheck
   checked h =
-      let a = pass (outOfSequence (opened .kind) (p .kind) (p .place)) 17 _ (omega arith) h in
-      let b = pass (notEnabled s (p .kind)) 17 _ (omega arith) (a .1) in
-      let c = pass (padEarly (p .place) (p .pad)) 17 _ (omega arith) (b .1) in
-      let d = pass (overLimit (p .operands .length)) 17 _ (omega arith) (c .1) in
-      let e = pass (noneWaiting (p .kind) (p .place) (p .operands .immediate) (opened .kind) count) 19 _ (omega arith) (d .1) in
-      let f = pass (entryOutside (p .kind) (p .operands .immediate) entry (s .memory)) 34 _ (omega arith) (e .1) in
-      let g = pass (keyFails (s .memory) (p .kind) (current opened p) region) 18 _ (omega arith) (f .1) in
-      let k = pass (lengthsOff p (s .pmtu) (current opened p) (getD entry 2 0)) 17 _ (omega arith) (g .1) in
+      let a = pass (outOfSequence (opened .kind) (p .kind) (p .place)) 1 _ (omega arith) h in
+      let b = pass (notEnabled s (p .kind)) 2 _ (omega arith) (a .1) in
+      let c = pass (padEarly (p .place) (p .pad)) 3 _ (omega arith) (b .1) in
+      let d = pass (overLimit (p .operands .length)) 4 _ (omega arith) (c .1) in
+      let e = pass (noneWaiting (p .kind) (p .place) (p .operands .immediate) (opened .kind) count) 5 _ (omega arith) (d .1) in
+      let f = pass (entryOutside (p .kind) (p .operands .immediate) entry (s .memory)) 8 _ (omega arith) (e .1) in
+      let g = pass (keyFails (s .memory) (p .kind) (current opened p) region) 6 _ (omega arith) (f .1) in
+      let k = pass (lengthsOff p (s .pmtu) (current opened p) (getD entry 2 0)) 7 _ (omega arith) (g .1) in
       record { sequence = a .0; enabled = b .0; limit = d .0; waiting = e .0; inside = f .0; key = g .0; lengths = k .0 }
 
 -- of the kinds that carry bytes only SEND and WRITE are ever enabled

@@ -1,5 +1,4 @@
--- The codes of the request checks; 34 comes only from an entry that no call made. And what opcodes READs and atomics
--- have.
+-- The request check that fails; 8 comes only from an entry that no call made. And what opcodes READs and atomics have.
 use Prim.Native.Nat.{ℕ, _+_, _-_, _≤_}
 use mathlib.Core.Path.{_≡_, refl, sym, ap, subst, _∙_}
 use mathlib.Core.Bool.{Bool, true, false, cond, not, _&&_, _||_, true≢false}
@@ -20,49 +19,27 @@ use Rattle.pair.specs.declared.OpenMessage.{OpenMessage}
 use Rattle.pair.specs.declared.Pair.{Pair}
 use Rattle.request_spec.specs.Verdict.{outOfSequence, notEnabled, padEarly, overLimit, needsEntry, entriesWaiting}
 use Rattle.request_spec.specs.Verdict.{noneWaiting, usesEntry, entryOutside, keyFails, lengthsOff, current}
-use Rattle.request_spec.specs.Verdict.{requestCode, expectedCode}
+use Rattle.request_spec.specs.Verdict.{requestCheck, expectedCheck}
 use Rattle.request_spec.specs.declared.Packet.{Packet}
 use Rattle.responder_spec.specs.Decide.{headEntry}
 use Rattle.lemmas.specs.OneOf.{OneOf}
 
-abbrev pub Codes : ℕ → Type 0
-Codes = OneOf (0 ∷ 17 ∷ 18 ∷ 19 ∷ 34 ∷ [])
-
 -- the cascade of the checks, by their results
 abbrev coded : Bool → Bool → Bool → Bool → Bool → Bool → Bool → Bool → ℕ
 coded a b c d e f g h =
-    cond a 17 (cond b 17 (cond c 17 (cond d 17 (cond e 19 (cond f 34 (cond g 18 (cond h 17 0)))))))
+    cond a 1 (cond b 2 (cond c 3 (cond d 4 (cond e 5 (cond f 8 (cond g 6 (cond h 7 0)))))))
 
-known : (a b c d e f g h : Bool) → Codes (coded a b c d e f g h)
-known true b c d e f g h = inr (inl refl)
-known false true c d e f g h = inr (inl refl)
-known false false true d e f g h = inr (inl refl)
-known false false false true e f g h = inr (inl refl)
-known false false false false true f g h = inr (inr (inr (inl refl)))
-known false false false false false true g h = inr (inr (inr (inr (inl refl))))
-known false false false false false false true h = inr (inr (inl refl))
-known false false false false false false false true = inr (inl refl)
-known false false false false false false false false = inl refl
-
--- 34: in sequence, an entry was there if one was needed, and the one used lies outside
-only-34 : (a b c d e f g h : Bool) → coded a b c d e f g h ≡ 34 → (a ≡ false) × (e ≡ false) × (f ≡ true)
-only-34 true b c d e f g h z = absurd (omega arith)
-only-34 false true c d e f g h z = absurd (omega arith)
-only-34 false false true d e f g h z = absurd (omega arith)
-only-34 false false false true e f g h z = absurd (omega arith)
-only-34 false false false false true f g h z = absurd (omega arith)
-only-34 false false false false false true g h z = (refl, refl, refl)
-only-34 false false false false false false true h z = absurd (omega arith)
-only-34 false false false false false false false true z = absurd (omega arith)
-only-34 false false false false false false false false z = absurd (omega arith)
-
-pub codes : (s : Setup) (opened : OpenMessage) (p : Packet) (count : ℕ) (entry region : List ℕ) → Codes (expectedCode s opened p count entry region)
-unfolding expectedCode requestCode
-codes s opened p count entry region =
-    known (outOfSequence (opened .kind) (p .kind) (p .place)) (notEnabled s (p .kind)) (padEarly (p .place) (p .pad)) (overLimit (p .operands .length))
-    (noneWaiting (p .kind) (p .place) (p .operands .immediate) (opened .kind) count)
-    (entryOutside (p .kind) (p .operands .immediate) entry (s .memory))
-    (keyFails (s .memory) (p .kind) (current opened p) region) (lengthsOff p (s .pmtu) (current opened p) (getD entry 2 0))
+-- 8: in sequence, an entry was there if one was needed, and the one used lies outside
+only-row : (a b c d e f g h : Bool) → coded a b c d e f g h ≡ 8 → (a ≡ false) × (e ≡ false) × (f ≡ true)
+only-row true b c d e f g h z = absurd (omega arith)
+only-row false true c d e f g h z = absurd (omega arith)
+only-row false false true d e f g h z = absurd (omega arith)
+only-row false false false true e f g h z = absurd (omega arith)
+only-row false false false false true f g h z = absurd (omega arith)
+only-row false false false false false true g h z = (refl, refl, refl)
+only-row false false false false false false true h z = absurd (omega arith)
+only-row false false false false false false false true z = absurd (omega arith)
+only-row false false false false false false false false z = absurd (omega arith)
 
 -- where one waits there is one
 waits : (opened count : ℕ) → eqb (entriesWaiting opened count) 0 ≡ false → 1 ≤ count
@@ -108,15 +85,15 @@ row-inside memory row E h =
     let r : ltb memory (E .0 .offset + E .0 .length) ≡ true = subst (λ x. ltb memory (getD x 1 0 + getD x 2 0) ≡ true) (E .1) h in
     omega (arith, ltb-true memory (E .0 .offset + E .0 .length) r, E .2)
 
-pub never-34 : (q : Pair) (entries : List (List ℕ)) (p : Packet) (region : List ℕ) → Sound q → EntriesSound (q .setup .memory) entries (q .entries)
-    → expectedCode (q .setup) (q .message) p (q .entries .count) (headEntry q entries) region ≡ 34 → ⊥
-unfolding expectedCode requestCode entryOutside
-never-34 q entries p region S E h =
+pub never-row : (q : Pair) (entries : List (List ℕ)) (p : Packet) (region : List ℕ) → Sound q → EntriesSound (q .setup .memory) entries (q .entries)
+    → expectedCheck (q .setup) (q .message) p (q .entries .count) (headEntry q entries) region ≡ 8 → ⊥
+unfolding expectedCheck requestCheck entryOutside
+never-row q entries p region S E h =
     let opened = q .message in
     let s = q .setup in
     let entry = headEntry q entries in
     let T =
-    only-34 (outOfSequence (opened .kind) (p .kind) (p .place)) (notEnabled s (p .kind)) (padEarly (p .place) (p .pad))
+    only-row (outOfSequence (opened .kind) (p .kind) (p .place)) (notEnabled s (p .kind)) (padEarly (p .place) (p .pad))
     (overLimit (p .operands .length))
     (noneWaiting (p .kind) (p .place) (p .operands .immediate) (opened .kind) (q .entries .count))
     (entryOutside (p .kind) (p .operands .immediate) entry (s .memory))
@@ -145,9 +122,9 @@ pub record Passed (s : Setup) (opened : OpenMessage) (p : Packet) (entry region 
   pub lengths : lengthsOff p (s .pmtu) (current opened p) (getD entry 2 0) ≡ false
 
 -- without the first check, and with it
-pub request-passes : (s : Setup) (opened : OpenMessage) (p : Packet) (count : ℕ) (entry region : List ℕ) → requestCode s opened p count entry region ≡ 0
+pub request-passes : (s : Setup) (opened : OpenMessage) (p : Packet) (count : ℕ) (entry region : List ℕ) → requestCheck s opened p count entry region ≡ 0
     → Passed s opened p entry region
-unfolding requestCode
+unfolding requestCheck
 request-passes s opened p count entry region h =
     let T =
     passed-all false (notEnabled s (p .kind)) (padEarly (p .place) (p .pad)) (overLimit (p .operands .length))
@@ -157,12 +134,12 @@ request-passes s opened p count entry region h =
     (lengthsOff p (s .pmtu) (current opened p) (getD entry 2 0)) h in
     record { enabled = T .0; entries = T .1; key = T .2; lengths = T .3 }
 
-pub passes : (s : Setup) (opened : OpenMessage) (p : Packet) (count : ℕ) (entry region : List ℕ) → expectedCode s opened p count entry region ≡ 0
+pub passes : (s : Setup) (opened : OpenMessage) (p : Packet) (count : ℕ) (entry region : List ℕ) → expectedCheck s opened p count entry region ≡ 0
     → Passed s opened p entry region
-unfolding expectedCode
+unfolding expectedCheck
 passes s opened p count entry region h = go (outOfSequence (opened .kind) (p .kind) (p .place)) h
   where
-    go : (b : Bool) → cond b 17 (requestCode s opened p count entry region) ≡ 0 → Passed s opened p entry region
+    go : (b : Bool) → cond b 1 (requestCheck s opened p count entry region) ≡ 0 → Passed s opened p entry region
     go true e = absurd (omega arith)
     go false e = request-passes s opened p count entry region e
 

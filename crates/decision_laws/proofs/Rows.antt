@@ -37,9 +37,10 @@ use Rattle.pair.specs.declared.Status.{Status}
 use Rattle.pair.specs.declared.Status.the-variants as status
 use Rattle.pair.proofs.Tests.{tested}
 use Rattle.request_spec.specs.Packet.{operandsOf, packetOf, packetIn}
-use Rattle.request_spec.specs.Verdict.{carrying, notEnabled, overLimit, keyFails, payloadSize, current, requestCode, expectedCode}
+use Rattle.request_spec.specs.Verdict.{carrying, notEnabled, overLimit, keyFails, payloadSize, current, requestCheck, expectedCheck, checkAnswer}
 use Rattle.table.specs.Table.{memoryOffset}
 use Rattle.request_spec.specs.declared.Packet.{Packet}
+use Rattle.request_spec.proofs.Answered.{row-told, row-left}
 use Rattle.responder_spec.specs.declared.Decision.{Decision}
 use Rattle.responder_spec.specs.Arrival.{Arrival}
 use Rattle.responder_spec.specs.Decide.{refusalOf, checkedHeader}
@@ -51,7 +52,7 @@ use Rattle.responder_spec.specs.Decide.{headEntry, decisionByClass, rcDecision,
 use Rattle.responder_spec.specs.Decide.{abandoning, unanswered, ucExecute, ucCheckedDecision, ucDecision}
 use Rattle.responder_spec.specs.Decide.{packetDecision, orDrop, readsFull, inboundRefusal, decision}
 use Rattle.decision_laws.proofs.Codes.Bare.{reads, swaps, adds}
-use Rattle.decision_laws.proofs.Codes.{Codes, codes, Passed, passes, Bare, class-is}
+use Rattle.decision_laws.proofs.Codes.{Passed, passes, Bare, class-is}
 use Rattle.decision_laws.proofs.Inside.{own-inside, target-inside}
 use Rattle.decision_laws.proofs.Views.{viewed, current-closed, same-code, stray-open}
 
@@ -108,7 +109,7 @@ count-some q S n =
 -- when 34 comes after the packet was looked at
 abbrev pub Off : (Status → Type 0) → Pair → List (List ℕ) → Packet → Type 0
 Off Q q entries p =
-    (region : List ℕ) → expectedCode (q .setup) (q .message) p (q .entries .count) (headEntry q entries) region ≡ 34 → Q status.OutOfRange
+    (region : List ℕ) → expectedCheck (q .setup) (q .message) p (q .entries .count) (headEntry q entries) region ≡ 8 → Q status.OutOfRange
 
 -- the region of the packet's key
 abbrev pub regionBy : Whole → Packet → List ℕ
@@ -194,22 +195,19 @@ module _ (Q : Status → Type 0) (shut : Q status.Dropped) (w : Whole) (S : Soun
       not-send : eqb (p .kind) 12 ≡ true → eqb (p .kind) 0 ≡ false
       not-send e = let k : p .kind ≡ 12 = eqb-true (p .kind) 12 e in ne-eqb (p .kind) 0 (λ z. omega arith)
 
-  checked-row : (entry : List ℕ) (code : ℕ) → Codes code → (code ≡ 0 → Passed (w .pair .setup) (w .pair .message) p entry (regionBy w p))
-      → (code ≡ 34 → Q status.OutOfRange) → R (checkedDecision code p (w .pair .setup) (w .pair .message) entry (regionBy w p))
+  checked-row : (entry : List ℕ) (code : ℕ) → (code ≡ 0 → Passed (w .pair .setup) (w .pair .message) p entry (regionBy w p))
+      → (code ≡ 8 → Q status.OutOfRange) → R (checkedDecision code p (w .pair .setup) (w .pair .message) entry (regionBy w p))
   unfolding checkedDecision failed
-  checked-row entry code (inl e) P o =
-      subst (λ c. R (checkedDecision c p (w .pair .setup) (w .pair .message) entry (regionBy w p))) (sym e) (execute-row entry (P e))
-  checked-row entry code (inr (inl e)) P o = subst (λ c. R (checkedDecision c p (w .pair .setup) (w .pair .message) entry (regionBy w p))) (sym e) invalid
-  checked-row entry code (inr (inr (inl e))) P o = subst (λ c. R (checkedDecision c p (w .pair .setup) (w .pair .message) entry (regionBy w p))) (sym e) access
-  checked-row entry code (inr (inr (inr (inl e)))) P o = subst (λ c. R (checkedDecision c p (w .pair .setup) (w .pair .message) entry (regionBy w p))) (sym e) unready
-  checked-row entry code (inr (inr (inr (inr (inl e))))) P o =
-      subst (λ c. R (checkedDecision c p (w .pair .setup) (w .pair .message) entry (regionBy w p))) (sym e) (quiet status.OutOfRange (o e))
+  checked-row entry code P o =
+      branch R (eqb code 0) (λ z. execute-row entry (P (eqb-true code 0 z)))
+      (λ z. branch R (eqb (checkAnswer code) 17) (λ a. invalid)
+      (λ a. branch R (eqb (checkAnswer code) 18) (λ b. access)
+      (λ b. branch R (eqb (checkAnswer code) 19) (λ c. unready) (λ c. quiet status.OutOfRange (o (row-left code z a b c))))))
 
   expected-row : R (expectedDecision p (w .pair .setup) (w .pair .message) (w .pair .entries .count) (headEntry (w .pair) (w .entries)) (regionBy w p))
   unfolding expectedDecision
   expected-row =
-      checked-row (headEntry (w .pair) (w .entries)) (expectedCode (w .pair .setup) (w .pair .message) p (w .pair .entries .count) (headEntry (w .pair) (w .entries)) (regionBy w p))
-      (codes (w .pair .setup) (w .pair .message) p (w .pair .entries .count) (headEntry (w .pair) (w .entries)) (regionBy w p))
+      checked-row (headEntry (w .pair) (w .entries)) (expectedCheck (w .pair .setup) (w .pair .message) p (w .pair .entries .count) (headEntry (w .pair) (w .entries)) (regionBy w p))
       (passes (w .pair .setup) (w .pair .message) p (w .pair .entries .count) (headEntry (w .pair) (w .entries)) (regionBy w p)) (off (regionBy w p))
 
   ahead-row : R (aheadDecision (w .pair .nakmark) (w .pair .expected))
@@ -257,7 +255,7 @@ module _ (Q : Status → Type 0) (shut : Q status.Dropped) (w : Whole) (p : Pack
   U = UcRow Q (w .pair) p
 
   uc-checked : (entry region : List ℕ) (code : ℕ) → (code ≡ 0 → Passed (w .pair .setup) (closedBy (p .place) (w .pair .message)) p entry region)
-      → (code ≡ 34 → Q status.OutOfRange)
+      → (code ≡ 8 → Q status.OutOfRange)
       → U (ucCheckedDecision code p (w .pair .expected) (w .pair .message) entry region)
   unfolding ucCheckedDecision ucExecute abandoning
   uc-checked entry region code P o =
@@ -267,7 +265,7 @@ module _ (Q : Status → Type 0) (shut : Q status.Dropped) (w : Whole) (p : Pack
       (subst (λ m. targetOffset (p .kind) m entry region + payloadSize p ≤ w .pair .setup .memory) (current-closed (w .pair .message) p)
       (target-inside (w .pair .setup) (closedBy (p .place) (w .pair .message)) p entry region (P (eqb-true code 0 z)) c)))
       (λ c. unheard status.Dropped shut))
-      (λ z. branch U (eqb code 34) (λ e. unheard status.OutOfRange (o (eqb-true code 34 e)))
+      (λ z. branch U (eqb (checkAnswer code) 34) (λ e. unheard status.OutOfRange (o (eqb-true code 8 (sym (row-told code) ∙ e))))
       (λ e. branch U (eqb (w .pair .message .kind) 255) (λ f. unheard status.Dropped shut) (λ f. abandon (eqb-false (w .pair .message .kind) 255 f))))
 
   uc-row : U (ucDecision p (w .pair .setup) (w .pair .expected) (w .pair .message) (w .pair .entries .count) (headEntry (w .pair) (w .entries)) (regionBy w p))
@@ -276,7 +274,7 @@ module _ (Q : Status → Type 0) (shut : Q status.Dropped) (w : Whole) (p : Pack
       let entry = headEntry (w .pair) (w .entries) in
       let region = regionBy w p in
       let opened = closedBy (p .place) (w .pair .message) in
-      let code = requestCode (w .pair .setup) opened p (w .pair .entries .count) entry region in
+      let code = requestCheck (w .pair .setup) opened p (w .pair .entries .count) entry region in
       branch U (orphaned (p .place) (w .pair .message .kind)) (λ h. unheard status.Dropped shut)
       (λ h. branch U (strays p (w .pair .expected) (w .pair .message .kind)) (λ t. abandon (stray-open p (w .pair .expected) (w .pair .message .kind) h t))
       (λ t.

@@ -13,13 +13,14 @@ use Rattle.sequence.specs.Sequence.{distance, psnAfter}
 use Rattle.sequence.specs.declared.Psn.{Psn}
 use Rattle.sequence.proofs.Circle.{after-distance}
 use Rattle.opcode.specs.Place.{starts}
+use Rattle.table.specs.Table.{entryCapacity, savedCapacity}
 use Rattle.pair.specs.Pair.{noMessage}
 use Rattle.pair.specs.Claims.{Sound, SetupSound, MessageSound, ReadSound}
 use Rattle.pair.specs.declared.Setup.{Setup}
 use Rattle.pair.specs.declared.OpenMessage.{OpenMessage}
 use Rattle.pair.specs.declared.Pair.{Pair}
 use Rattle.pair.specs.declared.Status.the-variants as status
-use Rattle.request_spec.specs.Verdict.{outOfSequence, current, requestCode, expectedCode}
+use Rattle.request_spec.specs.Verdict.{outOfSequence, current, requestCheck, expectedCheck}
 use Rattle.request_spec.specs.declared.Packet.{Packet}
 use Rattle.responder_spec.specs.declared.Decision.{Decision}
 use Rattle.responder_spec.specs.Decide.{noReply, orphaned, strays, closedBy, ucCheckedDecision, ucDecision}
@@ -56,7 +57,7 @@ module _ (p : Packet) (s : Setup) (expected : Psn) (opened : OpenMessage) (count
   D = ucDecision p s expected opened count entry region
 
   abbrev checked : Decision
-  checked = ucCheckedDecision (requestCode s (closedBy (p .place) opened) p count entry region) p expected opened entry region
+  checked = ucCheckedDecision (requestCheck s (closedBy (p .place) opened) p count entry region) p expected opened entry region
 
   pub orphan-dropped : orphaned (p .place) (opened .kind) ≡ true → D ≡ noReply status.Dropped
   unfolding ucDecision
@@ -118,8 +119,8 @@ sound-with q r S a b c d e f m n =
       state = subst (λ x. x ≤ 2) (sym b) (S .state);
       expected = subst (λ x. x .0 < 2 ^ 24) (sym c) (S .expected);
       msn = subst (λ x. x .0 < 2 ^ 24) (sym d) (S .msn);
-      entries = subst (λ x. (x .head < 16) × (x .count ≤ 16)) (sym e) (S .entries);
-      saved = subst (λ x. (x .head < 16) × (x .count ≤ 16)) (sym f) (S .saved);
+      entries = subst (λ x. (x .head < entryCapacity) × (x .count ≤ entryCapacity)) (sym e) (S .entries);
+      saved = subst (λ x. (x .head < savedCapacity) × (x .count ≤ savedCapacity)) (sym f) (S .saved);
       message = m;
       read = n;
     }
@@ -152,10 +153,10 @@ in-sequence opened p expected h = go (starts (p .place)) h
 
 pub same-code : (s : Setup) (opened : OpenMessage) (p : Packet) (expected : Psn) (count : ℕ) (entry region : List ℕ)
     → strays p expected (opened .kind) ≡ false
-    → expectedCode s (closedBy (p .place) opened) p count entry region ≡ requestCode s (closedBy (p .place) opened) p count entry region
-unfolding expectedCode
+    → expectedCheck s (closedBy (p .place) opened) p count entry region ≡ requestCheck s (closedBy (p .place) opened) p count entry region
+unfolding expectedCheck
 same-code s opened p expected count entry region h =
-    ap (λ b. cond b 17 (requestCode s (closedBy (p .place) opened) p count entry region)) (in-sequence opened p expected h)
+    ap (λ b. cond b 1 (requestCheck s (closedBy (p .place) opened) p count entry region)) (in-sequence opened p expected h)
 
 -- what strays finds a message open
 pub stray-open : (p : Packet) (expected : Psn) (opened : ℕ) → orphaned (p .place) opened ≡ false → strays p expected opened ≡ true

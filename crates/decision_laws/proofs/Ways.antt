@@ -34,7 +34,7 @@ use Rattle.pair.specs.declared.Pair.{Pair}
 use Rattle.pair.specs.declared.Status.{Status}
 use Rattle.pair.specs.declared.Status.the-variants as status
 use Rattle.request_spec.specs.Packet.{packetOf}
-use Rattle.request_spec.specs.Verdict.{carrying, payloadSize, current, requestCode, expectedCode}
+use Rattle.request_spec.specs.Verdict.{carrying, payloadSize, current, requestCheck, expectedCheck, checkAnswer}
 use Rattle.request_spec.specs.Claims.{Served, Enabled, HasMore, Ends, Carries, IsAtomic}
 use Rattle.request_spec.proofs.Order.{served}
 use Rattle.request_spec.specs.declared.Packet.{Packet}
@@ -67,7 +67,7 @@ Other n = (n ≡ 2) ⊎ (4 ≤ n)
 
 abbrev pub codeBy : Whole → Packet → ℕ
 codeBy w k =
-    expectedCode (w .pair .setup) (w .pair .message) k (w .pair .entries .count) (headEntry (w .pair) (w .entries)) (regionBy w k)
+    expectedCheck (w .pair .setup) (w .pair .message) k (w .pair .entries .count) (headEntry (w .pair) (w .entries)) (regionBy w k)
 
 -- the same tables, and the pair as the packet finds it
 abbrev pub viewedIn : ℕ → Whole → Whole
@@ -97,9 +97,9 @@ module _ (w : Whole) (S : Sound (w .pair)) (k : Packet) where
       branch W (eqb code 0)
       (λ z. branch W (carrying (k .kind)) (λ c. places S (eqb-true code 0 z) c)
       (λ c. branch W (eqb (k .kind) 12) (λ r. away _ (inl refl)) (λ r. exchanges S (eqb-true code 0 z) c r)))
-      (λ z. branch W (eqb code 17) (λ e. away _ (inr (omega arith)))
-      (λ e. branch W (eqb code 18) (λ e. away _ (inr (omega arith)))
-      (λ e. branch W (eqb code 19) (λ e. away _ (inr (omega arith))) (λ e. away _ (inr (omega arith))))))
+      (λ z. branch W (eqb (checkAnswer code) 17) (λ e. away _ (inr (omega arith)))
+      (λ e. branch W (eqb (checkAnswer code) 18) (λ e. away _ (inr (omega arith)))
+      (λ e. branch W (eqb (checkAnswer code) 19) (λ e. away _ (inr (omega arith))) (λ e. away _ (inr (omega arith))))))
 
   pub ahead-way : W (aheadDecision (w .pair .nakmark) (w .pair .expected))
   unfolding aheadDecision statusNumber acknowledging noReply
@@ -132,23 +132,23 @@ module _ (w : Whole) (S : Sound (w .pair)) (k : Packet) where
 
   -- the code of the message that the packet leaves open is that of the same message's region
   code-viewed : (m : OpenMessage) → current opened k ≡ m → strays k (w .pair .expected) (w .pair .message .kind) ≡ false
-      → requestCode (w .pair .setup) opened k (w .pair .entries .count) (headEntry (w .pair) (w .entries)) (regionFor (k .kind) (m .key) (w .regions)) ≡ 0
+      → requestCheck (w .pair .setup) opened k (w .pair .entries .count) (headEntry (w .pair) (w .entries)) (regionFor (k .kind) (m .key) (w .regions)) ≡ 0
       → codeBy (viewedIn (k .place) w) k ≡ 0
   code-viewed m e t z =
-      ap (λ x. expectedCode (w .pair .setup) opened k (w .pair .entries .count) (headEntry (w .pair) (w .entries)) (regionFor (k .kind) (x .key) (w .regions))) e
+      ap (λ x. expectedCheck (w .pair .setup) opened k (w .pair .entries .count) (headEntry (w .pair) (w .entries)) (regionFor (k .kind) (x .key) (w .regions))) e
       ∙ (same-code (w .pair .setup) (w .pair .message) k (w .pair .expected) (w .pair .entries .count) (headEntry (w .pair) (w .entries)) (regionFor (k .kind) (m .key) (w .regions)) t ∙ z)
 
   pub uc-way : W (ucDecision k (w .pair .setup) (w .pair .expected) (w .pair .message) (w .pair .entries .count) (headEntry (w .pair) (w .entries)) (regionBy w k))
   unfolding ucDecision ucCheckedDecision ucExecute abandoning statusNumber noReply
   uc-way =
-      let code = requestCode (w .pair .setup) opened k (w .pair .entries .count) (headEntry (w .pair) (w .entries)) (regionBy w k) in
+      let code = requestCheck (w .pair .setup) opened k (w .pair .entries .count) (headEntry (w .pair) (w .entries)) (regionBy w k) in
       branch W (orphaned (k .place) (w .pair .message .kind)) (λ o. away _ (inr (omega arith)))
       (λ o. branch W (strays k (w .pair .expected) (w .pair .message .kind)) (λ t. away _ (inr (omega arith)))
       (λ t. branch W (eqb code 0)
       (λ z. branch W (carrying (k .kind))
       (λ c. delivers S _ (code-viewed (current (w .pair .message) k) (current-closed (w .pair .message) k) t (eqb-true code 0 z)) c)
       (λ c. away _ (inr (omega arith))))
-      (λ z. branch W (eqb code 34) (λ e. away _ (inr (omega arith)))
+      (λ z. branch W (eqb (checkAnswer code) 34) (λ e. away _ (inr (omega arith)))
       (λ e. branch W (eqb (w .pair .message .kind) 255) (λ f. away _ (inr (omega arith))) (λ f. away _ (inr (omega arith)))))))
 
   pub packet-way : W (packetDecision w k)

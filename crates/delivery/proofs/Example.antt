@@ -6,7 +6,7 @@ use mathlib.Core.Logic.{inl, inr}
 use native.Mathlib.Omega.{arith}
 use lib.ListN.{length, replicate, length-replicate}
 use Rattle.header.specs.Check.{pkeysMatch, fullMember}
-use Rattle.table.specs.Table.{regionRow, entryRow, firstFrom, sought, outside, pastTop, regionOutside, slotAt}
+use Rattle.table.specs.Table.{regionRow, entryRow, firstFrom, sought, outside, pastTop, regionOutside, entrySlot}
 use Rattle.table.specs.View.{regionOf, ringFrom}
 use Rattle.pair.specs.Claims.{SetupSound}
 use Rattle.pair.specs.Answer.{statusNumber, executed}
@@ -33,7 +33,7 @@ is-fresh : Fresh made
 unfolding made setup calls region calledAll called begun setUp setUpStatus setUpRegions addStatus addRegions
     postStatus posted postEntries readyStatus madeReady executed statusNumber freshPair setupUnfit setupUnsound
     countersUnsound ringUnsound messageUnsound readUnsound pairUnsound pmtuFits otherService outside pastTop
-    regionOutside firstFrom sought regionRow entryRow slotAt
+    regionOutside firstFrom sought regionRow entryRow entrySlot
 is-fresh = fresh-made setup [] (replicate 16 (replicate 3 0)) (replicate 16 (replicate 2 0)) calls sound refl refl refl (tt, (tt, (tt, tt))) .1 refl
 
 -- every request, permitted by computation
@@ -41,7 +41,7 @@ pub is-met : Fulfilled
 unfolding made setup calls region messages message calledAll called begun setUp setUpStatus setUpRegions addStatus
     addRegions postStatus posted postEntries readyStatus madeReady executed statusNumber freshPair setupUnfit
     setupUnsound countersUnsound ringUnsound messageUnsound readUnsound pairUnsound pmtuFits otherService outside pastTop
-    regionOutside firstFrom sought regionRow entryRow slotAt regionOf ringFrom pkeysMatch fullMember
+    regionOutside firstFrom sought regionRow entryRow entrySlot regionOf ringFrom pkeysMatch fullMember
 is-met =
     record {
       fresh = is-fresh;
@@ -98,7 +98,7 @@ pub executed-all : Executed
 unfolding packets memory made setup calls region messages message calledAll called begun setUp setUpStatus
     setUpRegions addStatus addRegions postStatus posted postEntries readyStatus madeReady executed statusNumber
     freshPair setupUnfit setupUnsound countersUnsound ringUnsound messageUnsound readUnsound pairUnsound pmtuFits
-    otherService outside pastTop regionOutside firstFrom sought regionRow entryRow slotAt stream slotsFrom nextPsn
+    otherService outside pastTop regionOutside firstFrom sought regionRow entryRow entrySlot stream slotsFrom nextPsn
     psnsOf messageLength packetsOf carriedLength carries pieces
 executed-all =
     let W = witness made messages memory (replicate 4112 0) is-fresh (is-met .permitted) (is-met .waiting) (is-met .fits) refl long-output in

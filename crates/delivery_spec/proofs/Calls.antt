@@ -8,9 +8,9 @@ use lib.Dec.{leb, ltb, eqb}
 use lib.ListN.{length, set, length-append}
 use borrow.Author.Tests.{eqb-true, eq-eqb, ltb-false, leb-false}
 use Rattle.header.specs.Check.{admitted}
-use Rattle.table.specs.Table.{outside, entryRow, slotAt}
+use Rattle.table.specs.Table.{outside, entryRow, entrySlot}
 use Rattle.table.specs.View.{inRing, oneMore}
-use Rattle.table.proofs.Rings.{appends}
+use Rattle.table.proofs.Rings.{entry-ring}
 use Rattle.table.specs.declared.Entry.{Entry}
 use Rattle.pair.specs.Answer.{statusNumber, executed}
 use Rattle.pair.specs.Pair.{moved}
@@ -190,7 +190,7 @@ module _ (ms : List Message) (S : List Slot) (p : Plain) (x : Run) (L : Link ms 
             record {
               pair = moved (x .whole .pair) (x .whole .pair .state) (oneMore (x .whole .pair .entries));
               regions = x .whole .regions;
-              entries = set (x .whole .entries) (slotAt (x .whole .pair .entries .head) (x .whole .pair .entries .count)) (entryRow e);
+              entries = set (x .whole .entries) (entrySlot (x .whole .pair .entries .head) (x .whole .pair .entries .count)) (entryRow e);
               saved = x .whole .saved;
             };
         memory = x .memory;
@@ -204,8 +204,8 @@ module _ (ms : List Message) (S : List Slot) (p : Plain) (x : Run) (L : Link ms 
         expected = L .expected;
         msn = L .msn;
         entries =
-            ap (map entryOf) (appends (x .whole .entries) (x .whole .pair .entries) (entryRow e) (Y .entries .rows16) (omega arith))
-            ∙ (map-last (inRing (x .whole .entries) (x .whole .pair .entries)) e
+            ap (map entryOf) (entry-ring .appends (x .whole .entries) (x .whole .pair .entries) (entryRow e) (Y .entries .sized) (omega arith))
+            ∙ (map-last (inRing entrySlot (x .whole .entries) (x .whole .pair .entries)) e
             ∙ (ap (λ es. es ++ (e ∷ [])) (L .entries) ∙ append-assoc (p .held) (p .waiting) (e ∷ [])));
         reads = L .reads;
         memory = L .memory;
@@ -229,7 +229,7 @@ module _ (ms : List Message) (S : List Slot) (p : Plain) (x : Run) (L : Link ms 
                 record {
                   pair = cond (executed r) (moved (x .whole .pair) (x .whole .pair .state) (oneMore (x .whole .pair .entries))) (x .whole .pair);
                   regions = x .whole .regions;
-                  entries = cond (executed r) (set (x .whole .entries) (slotAt (x .whole .pair .entries .head) (x .whole .pair .entries .count)) (entryRow e)) (x .whole .entries);
+                  entries = cond (executed r) (set (x .whole .entries) (entrySlot (x .whole .pair .entries .head) (x .whole .pair .entries .count)) (entryRow e)) (x .whole .entries);
                   saved = x .whole .saved;
                 };
             memory = x .memory;

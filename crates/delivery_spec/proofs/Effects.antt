@@ -9,6 +9,7 @@ use lib.ListN.{length, drop}
 use borrow.Author.Tests.{eqb-true, eq-eqb, ne-eqb, le-leb}
 use Rattle.lemmas.proofs.Auto.{tests}
 use Rattle.sequence.specs.Sequence.{after, psnAfter, msnNext}
+use Rattle.table.specs.Table.{entrySlot}
 use Rattle.table.specs.View.{inRing}
 use Rattle.table.specs.declared.Entry.{Entry}
 use Rattle.pair.specs.Answer.{statusNumber}
@@ -64,7 +65,7 @@ module _ (ms : List Message) (S : List Slot) (p : Plain) (x : Run) (d : Decision
         ≡ cond (isLast (slot S (p .k)) && takesEntry (slot S (p .k) .message .request))
         (completionFor (slot S (p .k) .message .request) e (length (slot S (p .k) .message .bytes)) ∷ []) []
     pub entries :
-        map entryOf (inRing (x .whole .entries) (entriesBy (d .completion .some) (x .whole .pair .entries)))
+        map entryOf (inRing entrySlot (x .whole .entries) (entriesBy (d .completion .some) (x .whole .pair .entries)))
         ≡ cond (isLast (slot S (p .k))) [] (heldNow p (slot S (p .k))) ++ waitingNow p (slot S (p .k))
     pub opened : OpenedFor (eqb (slot S (suc (p .k)) .index) 0) (slot S (suc (p .k))) (d .message) (cond (isLast (slot S (p .k))) [] (heldNow p (slot S (p .k))))
 

@@ -13,7 +13,7 @@ use Rattle.pair.specs.declared.OpenMessage.{OpenMessage}
 use Rattle.cut_spec.specs.Claims.{kindNumber}
 use Rattle.cut_spec.specs.declared.Request.{Request}
 use Rattle.cut_spec.specs.declared.Request.the-variants.{Send, SendImmediate, Write, WriteImmediate, Read, CmpSwap, FetchAdd}
-use Rattle.request_spec.specs.Verdict.{carrying, noneWaiting, usesEntry, current, expectedCode}
+use Rattle.request_spec.specs.Verdict.{carrying, noneWaiting, usesEntry, current, expectedCheck, checkAnswer}
 use Rattle.responder_spec.specs.Steady.{Steady}
 use Rattle.responder_spec.specs.Decide.{acknowledging, failed, headEntry, regionFor, storePayload, acceptRead, runAtomic, execute, checkedDecision, expectedDecision}
 use Rattle.responder_spec.specs.Apply.{memoryBy, actsAtomic, savedBy, pairBy, pairByNumber}
@@ -60,7 +60,7 @@ module _ (ms : List Message) (S : List Slot) (p : Plain) (x : Run) (L : Link ms 
   fits = Y .pair .setup .0
 
   abbrev code : ℕ
-  code = expectedCode (x .whole .pair .setup) (x .whole .pair .message) (cutPacket t) (x .whole .pair .entries .count) entry region
+  code = expectedCheck (x .whole .pair .setup) (x .whole .pair .message) (cutPacket t) (x .whole .pair .entries .count) entry region
 
   passed : Before (x .whole .pair .setup) (x .whole .pair .message) (cutPacket t)
   passed = before (x .whole .pair .setup) (x .whole .regions) fits t H (x .whole .pair .message) (p .held) (L .opened)
@@ -75,9 +75,9 @@ module _ (ms : List Message) (S : List Slot) (p : Plain) (x : Run) (L : Link ms 
   abbrev decides : Decision
   decides = expectedDecision (cutPacket t) (x .whole .pair .setup) (x .whole .pair .message) (x .whole .pair .entries .count) entry region
 
-  -- no entry: 19, and the NAK mark
+  -- no entry: check 5, and the NAK mark
   waits : (slotNeedsEntry t && none (p .waiting)) ≡ true → Link ms S p (stepBy x decides (packetAt t))
-  unfolding expectedDecision checkedDecision failed acknowledging statusNumber pairBy pairByNumber savedBy memoryBy actsAtomic
+  unfolding expectedDecision checkedDecision failed checkAnswer acknowledging statusNumber pairBy pairByNumber savedBy memoryBy actsAtomic
   waits e =
       subst
       (λ c. Link ms S p (stepBy x (checkedDecision c (cutPacket t) (x .whole .pair .setup) (x .whole .pair .message) entry region) (packetAt t)))

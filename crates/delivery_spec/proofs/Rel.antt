@@ -6,6 +6,7 @@ use mathlib.Core.List.{List, [], _∷_, _++_, append-nil, map}
 use lib.Dec.{eqb}
 use lib.ListN.{length}
 use Rattle.sequence.specs.Sequence.{after}
+use Rattle.table.specs.Table.{entrySlot}
 use Rattle.table.specs.View.{inRing}
 use Rattle.table.specs.declared.Entry.{Entry}
 use Rattle.pair.specs.declared.OpenMessage.{OpenMessage}
@@ -57,7 +58,7 @@ pub record Link (ms : List Message) (S : List Slot) (p : Plain) (x : Run) : Type
   pub ready : x .whole .pair .state ≡ 1
   pub expected : x .whole .pair .expected ≡ p .expected
   pub msn : x .whole .pair .msn ≡ p .msn
-  pub entries : map entryOf (inRing (x .whole .entries) (x .whole .pair .entries)) ≡ p .held ++ p .waiting
+  pub entries : map entryOf (inRing entrySlot (x .whole .entries) (x .whole .pair .entries)) ≡ p .held ++ p .waiting
   pub reads : x .whole .pair .read .remaining ≡ p .r
   pub memory : x .memory ≡ p .memory
   pub completions : x .completions ≡ p .completions

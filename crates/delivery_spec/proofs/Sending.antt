@@ -11,7 +11,7 @@ use Rattle.lemmas.proofs.Tests.{and-true}
 use Rattle.memory.specs.Memory.{overwrite}
 use Rattle.opcode.specs.Place.{ends}
 use Rattle.pmtu.specs.Pieces.{pieceAt}
-use Rattle.table.specs.Table.{outside}
+use Rattle.table.specs.Table.{entrySlot, outside}
 use Rattle.table.specs.View.{inRing}
 use Rattle.table.specs.declared.Entry.{Entry}
 use Rattle.pair.specs.Claims.{SetupFit}
@@ -132,7 +132,7 @@ module _ (ms : List Message) (S : List Slot) (p : Plain) (x : Run) (L : Link ms 
   last-is = ends-is (x .whole .pair .setup) (x .whole .regions) fits t H (x .whole .pair .message) (p .held) (L .opened)
 
   ring-is : (a b : Bool) → slotNeedsEntry t ≡ a → (isLast t && takesEntry (t .message .request)) ≡ b → isLast t ≡ b
-      → map entryOf (inRing (x .whole .entries) (entriesBy b (x .whole .pair .entries)))
+      → map entryOf (inRing entrySlot (x .whole .entries) (entriesBy b (x .whole .pair .entries)))
       ≡ cond (isLast t) [] (heldNow p t) ++ waitingNow p t
   ring-is a b e f g =
       entries-by (x .whole .entries) (x .whole .pair .entries) (p .held ++ p .waiting) (L .entries) b (λ z. entered .some)
@@ -159,7 +159,7 @@ module _ (ms : List Message) (S : List Slot) (p : Plain) (x : Run) (L : Link ms 
         memory = memory-is ∙ sym (Z .memory-is (x .whole .regions) (t .message .connection .pmtu) (t .message .bytes) (t .index) (firstOf (heldNow p t)) (p .memory));
         completion = completion-is .0;
         entries =
-            ap (λ b. map entryOf (inRing (x .whole .entries) (entriesBy b (x .whole .pair .entries)))) (completion-is .1)
+            ap (λ b. map entryOf (inRing entrySlot (x .whole .entries) (entriesBy b (x .whole .pair .entries)))) (completion-is .1)
             ∙ ring-is (slotNeedsEntry t) (isLast t && takesEntry (t .message .request)) refl refl (sym (and-true (isLast t)) ∙ ap (λ b. isLast t && b) (sym (Z .takesEntry)));
         opened =
             opened-next S (p .k) (messageAfter (placeFor t) M (payloadSize (cutPacket t))) (cond (isLast t) [] (heldNow p t)) (G .turn (p .k) lt) (H .outgoing .inside)

@@ -9,7 +9,7 @@ use lib.ListN.{length, drop}
 use borrow.Author.Tests.{eq-eqb, ne-eqb}
 use Rattle.pmtu.specs.Pieces.{pieces}
 use Rattle.pmtu.proofs.Counting.{counts, bounds}
-use Rattle.table.specs.Table.{noRegion, memoryOffset}
+use Rattle.table.specs.Table.{entrySlot, noRegion, memoryOffset}
 use Rattle.table.specs.View.{inRing, regionOf}
 use Rattle.pair.specs.Answer.{statusNumber}
 use Rattle.pair.specs.declared.OpenMessage.{OpenMessage}
@@ -70,7 +70,7 @@ module _ (ms : List Message) (S : List Slot) (p : Plain) (x : Run) (L : Link ms 
   needs-entry-is : slotNeedsEntry t ≡ false
   needs-entry-is = O .needsEntryAt (t .index) (packetCount (t .message))
 
-  ring-is : map entryOf (inRing (x .whole .entries) (entriesBy false (x .whole .pair .entries))) ≡ cond (isLast t) [] (heldNow p t) ++ waitingNow p t
+  ring-is : map entryOf (inRing entrySlot (x .whole .entries) (entriesBy false (x .whole .pair .entries))) ≡ cond (isLast t) [] (heldNow p t) ++ waitingNow p t
   ring-is =
       entries-by (x .whole .entries) (x .whole .pair .entries) (p .held ++ p .waiting) (L .entries) false (λ z. absurd (true≢false (sym z)))
       ∙ (ap (λ h. h ++ p .waiting) (idle .1) ∙ λ i. cond (sym last-is i) [] (heldNow p t) ++ cond (sym needs-entry-is i) (drop 1 (p .waiting)) (p .waiting))

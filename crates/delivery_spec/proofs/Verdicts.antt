@@ -20,7 +20,7 @@ use Rattle.delivery_spec.specs.Plain.{regionOffset}
 use Rattle.delivery_spec.specs.Demand.{LiesInRegion}
 use Rattle.request_spec.specs.Verdict.{outOfSequence, notEnabled, padEarly, overLimit, noneWaiting, entryOutside}
 use Rattle.request_spec.specs.Verdict.{keyFails, keyLacking, bytesToCome, rightOf, lacks, lengthsOff, current}
-use Rattle.request_spec.specs.Verdict.{requestCode, expectedCode}
+use Rattle.request_spec.specs.Verdict.{requestCheck, expectedCheck}
 
 -- the checks before that of the entry, and those after
 pub record Before (s : Setup) (opened : OpenMessage) (p : Packet) : Type 0 where
@@ -36,14 +36,14 @@ pub record Behind (s : Setup) (opened : OpenMessage) (p : Packet) (entry region 
 
 module _ (s : Setup) (opened : OpenMessage) (p : Packet) (count : ℕ) (entry region : List ℕ) (b : Before s opened p) where
   pub unready : noneWaiting (p .kind) (p .place) (p .operands .immediate) (opened .kind) count ≡ true
-      → expectedCode s opened p count entry region ≡ 19
-  unfolding expectedCode requestCode
+      → expectedCheck s opened p count entry region ≡ 5
+  unfolding expectedCheck requestCheck
   unready e = rw (b .sequence, b .enabled, b .pad, b .limit, e)
 
   pub passes : noneWaiting (p .kind) (p .place) (p .operands .immediate) (opened .kind) count ≡ false
       → Behind s opened p entry region
-      → expectedCode s opened p count entry region ≡ 0
-  unfolding expectedCode requestCode
+      → expectedCheck s opened p count entry region ≡ 0
+  unfolding expectedCheck requestCheck
   passes e a = rw (b .sequence, b .enabled, b .pad, b .limit, e, a .entry-in, a .key, a .lengths)
 
 -- the region of a key, which has some bytes, lies in memory and ends below 2^64

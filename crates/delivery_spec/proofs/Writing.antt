@@ -9,6 +9,7 @@ use lib.ListN.{length, getD, take, drop}
 use Rattle.memory.specs.Memory.{overwrite}
 use Rattle.opcode.specs.Place.{ends}
 use Rattle.pmtu.specs.Pieces.{pieceAt}
+use Rattle.table.specs.Table.{entrySlot}
 use Rattle.table.specs.View.{inRing}
 use Rattle.table.specs.declared.Entry.{Entry}
 use Rattle.pair.specs.Claims.{SetupFit}
@@ -103,7 +104,7 @@ module _ (ms : List Message) (S : List Slot) (p : Plain) (x : Run) (L : Link ms 
       ap (λ m. memoryBy (storePayload (cutPacket t) M entry region) m (packetAt t)) (L .memory)
       ∙ write-memory-is (x .whole .pair .setup) (x .whole .regions) fits t H (x .whole .pair .message) (p .held) (L .opened) C entry Z (Y .regions) (p .memory) ml
 
-  ring-is : map entryOf (inRing (x .whole .entries) (entriesBy (isLast t && takesEntry (t .message .request)) (x .whole .pair .entries)))
+  ring-is : map entryOf (inRing entrySlot (x .whole .entries) (entriesBy (isLast t && takesEntry (t .message .request)) (x .whole .pair .entries)))
       ≡ cond (isLast t) [] (heldNow p t) ++ waitingNow p t
   ring-is =
       entries-by (x .whole .entries) (x .whole .pair .entries) (p .held ++ p .waiting) (L .entries) (isLast t && takesEntry (t .message .request)) (λ z. taken (needs-entry-is ∙ z) .0)
@@ -126,7 +127,7 @@ module _ (ms : List Message) (S : List Slot) (p : Plain) (x : Run) (L : Link ms 
         reads = storing-reads (x .whole .pair .setup) (x .whole .regions) fits t H (x .whole .pair .message) (p .held) (L .opened) C entry region (x .whole .pair .read) _ (p .r) (L .reads);
         memory = memory-is ∙ sym (Z .memory-is (x .whole .regions) (t .message .connection .pmtu) (t .message .bytes) (t .index) (firstOf (heldNow p t)) (p .memory));
         completion = completion-is .0;
-        entries = ap (λ b. map entryOf (inRing (x .whole .entries) (entriesBy b (x .whole .pair .entries)))) (completion-is .1) ∙ ring-is;
+        entries = ap (λ b. map entryOf (inRing entrySlot (x .whole .entries) (entriesBy b (x .whole .pair .entries)))) (completion-is .1) ∙ ring-is;
         opened =
             opened-next S (p .k) (messageAfter (placeFor t) M (payloadSize (cutPacket t))) (cond (isLast t) [] (heldNow p t)) (G .turn (p .k) lt) (H .outgoing .inside)
             (λ e. (message-after-last (x .whole .pair .setup) (x .whole .regions) fits t H (x .whole .pair .message) (p .held) (L .opened) C entry region e, ap (λ b. cond b [] (heldNow p t)) e))

@@ -5,7 +5,7 @@ use mathlib.Core.Bool.{Bool, true, false}
 use mathlib.Core.List.{List, [], _∷_, _++_, map}
 use mathlib.Core.Logic.{_⊎_}
 use lib.ListN.{length}
-use Rattle.responder_spec.specs.Arrival.{Arrival}
+use Rattle.responder_spec.specs.Arrival.{Arrival, arrivingAt}
 use Rattle.header.specs.Check.{pkeysMatch}
 use Rattle.table.specs.EntryRow as EntryRow
 use Rattle.table.specs.Table.{regionRow}
@@ -36,7 +36,7 @@ pub record Run : Type 0 where
 
 -- the bytes p are handed in
 abbrev pub handing : Run → List ℕ → List ℕ → Arrival
-handing x p out = record { whole = x .whole; memory = x .memory; packet = p; out = out }
+handing x p out = arrivingAt (x .whole) (x .memory) p out
 
 abbrev pub taken : Run → List ℕ → List ℕ → Run
 taken x p out =

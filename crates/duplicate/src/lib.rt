@@ -1,4 +1,4 @@
-// What a duplicate is answered with. The definitions and their laws stand in the crate responder_spec.
+// What a duplicate is answered with. The definitions stand in the crate responder_spec.
 use pair::OpenMessage;
 use pair::Pair;
 use pair::Setup;
@@ -95,7 +95,7 @@ fn is_atomic(kind: u8) -> bool
 }
 
 // A READ, by the region of its key.
-fn read(p: Packet, pair: Pair, regions: &[[u64; 7]; 16]) -> Decision
+fn read(p: Packet, pair: Pair, regions: &[[u64; 7]; table::REGIONS]) -> Decision
     requires { ⌜ fragment p ≡ false ⌝ }
     requires { ⌜ p .kind ≡ Kind.read ⌝ }
     ensures { λ r. ⌜ r ≡ duplicateRead p (pair .setup) (current (pair .message) p) (pair .expected) (regionFor (p .kind) (current (pair .message) p .key) (now (regions .entry))) ⌝ }
@@ -109,7 +109,12 @@ fn read(p: Packet, pair: Pair, regions: &[[u64; 7]; 16]) -> Decision
 
 // By the kind of the duplicate. Only a READ's key is looked up, and only an atomic's value. What no header says is the
 // caller's mistake.
-pub fn answer(pair: Pair, regions: &[[u64; 7]; 16], saved: &[[u64; 2]; 16], p: Packet) -> Decision
+pub fn answer(
+    pair: Pair,
+    regions: &[[u64; 7]; table::REGIONS],
+    saved: &[[u64; 2]; table::SAVED],
+    p: Packet,
+) -> Decision
     ensures { λ r. ⌜ r ≡ cond (fragment p) (noReply Status.OutOfRange) (duplicateDecision p (pair .setup) (pair .expected) (current (pair .message) p) (regionFor (p .kind) (current (pair .message) p .key) (now (regions .entry))) (newestSaved (p .psn .0) (now (saved .entry)) (pair .saved))) ⌝ }
 {
     let part = request_checks::fragment(p);

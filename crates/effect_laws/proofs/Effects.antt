@@ -21,7 +21,7 @@ use Rattle.memory.proofs.Words.{fetch-within, swap-within}
 use Rattle.packet.specs.Packet.{payloadOf}
 use Rattle.opcode.specs.Place.{ends}
 use Rattle.pmtu.specs.Pieces.{pieces}
-use Rattle.table.specs.Table.{slotAt, memoryOffset}
+use Rattle.table.specs.Table.{entrySlot, memoryOffset}
 use Rattle.table.specs.View.{regionOf, savedRing, savedRows}
 use Rattle.pair.specs.Answer.{statusNumber, executed}
 use Rattle.pair.specs.Claims.{statusOf}
@@ -43,7 +43,7 @@ use Rattle.responder_spec.specs.Decide.{storePayload, runAtomic, unanswered, de
 use Rattle.responder_spec.specs.Apply.{memoryBy, actsAtomic, savedBy, savedRingBy, ringTaken, entriesBy, msnBy, readAnswerBy, executedPair, with, pairByNumber, pairBy}
 use Rattle.responder_spec.specs.Reply.{answerBytes, valueBy, over, outBy}
 use Rattle.responder_spec.specs.Inbound.{leftBy, inbound}
-use Rattle.effect_laws.specs.Effects.{Silent, Unexecuted, Unchanged, Fixed, NakMarkAlone}
+use Rattle.effect_laws.specs.Effects.{Silent, OnlyRead, InboundReads, Unexecuted, Unchanged, Fixed, NakMarkAlone}
 use Rattle.effect_laws.specs.Effects.{ErrorAlone, Begun, DuplicateLeaves, Abandons, Executes, StoresPacket, Accepts}
 use Rattle.effect_laws.specs.Effects.{OnWord, Swaps, Table, InboundTable}
 use Rattle.decision_laws.proofs.Codes.Bare.{reads, swaps, adds}
@@ -104,12 +104,16 @@ module _ (arrival : Arrival) where
   unfolding leftBy memoryBy savedBy actsAtomic
   unexecuted-by a outgoing psn syndrome value = record { memory = refl; saved = refl; completion = silent }
 
+  only-read : (d : Decision) → OnlyRead arrival (L d)
+  unfolding leftBy
+  only-read d = record { regions = refl; entries = refl }
+
   quiet-by : (a : Status) → Quiet a → Effect a (L (noReply a))
   unfolding leftBy memoryBy savedBy actsAtomic pairBy pairByNumber statusNumber noReply outBy answerBytes over valueBy
-  quiet-by status.Dropped dropped = record { pair = refl; unexecuted = unexecuted-by status.Dropped 0 noPsn 0 0; outgoing = refl; out = refl }
-  quiet-by status.OutputShort short = record { pair = refl; unexecuted = unexecuted-by status.OutputShort 0 noPsn 0 0; outgoing = refl; out = refl }
-  quiet-by status.OutOfRange range = record { pair = refl; unexecuted = unexecuted-by status.OutOfRange 0 noPsn 0 0; outgoing = refl; out = refl }
-  quiet-by status.ReadUnfinished unfinished = record { pair = refl; unexecuted = unexecuted-by status.ReadUnfinished 0 noPsn 0 0; outgoing = refl; out = refl }
+  quiet-by status.Dropped dropped = record { pair = refl; tables = only-read (noReply status.Dropped); unexecuted = unexecuted-by status.Dropped 0 noPsn 0 0; outgoing = refl; out = refl }
+  quiet-by status.OutputShort short = record { pair = refl; tables = only-read (noReply status.OutputShort); unexecuted = unexecuted-by status.OutputShort 0 noPsn 0 0; outgoing = refl; out = refl }
+  quiet-by status.OutOfRange range = record { pair = refl; tables = only-read (noReply status.OutOfRange); unexecuted = unexecuted-by status.OutOfRange 0 noPsn 0 0; outgoing = refl; out = refl }
+  quiet-by status.ReadUnfinished unfinished = record { pair = refl; tables = only-read (noReply status.ReadUnfinished); unexecuted = unexecuted-by status.ReadUnfinished 0 noPsn 0 0; outgoing = refl; out = refl }
 
   fixed-with : (state : ℕ) (nakmark : Bool) (a : ReadAnswer) → Fixed q (with q state nakmark a)
   fixed-with state nakmark a = record { setup = refl; expected = refl; msn = refl; message = refl; entries = refl; saved = refl }
@@ -239,7 +243,7 @@ module _ (arrival : Arrival) where
       → (q .setup .service ≡ 1 → psnAfter (q .expected) n ≡ psnAfter (bthOf p .psn) 1)
       → targetOffset (packetIn p .kind) t entry region + payloadSize (packetIn p) ≤ q .setup .memory
       → StoresPacket arrival (L (answering a n outgoing (storePayload (packetIn p) t entry region)))
-  unfolding leftBy storePayload executedPair readAnswerBy savedRingBy savedBy actsAtomic memoryBy ringTaken slotAt packetOf headerOf
+  unfolding leftBy storePayload executedPair readAnswerBy savedRingBy savedBy actsAtomic memoryBy ringTaken entrySlot packetOf headerOf
   stores-packet-by a n outgoing t entry region few rc uc w =
       let k = packetIn p in
       let d = answering a n outgoing (storePayload k t entry region) in
@@ -495,6 +499,10 @@ module _ (arrival : Arrival) where
       err : (l .number ≡ 17) ⊎ (l .number ≡ 18) → ErrorAlone arrival l
       err (inl h) = is a l 17 (sym e ∙ h) x
       err (inr h) = is a l 18 (sym e ∙ h) x
+
+pub inbound-reads : InboundReads
+unfolding inbound
+inbound-reads a = only-read a (decision a)
 
 pub inbound-table : InboundTable
 unfolding inbound leftBy

@@ -24,18 +24,19 @@ use Rattle.request_spec.specs.declared.Packet.{Packet}
 use Rattle.responder_spec.specs.declared.Decision.{Decision}
 use Rattle.responder_spec.specs.Decide.{noReply, acknowledging, storePayload, runAtomic, readsFull, inboundRefusal, decision}
 use Rattle.responder_spec.specs.Reply.{over}
+use Rattle.responder_spec.specs.Calls.{drained}
 use Rattle.responder_spec.specs.Response.{nextStatus, nextResponse, nextOut}
 use Rattle.responder_spec.specs.Inbound.{leftBy, inbound}
 use Rattle.effect_laws.specs.Effects.{InboundShort, InboundRange, InboundUnfinished, InboundTaken}
 use Rattle.effect_laws.specs.Effects.{InboundAnswered, InboundMeant, NextRefused, NextNone, NextShort}
-use Rattle.effect_laws.specs.Effects.{NextRange, NextDone, NextAnswers}
+use Rattle.effect_laws.specs.Effects.{NextRange, NextDone, NextAnswers, NextReads}
 use Rattle.decision_laws.proofs.Rows.Late.{unread, outside}
 use Rattle.decision_laws.proofs.Rows.Row.{quiet, ahead, invalid, access, unready, ackDuplicate, readDuplicate, atomicDuplicate, stored, begin, swap}
 use Rattle.decision_laws.proofs.Rows.UcRow.{unheard, abandon, deliver}
 use Rattle.decision_laws.proofs.Rows.AnyRow.{reliable, unreliable}
 use Rattle.decision_laws.proofs.Rows.{UcRow, AnyRow, Late, Row, taken-row}
 use Rattle.decision_laws.proofs.Views.{viewed, viewed-sound}
-use Rattle.decision_laws.proofs.Codes.{never-34}
+use Rattle.decision_laws.proofs.Codes.{never-row}
 use Rattle.effect_laws.proofs.Effects.{silent}
 
 -- a refusal is the answer
@@ -134,17 +135,18 @@ unfolding inbound leftBy decision
 inbound-answered arrival h e S r E =
     any-late Unread (λ a. statusNumber a ≤ 19) unread-number (λ a z. z) (arrival .whole) (packetIn (arrival .packet)) (decision arrival)
     (taken-row Unread away arrival (record {
-      rc = λ region z. absurd (never-34 (arrival .whole .pair) (arrival .whole .entries) (packetIn (arrival .packet)) region S E z);
+      rc = λ region z. absurd (never-row (arrival .whole .pair) (arrival .whole .entries) (packetIn (arrival .packet)) region S E z);
       uc =
           λ region z. absurd
-          (never-34 (viewed (packetIn (arrival .packet) .place) (arrival .whole .pair)) (arrival .whole .entries) (packetIn (arrival .packet)) region (viewed-sound (packetIn (arrival .packet) .place) (arrival .whole .pair) S)
-          (record { rows16 = E .rows16; each = E .each }) z);
+          (never-row (viewed (packetIn (arrival .packet) .place) (arrival .whole .pair)) (arrival .whole .entries) (packetIn (arrival .packet)) region (viewed-sound (packetIn (arrival .packet) .place) (arrival .whole .pair) S)
+          (record { sized = E .sized; each = E .each }) z);
     })
     (goes (arrival .whole .pair) (arrival .memory) (arrival .out) h e S r))
 
 -- the other way round: what was not refused
 pub inbound-meant : InboundMeant
-inbound-meant arrival h = go (ltb (length (arrival .out)) 24) (eqb (length (arrival .memory)) (arrival .whole .pair .setup .memory)) (pairUnsound (arrival .whole .pair)) (eqb (arrival .whole .pair .read .remaining) 0) refl refl refl refl
+inbound-meant arrival h = go (ltb (length (arrival .out)) 24) (eqb (length (arrival .memory)) (arrival .whole .pair .setup .memory))
+    (pairUnsound (arrival .whole .pair)) (eqb (arrival .whole .pair .read .remaining) 0) refl refl refl refl
   where
     N : ℕ
     N = inbound arrival .number
@@ -152,7 +154,8 @@ inbound-meant arrival h = go (ltb (length (arrival .out)) 24) (eqb (length (arri
     no : {A : Type 0} (k : ℕ) → N ≡ k → 32 ≤ k → A
     no k e l = absurd (omega (arith, h))
 
-    go : (a b c d : Bool) → ltb (length (arrival .out)) 24 ≡ a → eqb (length (arrival .memory)) (arrival .whole .pair .setup .memory) ≡ b → pairUnsound (arrival .whole .pair) ≡ c → eqb (arrival .whole .pair .read .remaining) 0 ≡ d
+    go : (a b c d : Bool) → ltb (length (arrival .out)) 24 ≡ a → eqb (length (arrival .memory)) (arrival .whole .pair .setup .memory) ≡ b
+        → pairUnsound (arrival .whole .pair) ≡ c → eqb (arrival .whole .pair .read .remaining) 0 ≡ d
         → (24 ≤ length (arrival .out)) × (length (arrival .memory) ≡ arrival .whole .pair .setup .memory) × Sound (arrival .whole .pair) × (arrival .whole .pair .read .remaining ≡ 0)
     go true b c d w x y z = no 35 (inbound-short arrival (ltb-true (length (arrival .out)) 24 w)) (omega arith)
     go false false c d w x y z =
@@ -207,3 +210,7 @@ unfolding nextStatus
 next-answers q m out h k e S =
     next-done q m out
     (rw (ne-eqb (q .read .remaining) 0 h, le-ltb (length out) (16 + q .setup .pmtu) k, eq-eqb (length m) (q .setup .memory) e, sound q S))
+
+pub next-reads : NextReads
+unfolding drained
+next-reads w m out = (refl, refl, refl)

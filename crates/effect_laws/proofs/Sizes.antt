@@ -23,18 +23,15 @@ use Rattle.responder_spec.specs.Apply.{memoryBy}
 use Rattle.responder_spec.specs.Reply.{replyHeader, ackHeader, atomicHeader, answerBytes, valueBy, over, outBy}
 use Rattle.responder_spec.specs.Inbound.{inbound, leftBy}
 use Rattle.effect_laws.specs.Effects.{InboundLengths}
-use Rattle.decision_laws.proofs.Rows.{passed}
+use Rattle.decision_laws.proofs.Rows.{either, passed}
 
 memory-kept : (d : Decision) (m p : List ℕ) → length (memoryBy d m p) ≡ length m
 unfolding memoryBy
-memory-kept d m p = go (eqb (d .act) 1) (eqb (d .act) 2) (eqb (d .act) 3) (take (d .size) (drop (d .start) p))
-  where
-    go : (a b c : Bool) (x : List ℕ)
-        → length (cond a (store m (d .at) x) (cond b (fetchAdded m (d .at) (d .swap)) (cond c (swapped m (d .at) (d .compare) (d .swap)) m))) ≡ length m
-    go true b c x = length-store m (d .at) x
-    go false true c x = fetch-within m (d .at) (d .swap) .kept
-    go false false true x = swap-within m (d .at) (d .compare) (d .swap) .kept
-    go false false false x = refl
+memory-kept d m p =
+    let same : List ℕ → Type 0 = λ x. length x ≡ length m in
+    either same (eqb (d .act) 1) (length-store m (d .at) _)
+    (either same (eqb (d .act) 2) (fetch-within m (d .at) (d .swap) .kept)
+    (either same (eqb (d .act) 3) (swap-within m (d .at) (d .compare) (d .swap) .kept) refl))
 
 -- a packet within the output leaves its length
 pub over-kept : (packet out : List ℕ) → length packet ≤ length out → length (over packet out) ≡ length out
@@ -44,13 +41,9 @@ over-kept packet out h =
 
 answer-short : (s : Setup) (d : Decision) (msn : Msn) (value : ℕ) → length (answerBytes s d msn value) ≤ 24
 unfolding answerBytes ackHeader atomicHeader replyHeader headerBytes bthBytes extensionBytes aethBytes
-answer-short s d msn value = go (eqb (d .outgoing) 16) (eqb (d .outgoing) 24)
-  where
-    go : (a b : Bool)
-        → length (cond a (headerBytes (ackHeader s (d .psn) (d .syndrome) msn)) (cond b (headerBytes (atomicHeader s (d .psn) (d .syndrome) msn value)) [])) ≤ 24
-    go true b = omega arith
-    go false true = omega arith
-    go false false = omega arith
+answer-short s d msn value =
+    let most : List ℕ → Type 0 = λ x. length x ≤ 24 in
+    either most (eqb (d .outgoing) 16) (omega arith) (either most (eqb (d .outgoing) 24) (omega arith) (omega arith))
 
 nothing : (a : Arrival) (msn : Msn) (value : ℕ) → executed (refusalOf a) ≡ false → length (answerBytes (a .whole .pair .setup) (decision a) msn value) ≡ 0
 unfolding decision answerBytes noReply

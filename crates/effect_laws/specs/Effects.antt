@@ -25,6 +25,8 @@ use Rattle.pair.specs.declared.ReadAnswer.{ReadAnswer}
 use Rattle.responder_spec.specs.declared.Completion.{Completion}
 use Rattle.responder_spec.specs.Arrival.{Arrival, Left}
 use Rattle.responder_spec.specs.Inbound.{inbound}
+use Rattle.responder_spec.specs.Calls.{drained}
+use Rattle.pair.specs.Calls.{Whole}
 use Rattle.responder_spec.specs.Response.{nextResponse, nextBytes, nextOut}
 
 -- Nothing completes: field by field, and not by the definition under test.
@@ -41,9 +43,18 @@ pub record Unexecuted (a : Arrival) (l : Left) : Type 0 where
   pub saved : l .whole .saved ≡ a .whole .saved
   pub completion : Silent (l .completion)
 
+-- Regions and entries are only read, whatever the answer.
+pub record OnlyRead (a : Arrival) (l : Left) : Type 0 where
+  pub regions : l .whole .regions ≡ a .whole .regions
+  pub entries : l .whole .entries ≡ a .whole .entries
+
+abbrev pub InboundReads : Type 0
+InboundReads = (a : Arrival) → OnlyRead a (inbound a)
+
 -- Nothing at all is changed.
 pub record Unchanged (a : Arrival) (l : Left) : Type 0 where
   pub pair : l .whole .pair ≡ a .whole .pair
+  pub tables : OnlyRead a l
   pub unexecuted : Unexecuted a l
   pub outgoing : l .outgoing ≡ 0
   pub out : l .out ≡ a .out
@@ -132,9 +143,12 @@ pub record StoresPacket (a : Arrival) (l : Left) : Type 0 where
   pub expected : (a .whole .pair .setup .service ≡ 1 → ⊥) → l .whole .pair .expected ≡ psnAfter (a .whole .pair .expected) 1
   pub taken : a .whole .pair .setup .service ≡ 1 → l .whole .pair .expected ≡ psnAfter (bthOf (a .packet) .psn) 1
   pub memory : (at : ℕ) × (at + length (payloadOf (a .packet)) ≤ a .whole .pair .setup .memory) × (l .memory ≡ store (a .memory) at (payloadOf (a .packet)))
-  pub ends : 2 ≤ classOf (bthOf (a .packet) .opcode) .place → (l .whole .pair .msn ≡ msnNext (a .whole .pair .msn)) × (l .whole .pair .message ≡ (record { kind = 255; stored = 0; address = 0; key = 0; length = 0 }))
+  pub ends : 2 ≤ classOf (bthOf (a .packet) .opcode) .place
+      → (l .whole .pair .msn ≡ msnNext (a .whole .pair .msn))
+      × (l .whole .pair .message ≡ (record { kind = 255; stored = 0; address = 0; key = 0; length = 0 }))
   pub onward : classOf (bthOf (a .packet) .opcode) .place < 2 → (l .whole .pair .msn ≡ a .whole .pair .msn) × Silent (l .completion)
-  pub completes : l .completion .some ≡ true → l .whole .pair .entries ≡ (record { head = (a .whole .pair .entries .head + 1) % 16; count = a .whole .pair .entries .count - 1 })
+  pub completes : l .completion .some ≡ true
+      → l .whole .pair .entries ≡ (record { head = (a .whole .pair .entries .head + 1) % 16; count = a .whole .pair .entries .count - 1 })
   pub silent : l .completion .some ≡ false → l .whole .pair .entries ≡ a .whole .pair .entries
   pub read : l .whole .pair .read ≡ a .whole .pair .read
   pub ring : l .whole .pair .saved ≡ a .whole .pair .saved
@@ -291,6 +305,12 @@ pub record NextDone (q : Pair) (bytes output : List ℕ) : Type 0 where
   pub completion : Silent (nextResponse q bytes output .completion)
   pub outgoing : nextResponse q bytes output .outgoing ≡ length (nextBytes q bytes output)
   pub out : nextOut q bytes output ≡ nextBytes q bytes output ++ drop (length (nextBytes q bytes output)) output
+
+-- The tables stay: next response is lent none.
+abbrev pub NextReads : Type 0
+NextReads =
+    (w : Whole) (m out : List ℕ)
+    → (drained w m out .regions ≡ w .regions) × (drained w m out .entries ≡ w .entries) × (drained w m out .saved ≡ w .saved)
 
 abbrev pub NextAnswers : Type 0
 NextAnswers =

@@ -7,16 +7,17 @@ use native.Mathlib.Omega.{arith}
 use lib.Dec.{eqb, leb}
 use lib.ListN.{length, getD, set, length-set}
 use borrow.Author.Tests.{leb-false}
+use Rattle.responder_spec.specs.Arrival.{arrivingAt}
 use Rattle.responder_spec.specs.Inbound.{inbound, leftBy}
-use Rattle.table.specs.Table.{outside, slotAt, entryRow}
+use Rattle.table.specs.Table.{entryCapacity, entrySlot, outside, entryRow}
 use Rattle.table.specs.View.{ringFrom, inRing, oneMore}
 use Rattle.table.specs.declared.Ring.{Ring}
 use Rattle.table.specs.declared.Entry.{Entry}
-use Rattle.table.proofs.Rings.{appends, takes}
+use Rattle.table.proofs.Rings.{entry-slots, entry-ring}
 use Rattle.pair.specs.Answer.{statusNumber, executed}
 use Rattle.pair.specs.Pair.{freshPair, blankPair, moved}
 use Rattle.pair.specs.Sound.{pairUnsound}
-use Rattle.pair.specs.Host.{setUpStatus, setUp, resetStatus, resetTo, readyStatus, madeReady, entryLimit, entryCount, postStatus, posted, postEntries}
+use Rattle.pair.specs.Host.{setUpStatus, setUp, resetStatus, resetTo, readyStatus, madeReady, entryCount, postStatus, posted, postEntries}
 use Rattle.pair.specs.Calls.{HostCall, begun, called}
 use Rattle.pair.specs.Calls.HostCall.{SetUp, Reset, MakeReady, AddRegion, RemoveRegion, PostEntry}
 use Rattle.pair.specs.declared.Setup.{Setup}
@@ -28,50 +29,49 @@ use Rattle.responder_spec.specs.Calls.{drained, reports}
 use Rattle.answer_laws.specs.Entries.{Uses}
 use Rattle.responder_spec.specs.declared.Completion.{Completion}
 use Rattle.answer_laws.proofs.Uses.{inbound-uses, next-uses}
-use Rattle.entry_order.specs.Order.{arrival, AnyCall, History, newHistory, goes, hosted, historyAfter, ran, PostingOrder, EntriesInOrder, SinceSetUp, SinceReset}
+use Rattle.entry_order.specs.Order.{AnyCall, History, newHistory, goes, hosted, historyAfter, ran, PostingOrder, EntriesInOrder, SinceSetUp, SinceReset}
 use Rattle.entry_order.specs.Order.AnyCall.{Host, Inbound, Next}
 
--- what is kept: the entries held and waiting are the rows of the ring, and the table has 16 rows
+-- what is kept: the entries held and waiting are the rows of the ring, and the table has all its rows
 record Kept (posted : List (List ℕ)) (reported : List Completion) (rows : List (List ℕ)) (r : Ring) : Type 0 where
-  rows16 : length rows ≡ 16
+  sized : length rows ≡ entryCapacity
   completed : List (List ℕ)
   names : map (λ c. c .number) reported ≡ map (λ row. getD row 0 0) completed
-  order : posted ≡ completed ++ inRing rows r
+  order : posted ≡ completed ++ inRing entrySlot rows r
 
 abbrev Keeps : History → Type 0
 Keeps x = Kept (x .posted) (x .completions) (x .whole .entries) (x .whole .pair .entries)
 
 -- an empty ring
-empty : (rows : List (List ℕ)) (r : Ring) → length rows ≡ 16 → r .count ≡ 0 → Kept [] [] rows r
+empty : (rows : List (List ℕ)) (r : Ring) → length rows ≡ entryCapacity → r .count ≡ 0 → Kept [] [] rows r
 unfolding ringFrom
-empty rows r l z = record { rows16 = l; completed = []; names = refl; order = ap (ringFrom rows (r .head) 0) (sym z) }
+empty rows r l z = record { sized = l; completed = []; names = refl; order = ap (ringFrom entrySlot rows (r .head) 0) (sym z) }
 
 -- the first row of a ring, and the rest
-first : (rows : List (List ℕ)) (head n : ℕ) → head < 16 → 1 ≤ n
-    → ringFrom rows head 0 n ≡ getD rows head [] ∷ inRing rows (record { head = (head + 1) % 16; count = n - 1 })
-unfolding ringFrom slotAt
+first : (rows : List (List ℕ)) (head n : ℕ) → head < entryCapacity → 1 ≤ n
+    → ringFrom entrySlot rows head 0 n ≡ getD rows head [] ∷ inRing entrySlot rows (record { head = (head + 1) % entryCapacity; count = n - 1 })
+unfolding ringFrom entrySlot
 first rows head zero h s = absurd (omega arith)
 first rows head (suc n) h s =
-    let e : (head + 0) % 16 ≡ head = omega arith in
     let m : n ≡ suc n - 1 = omega arith in
     λ i.
-    getD rows (e i) []
-    ∷ (sym (takes rows head n) ∙ ap (λ k. inRing rows (record { head = (head + 1) % 16; count = k })) m) i
+    getD rows (entry-slots .start head h i) []
+    ∷ (sym (entry-ring .takes rows head n) ∙ ap (λ k. inRing entrySlot rows (record { head = (head + 1) % entryCapacity; count = k })) m) i
 
--- a post that is accepted finds fewer than 16
-room : (q : Pair) (e : Entry) → executed (postStatus q e) ≡ true → q .entries .count < 16
+-- a post that is accepted finds a row free
+room : (q : Pair) (e : Entry) → executed (postStatus q e) ≡ true → q .entries .count < entryCapacity
 unfolding postStatus executed statusNumber
 room q e =
-    go (eqb (q .state) 2) (pairUnsound q) (outside (e .offset) (e .length) (q .setup .memory)) (leb entryLimit (entryCount q)) refl
+    go (eqb (q .state) 2) (pairUnsound q) (outside (e .offset) (e .length) (q .setup .memory)) (leb entryCapacity (entryCount q)) refl
   where
-    go : (a b c d : Bool) → leb entryLimit (entryCount q) ≡ d
+    go : (a b c d : Bool) → leb entryCapacity (entryCount q) ≡ d
         → executed (cond a WrongState (cond b OutOfRange (cond c OutOfRange (cond d TableFull Executed)))) ≡ true
-        → q .entries .count < 16
+        → q .entries .count < entryCapacity
     go true b c d z h = absurd (true≢false (sym h))
     go false true c d z h = absurd (true≢false (sym h))
     go false false true d z h = absurd (true≢false (sym h))
     go false false false true z h = absurd (true≢false (sym h))
-    go false false false false z h = leb-false entryLimit (entryCount q) z
+    go false false false false z h = leb-false entryCapacity (entryCount q) z
 
 -- neither a fresh pair nor the blank one has entries
 none : (s : Setup) → setUp s .pair .entries .count ≡ 0
@@ -93,25 +93,25 @@ module _ (x : History) (k : Keeps x) where
   same : (reported : List Completion) (new : Ring) → reported ≡ x .completions → new ≡ q .entries → Kept (x .posted) reported rows new
   same reported new n e =
       record {
-        rows16 = k .rows16;
+        sized = k .sized;
         completed = k .completed;
         names = ap (map (λ c. c .number)) n ∙ k .names;
-        order = k .order ∙ ap (λ r. k .completed ++ inRing rows r) (sym e);
+        order = k .order ∙ ap (λ r. k .completed ++ inRing entrySlot rows r) (sym e);
       }
 
   -- an entry posted is the last that waits
-  more : (row : List ℕ) → q .entries .count < 16
-      → Kept (x .posted ++ (row ∷ [])) (x .completions) (set rows (slotAt (q .entries .head) (q .entries .count)) row)
+  more : (row : List ℕ) → q .entries .count < entryCapacity
+      → Kept (x .posted ++ (row ∷ [])) (x .completions) (set rows (entrySlot (q .entries .head) (q .entries .count)) row)
       (oneMore (q .entries))
   more row h =
       record {
-        rows16 = length-set rows (slotAt (q .entries .head) (q .entries .count)) row ∙ k .rows16;
+        sized = length-set rows (entrySlot (q .entries .head) (q .entries .count)) row ∙ k .sized;
         completed = k .completed;
         names = k .names;
         order =
             ap (λ l. l ++ (row ∷ [])) (k .order)
-            ∙ (append-assoc (k .completed) (inRing rows (q .entries)) (row ∷ [])
-            ∙ ap (λ l. k .completed ++ l) (sym (appends rows (q .entries) row (k .rows16) h)));
+            ∙ (append-assoc (k .completed) (inRing entrySlot rows (q .entries)) (row ∷ [])
+            ∙ ap (λ l. k .completed ++ l) (sym (entry-ring .appends rows (q .entries) row (k .sized) h)));
       }
 
   -- an entry completed is the first that was held or waited
@@ -120,7 +120,7 @@ module _ (x : History) (k : Keeps x) where
   fewer c new U s =
       let row = getD rows (q .entries .head) [] in
       record {
-        rows16 = k .rows16;
+        sized = k .sized;
         completed = k .completed ++ (row ∷ []);
         names =
             map-append (λ c. c .number) (x .completions) (c ∷ [])
@@ -129,8 +129,8 @@ module _ (x : History) (k : Keeps x) where
             k .order
             ∙ (ap (λ l. k .completed ++ l)
             (first rows (q .entries .head) (q .entries .count) (U .there s .0) (U .there s .1)
-            ∙ ap (λ r. row ∷ inRing rows r) (sym (U .moves s)))
-            ∙ sym (append-assoc (k .completed) (row ∷ []) (inRing rows new)));
+            ∙ ap (λ r. row ∷ inRing entrySlot rows r) (sym (U .moves s)))
+            ∙ sym (append-assoc (k .completed) (row ∷ []) (inRing entrySlot rows new)));
       }
 
   -- what a call of the responder reports
@@ -148,7 +148,7 @@ module _ (x : History) (k : Keeps x) where
     where
       go : (b : Bool) → executed (resetStatus q) ≡ b
           → Keeps (cond b (newHistory (called (x .whole) Reset)) (goes x (called (x .whole) Reset)))
-      go true e = empty rows _ (k .rows16) (ap (λ b. cond b (freshPair (q .setup)) q .entries .count) e)
+      go true e = empty rows _ (k .sized) (ap (λ b. cond b (freshPair (q .setup)) q .entries .count) e)
       go false e = same _ _ refl (ap (λ b. cond b (freshPair (q .setup)) q .entries) e)
 
   ready-keeps : Keeps (hosted x MakeReady)
@@ -163,16 +163,16 @@ module _ (x : History) (k : Keeps x) where
   unfolding hosted called posted postEntries
   post-keeps e = go (executed (postStatus q e)) (room q e)
     where
-      go : (b : Bool) → (b ≡ true → q .entries .count < 16)
+      go : (b : Bool) → (b ≡ true → q .entries .count < entryCapacity)
           → Kept (cond b (x .posted ++ (entryRow e ∷ [])) (x .posted)) (x .completions)
-          (cond b (set rows (slotAt (q .entries .head) (q .entries .count)) (entryRow e)) rows)
+          (cond b (set rows (entrySlot (q .entries .head) (q .entries .count)) (entryRow e)) rows)
           (cond b (moved q (q .state) (oneMore (q .entries))) q .entries)
       go true h = more (entryRow e) (h refl)
       go false h = k
 
   hosted-keeps : (c : HostCall) → Keeps (hosted x c)
   unfolding hosted called begun
-  hosted-keeps (SetUp s) = empty rows _ (k .rows16) (none s)
+  hosted-keeps (SetUp s) = empty rows _ (k .sized) (none s)
   hosted-keeps Reset = reset-keeps
   hosted-keeps MakeReady = ready-keeps
   hosted-keeps (AddRegion r) = k
@@ -182,7 +182,7 @@ module _ (x : History) (k : Keeps x) where
   step-keeps : (c : AnyCall) → Keeps (historyAfter x c)
   unfolding historyAfter inbound leftBy drained
   step-keeps (Host c) = hosted-keeps c
-  step-keeps (Inbound m p out) = reported _ _ (inbound-uses (arrival x m p out))
+  step-keeps (Inbound m p out) = reported _ _ (inbound-uses (arrivingAt (x .whole) m p out))
   step-keeps (Next m out) = reported _ _ (next-uses q rows m out)
 
 all : (calls : List AnyCall) (x : History) → Keeps x → Keeps (ran x calls)

@@ -5,7 +5,7 @@ use mathlib.Core.Path.{_≡_}
 use mathlib.Core.Bool.{cond}
 use mathlib.Core.List.{List, [], _∷_, _++_, map}
 use lib.ListN.{getD, length}
-use Rattle.responder_spec.specs.Arrival.{Arrival}
+use Rattle.responder_spec.specs.Arrival.{arrivingAt}
 use Rattle.table.specs.Table.{entryRow}
 use Rattle.pair.specs.Answer.{executed}
 use Rattle.pair.specs.Host.{resetStatus, postStatus}
@@ -60,15 +60,11 @@ hosted x (PostEntry e) =
 abbrev pub tells : History → Whole → Completion → History
 tells x w c = record { whole = w; posted = x .posted; completions = x .completions ++ reports c }
 
--- What a packet p arrives at.
-abbrev pub arrival : History → List ℕ → List ℕ → List ℕ → Arrival
-arrival x m p out = record { whole = x .whole; memory = m; packet = p; out = out }
-
 -- One call;
 unfoldable pub historyAfter : History → AnyCall → History
 historyAfter x (Host c) = hosted x c
 historyAfter x (Inbound m p out) =
-    tells x (inbound (arrival x m p out) .whole) (inbound (arrival x m p out) .completion)
+    tells x (inbound (arrivingAt (x .whole) m p out) .whole) (inbound (arrivingAt (x .whole) m p out) .completion)
 historyAfter x (Next m out) = tells x (drained (x .whole) m out) (nextResponse (x .whole .pair) m out .completion)
 
 -- and a list of them, one after the other.

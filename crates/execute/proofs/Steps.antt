@@ -4,7 +4,7 @@ use mathlib.Core.Path.{_≡_, refl, sym, ap, _∙_}
 use mathlib.Core.Bool.{Bool, true, false, cond, true≢false}
 use mathlib.Core.List.{List}
 use lib.Dec.{eqb}
-use borrow.Author.Tests.{eqb-true}
+use borrow.Author.Tests.{eqb-true, ne-eqb}
 use Rattle.sequence.specs.Sequence.{distance}
 use Rattle.sequence.specs.declared.Psn.{Psn}
 use Rattle.pair.specs.Answer.{statusNumber}
@@ -12,15 +12,39 @@ use Rattle.pair.specs.declared.OpenMessage.{OpenMessage}
 use Rattle.pair.specs.declared.Setup.{Setup}
 use Rattle.pair.specs.declared.Status.{Status}
 use Rattle.pair.specs.declared.Status.the-variants as status
-use Rattle.request_spec.specs.Verdict.{carrying, current, requestCode, expectedCode, expectedCodeOf}
+use Rattle.request_spec.specs.Verdict.{carrying, current, requestCheck, expectedCheck, expectedCheckOf, checkAnswer}
 use Rattle.request_spec.specs.declared.Packet.{Packet}
-use Rattle.responder_spec.specs.Decide.{noReply, failed, storePayload, answered, execute, checkedDecision}
+use Rattle.responder_spec.specs.Decide.{noReply, acknowledging, failed, storePayload, answered, execute, checkedDecision}
 use Rattle.responder_spec.specs.Decide.{expectedDecision, orphaned, strays, closedBy, abandoning, ucExecute}
 use Rattle.responder_spec.specs.Decide.{ucCheckedDecision, ucDecision}
 use Rattle.responder_spec.specs.declared.Decision.{Decision}
 use Rattle.decision_laws.proofs.Codes.{Passed, passes}
 use Rattle.decision_laws.proofs.Views.{current-closed, same-code}
 use Rattle.execute.specs.Either.{either}
+
+-- what a check that failed is answered with
+pub failed-by : (check : ℕ) (psn : Psn) (timer : ℕ) → (check ≡ 0 → ⊥)
+    → failed check psn timer
+    ≡ cond (eqb check 5) (acknowledging status.NotReadyNak psn (32 + timer))
+    (cond (eqb check 6) (acknowledging status.AccessNak psn 98)
+    (cond (eqb check 8) (noReply status.OutOfRange) (acknowledging status.InvalidRequestNak psn 97)))
+unfolding failed checkAnswer
+failed-by check psn timer n = rw (ne-eqb check 0 n) (go (eqb check 5) (eqb check 6) (eqb check 8))
+  where
+    answer : Bool → Bool → Bool → ℕ
+    answer a b c = cond a 19 (cond b 18 (cond c 34 17))
+
+    go : (a b c : Bool)
+        → cond (eqb (answer a b c) 17) (acknowledging status.InvalidRequestNak psn 97)
+        (cond (eqb (answer a b c) 18) (acknowledging status.AccessNak psn 98)
+        (cond (eqb (answer a b c) 19) (acknowledging status.NotReadyNak psn (32 + timer)) (noReply status.OutOfRange)))
+        ≡ cond a (acknowledging status.NotReadyNak psn (32 + timer))
+        (cond b (acknowledging status.AccessNak psn 98)
+        (cond c (noReply status.OutOfRange) (acknowledging status.InvalidRequestNak psn 97)))
+    go true b c = refl
+    go false true c = refl
+    go false false true = refl
+    go false false false = refl
 
 -- a SEND or WRITE that is stored, on either service
 pub stored : (uc asked : Bool) (psns : ℕ) (p : Packet) (expected : Psn) (m opened : OpenMessage) (entry region : List ℕ) (pmtu : ℕ)
@@ -57,7 +81,7 @@ module _ (p : Packet) (s : Setup) (expected : Psn) (opened : OpenMessage) (count
     where
       go : (x y : Bool) → a ≡ cond x status.Dropped (cond y status.Abandoned status.Executed)
           → noReply a
-          ≡ cond x (noReply status.Dropped) (cond y (noReply status.Abandoned) (ucCheckedDecision (requestCode s (closedBy (p .place) opened) p count entry region) p expected opened entry region))
+          ≡ cond x (noReply status.Dropped) (cond y (noReply status.Abandoned) (ucCheckedDecision (requestCheck s (closedBy (p .place) opened) p count entry region) p expected opened entry region))
       go true y i = ap noReply i
       go false true i = ap noReply i
       go false false i = absurd (true≢false (ap (λ t. eqb (statusNumber t) 0) (sym i) ∙ z))
@@ -87,16 +111,16 @@ module _ (p : Packet) (s : Setup) (expected : Psn) (opened : OpenMessage) (count
   kind-at-check false = refl
 
   module _ (uc : Bool) (a : Status) (f : a ≡ lostTo uc) (z : eqb (statusNumber a) 0 ≡ true) (m : OpenMessage) (e : m ≡ current opened p) (k : ℕ)
-      (g : k ≡ cond uc (closedBy (p .place) opened .kind) (opened .kind)) (b : Status) (c : statusNumber b ≡ expectedCodeOf s k m p count entry region) where
-    code : statusNumber b ≡ expectedCode s (openAtCheck uc) p count entry region
-    unfolding expectedCode requestCode
+      (g : k ≡ cond uc (closedBy (p .place) opened .kind) (opened .kind)) (b : ℕ) (c : b ≡ expectedCheckOf s k m p count entry region) where
+    code : b ≡ expectedCheck s (openAtCheck uc) p count entry region
+    unfolding expectedCheck requestCheck
     code =
         c
-        ∙ (ap (λ x. expectedCodeOf s x m p count entry region) (g ∙ kind-at-check uc)
-        ∙ ap (λ x. expectedCodeOf s (openAtCheck uc .kind) x p count entry region) (e ∙ sym (current-at-check uc)))
+        ∙ (ap (λ x. expectedCheckOf s x m p count entry region) (g ∙ kind-at-check uc)
+        ∙ ap (λ x. expectedCheckOf s (openAtCheck uc .kind) x p count entry region) (e ∙ sym (current-at-check uc)))
 
-    pub passed : eqb (statusNumber b) 0 ≡ true → Passed s (openAtCheck uc) p entry region
-    passed y = passes s (openAtCheck uc) p count entry region (sym code ∙ eqb-true (statusNumber b) 0 y)
+    pub passed : eqb b 0 ≡ true → Passed s (openAtCheck uc) p entry region
+    passed y = passes s (openAtCheck uc) p count entry region (sym code ∙ eqb-true b 0 y)
 
   -- by what the checks answered
   abbrev checkedBy : Bool → ℕ → Bool → Decision
@@ -104,9 +128,9 @@ module _ (p : Packet) (s : Setup) (expected : Psn) (opened : OpenMessage) (count
       cond uc (cond t (ucExecute p expected (current opened p) entry region) (abandoning n (opened .kind)))
       (cond t (execute p (current opened p) opened entry region (s .pmtu)) (failed n (p .psn) (s .timer)))
 
-  checks-settled : (uc : Bool) (a : Status) → a ≡ lostTo uc → eqb (statusNumber a) 0 ≡ true → (b : Status)
-      → statusNumber b ≡ expectedCode s (openAtCheck uc) p count entry region
-      → checkedBy uc (statusNumber b) (eqb (statusNumber b) 0) ≡ either uc p s expected opened count entry region
+  checks-settled : (uc : Bool) (a : Status) → a ≡ lostTo uc → eqb (statusNumber a) 0 ≡ true → (b : ℕ)
+      → b ≡ expectedCheck s (openAtCheck uc) p count entry region
+      → checkedBy uc b (eqb b 0) ≡ either uc p s expected opened count entry region
   unfolding either ucDecision ucCheckedDecision expectedDecision checkedDecision
   checks-settled true a f z b c =
       let F = founds a f z in
@@ -115,14 +139,14 @@ module _ (p : Packet) (s : Setup) (expected : Psn) (opened : OpenMessage) (count
   checks-settled false a f z b c = ap (λ n. checkedBy false n (eqb n 0)) c
 
   module _ (uc : Bool) (a : Status) (f : a ≡ lostTo uc) (z : eqb (statusNumber a) 0 ≡ true) (m : OpenMessage) (e : m ≡ current opened p) (k : ℕ)
-      (g : k ≡ cond uc (closedBy (p .place) opened .kind) (opened .kind)) (b : Status) (c : statusNumber b ≡ expectedCodeOf s k m p count entry region) where
-    is : (t : Bool) → eqb (statusNumber b) 0 ≡ t → checkedBy uc (statusNumber b) t ≡ either uc p s expected opened count entry region
-    is t y = ap (checkedBy uc (statusNumber b)) (sym y) ∙ checks-settled uc a f z b (code uc a f z m e k g b c)
+      (g : k ≡ cond uc (closedBy (p .place) opened .kind) (opened .kind)) (b : ℕ) (c : b ≡ expectedCheckOf s k m p count entry region) where
+    is : (t : Bool) → eqb b 0 ≡ t → checkedBy uc b t ≡ either uc p s expected opened count entry region
+    is t y = ap (checkedBy uc b) (sym y) ∙ checks-settled uc a f z b (code uc a f z m e k g b c)
 
-    pub refuses : eqb (statusNumber b) 0 ≡ false
-        → cond uc (abandoning (statusNumber b) (opened .kind)) (failed (statusNumber b) (p .psn) (s .timer)) ≡ either uc p s expected opened count entry region
+    pub refuses : eqb b 0 ≡ false
+        → cond uc (abandoning b (opened .kind)) (failed b (p .psn) (s .timer)) ≡ either uc p s expected opened count entry region
     refuses y = is false y
 
-    pub executes : eqb (statusNumber b) 0 ≡ true
+    pub executes : eqb b 0 ≡ true
         → cond uc (ucExecute p expected m entry region) (execute p m opened entry region (s .pmtu)) ≡ either uc p s expected opened count entry region
     executes y = ap (λ x. cond uc (ucExecute p expected x entry region) (execute p x opened entry region (s .pmtu))) e ∙ is true y

@@ -1,5 +1,5 @@
 // What a request leads to that is not a duplicate: it is executed, or a check refuses it. A decision, which changes
-// nothing yet, by the rules of either service. The definitions and their laws stand in the crate responder_spec.
+// nothing yet, by the rules of either service. The definitions stand in the crate responder_spec.
 mod message;
 mod single;
 mod uc;
@@ -8,48 +8,48 @@ use pair::OpenMessage;
 use pair::Pair;
 use pair::Status;
 use request_spec::Packet;
+use request_spec::check;
 use responder_spec::Decision;
 use sequence::Psn;
 ghost use mathlib.Core.Path.{_≡_};
 ghost use mathlib.Core.Bool.{false, cond};
 ghost use Prim.Native.Nat.{_+_, _≤_};
 ghost use Rattle.sequence.specs.Sequence.{distance};
-ghost use Rattle.pair.specs.Answer.{statusNumber};
 ghost use Rattle.pair.specs.Sound.{timerLimit};
+ghost use Rattle.request_spec.specs.RequestCheck as RequestCheck;
 ghost use Rattle.request_spec.specs.Verdict.{current};
 ghost use Rattle.responder_spec.specs.Decide.{noReply, failed, execute, orphaned, strays, closedBy, abandoning, ucExecute, regionFor, headEntry};
 ghost use Rattle.execute.specs.Fits.{Executable, unformed};
 ghost use Rattle.execute.specs.Either.{either};
 
-// Refused by a check: a NAK, or the caller's mistake.
-fn failed(status: Status, psn: Psn, timer: u8) -> Decision
+// Refused by a check, with its answer: a NAK, or the caller's mistake.
+fn failed(check: u8, psn: Psn, timer: u8) -> Decision
+    requires { ⌜ (check ≡ RequestCheck.none → ⊥) ⌝ }
     requires { ⌜ timer ≤ timerLimit ⌝ }
-    ensures { λ r. ⌜ r ≡ failed (statusNumber status) psn timer ⌝ }
+    ensures { λ r. ⌜ r ≡ failed check psn timer ⌝ }
 {
-    let invalid = status.is(Status::InvalidRequestNak);
-    if invalid {
-        return reply::acknowledging(Status::InvalidRequestNak, psn, reply::INVALID_REQUEST);
-    }
-    let access = status.is(Status::AccessNak);
-    if access {
-        return reply::acknowledging(Status::AccessNak, psn, reply::ACCESS);
-    }
-    let unready = status.is(Status::NotReadyNak);
-    if unready {
+    if check == check::ENTRY {
         return reply::acknowledging(Status::NotReadyNak, psn, reply::NOT_READY + timer);
     }
-    reply::no_reply(Status::OutOfRange)
+    if check == check::KEY {
+        return reply::acknowledging(Status::AccessNak, psn, reply::ACCESS);
+    }
+    if check == check::ENTRY_OUTSIDE {
+        return reply::no_reply(Status::OutOfRange);
+    }
+    reply::acknowledging(Status::InvalidRequestNak, psn, reply::INVALID_REQUEST)
 }
 
 // Refused by a check: a NAK on RC, the message abandoned on UC.
-fn refused(uc: bool, status: Status, opened: u8, psn: Psn, timer: u8) -> Decision
+fn refused(uc: bool, check: u8, opened: u8, psn: Psn, timer: u8) -> Decision
+    requires { ⌜ (check ≡ RequestCheck.none → ⊥) ⌝ }
     requires { ⌜ timer ≤ timerLimit ⌝ }
-    ensures { λ r. ⌜ r ≡ cond uc (abandoning (statusNumber status) opened) (failed (statusNumber status) psn timer) ⌝ }
+    ensures { λ r. ⌜ r ≡ cond uc (abandoning check opened) (failed check psn timer) ⌝ }
 {
     if uc {
-        return uc::abandoning(status, opened);
+        return uc::abandoning(check, opened);
     }
-    failed(status, psn, timer)
+    failed(check, psn, timer)
 }
 
 // Whether an executed packet is acknowledged: on UC none is.
@@ -103,7 +103,7 @@ fn execute(
 }
 
 // The row of the key's region; a SEND has no key.
-fn key_region(regions: &[[u64; 7]; 16], kind: u8, key: u32) -> [u64; 7]
+fn key_region(regions: &[[u64; 7]; table::REGIONS], kind: u8, key: u32) -> [u64; 7]
     ensures { λ r. ⌜ r ≡ regionFor kind key (now (regions .entry)) ⌝ }
 {
     if kind == opcode::SEND {
@@ -150,8 +150,8 @@ fn open_kind(uc: bool, place: u8, opened: OpenMessage) -> u8
 pub fn decision(
     uc: bool,
     pair: Pair,
-    regions: &[[u64; 7]; 16],
-    entries: &[[u64; 3]; 16],
+    regions: &[[u64; 7]; table::REGIONS],
+    entries: &[[u64; 3]; table::ENTRIES],
     p: Packet,
 ) -> Decision
     ensures { λ r. ⌜ r ≡ cond (unformed p (pair .setup .timer)) (noReply Status.OutOfRange) (either uc p (pair .setup) (pair .expected) (pair .message) (pair .entries .count) (headEntry pair (now (entries .entry))) (regionFor (p .kind) (current (pair .message) p .key) (now (regions .entry)))) ⌝ }
@@ -170,12 +170,11 @@ pub fn decision(
         let region = key_region(regions, p.kind, m.key);
         let kind = open_kind(uc, p.place, opened);
         let count = pair.entries.count;
-        let status = request_checks::expected_status(setup, kind, m, p, count, entry, region);
-        let passed = status.is(Status::Executed);
-        if passed {
+        let check = request_checks::expected_check(setup, kind, m, p, count, entry, region);
+        if check == check::NONE {
             return execute(uc, p, pair.expected, m, opened, entry, region, setup.pmtu);
         }
-        return refused(uc, status, opened.kind, p.psn, setup.timer);
+        return refused(uc, check, opened.kind, p.psn, setup.timer);
     }
     reply::no_reply(early)
 }

@@ -2,11 +2,11 @@
 use pair::OpenMessage;
 use pair::Status;
 use request_spec::Packet;
+use request_spec::check;
 use responder_spec::Decision;
 use sequence::Psn;
 ghost use mathlib.Core.Path.{_≡_};
 ghost use mathlib.Core.Bool.{cond};
-ghost use Rattle.pair.specs.Answer.{statusNumber};
 ghost use Rattle.responder_spec.specs.Decide.{orphaned, strays, closedBy, abandoning};
 
 // Whether a Middle or Last comes while no message is open.
@@ -62,12 +62,11 @@ pub(crate) fn closed_by(place: u8, opened: OpenMessage) -> OpenMessage
     opened
 }
 
-// A check failed with this answer while this kind of message was open.
-pub(crate) fn abandoning(status: Status, opened: u8) -> Decision
-    ensures { λ r. ⌜ r ≡ abandoning (statusNumber status) opened ⌝ }
+// This check failed while this kind of message was open.
+pub(crate) fn abandoning(check: u8, opened: u8) -> Decision
+    ensures { λ r. ⌜ r ≡ abandoning check opened ⌝ }
 {
-    let range = status.is(Status::OutOfRange);
-    if range {
+    if check == check::ENTRY_OUTSIDE {
         return reply::no_reply(Status::OutOfRange);
     }
     if opened == pair::CLOSED {

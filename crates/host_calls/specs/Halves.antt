@@ -2,13 +2,14 @@
 use mathlib.Core.Bool.{Bool, _||_}
 use Rattle.pair.specs.Sound.{setupUnsound, countersUnsound, ringUnsound, messageUnsound, readUnsound}
 use Rattle.pair.specs.declared.Pair.{Pair}
+use Rattle.table.specs.Table.{entryCapacity, savedCapacity}
 
 -- a number that a pair always has: of its set-up, state, counters and rings
 unfoldable pub numbersUnsound : Pair → Bool
 numbersUnsound q =
     setupUnsound (q .setup)
     || (countersUnsound (q .state) (q .expected .0) (q .msn .0)
-    || (ringUnsound (q .entries .head) (q .entries .count) || ringUnsound (q .saved .head) (q .saved .count)))
+    || (ringUnsound entryCapacity (q .entries .head) (q .entries .count) || ringUnsound savedCapacity (q .saved .head) (q .saved .count)))
 
 -- a number of what it is at work on: the open message, and the READ being answered
 unfoldable pub workUnsound : Pair → Bool

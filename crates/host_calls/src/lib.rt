@@ -79,7 +79,7 @@ fn outcome(status: Status, pair: Pair) -> HostOutcome
 }
 
 // Takes the numbers of a new pair, and empties its tables.
-pub fn set_up(setup: Setup, regions: &mut [[u64; 7]; 16]) -> HostOutcome
+pub fn set_up(setup: Setup, regions: &mut [[u64; 7]; table::REGIONS]) -> HostOutcome
     ensures { λ r. ⌜ r ≡ setUp setup ⌝ }
     ensures { λ r. ⌜ now (regions .exit) ≡ setUpRegions setup (now (regions .entry)) ⌝ }
 {
@@ -92,13 +92,13 @@ pub fn set_up(setup: Setup, regions: &mut [[u64; 7]; 16]) -> HostOutcome
         let pair = blank();
         return outcome(Status::OutOfRange, pair);
     }
-    *regions = [[0; 7]; 16];
+    *regions = [[0; 7]; table::REGIONS];
     let pair = fresh(setup);
     outcome(Status::Executed, pair)
 }
 
 // Starts afresh with the numbers of the set-up and empty tables.
-pub fn reset(pair: Pair, regions: &mut [[u64; 7]; 16]) -> HostOutcome
+pub fn reset(pair: Pair, regions: &mut [[u64; 7]; table::REGIONS]) -> HostOutcome
     ensures { λ r. ⌜ r ≡ resetTo pair ⌝ }
     ensures { λ r. ⌜ now (regions .exit) ≡ resetRegions pair (now (regions .entry)) ⌝ }
 {
@@ -107,7 +107,7 @@ pub fn reset(pair: Pair, regions: &mut [[u64; 7]; 16]) -> HostOutcome
     if bad {
         return outcome(Status::OutOfRange, pair);
     }
-    *regions = [[0; 7]; 16];
+    *regions = [[0; 7]; table::REGIONS];
     let next = fresh(setup);
     outcome(Status::Executed, next)
 }
@@ -129,7 +129,7 @@ pub fn make_ready(pair: Pair) -> HostOutcome
 }
 
 // Lets peers name a part of memory by a key.
-pub fn add_region(pair: Pair, regions: &mut [[u64; 7]; 16], region: Region) -> Status
+pub fn add_region(pair: Pair, regions: &mut [[u64; 7]; table::REGIONS], region: Region) -> Status
     ensures { λ r. ⌜ r ≡ addStatus pair (now (regions .entry)) region ⌝ }
     ensures { λ r. ⌜ now (regions .exit) ≡ addRegions pair (now (regions .entry)) region ⌝ }
 {
@@ -151,10 +151,10 @@ pub fn add_region(pair: Pair, regions: &mut [[u64; 7]; 16], region: Region) -> S
     }
     let used = table::find(regions, false, number::u32_to_u64(region.key));
     let free = table::find(regions, true, 0);
-    if used < 16 {
+    if used < table::REGIONS {
         return Status::KeyInUse;
     }
-    if 16 <= free {
+    if table::REGIONS <= free {
         return Status::TableFull;
     }
     let row = table::region_row(region);
@@ -163,12 +163,12 @@ pub fn add_region(pair: Pair, regions: &mut [[u64; 7]; 16], region: Region) -> S
 }
 
 // Takes a key back.
-pub fn remove_region(regions: &mut [[u64; 7]; 16], key: u32) -> Status
+pub fn remove_region(regions: &mut [[u64; 7]; table::REGIONS], key: u32) -> Status
     ensures { λ r. ⌜ r ≡ removeStatus (now (regions .entry)) key ⌝ }
     ensures { λ r. ⌜ now (regions .exit) ≡ removeRegions (now (regions .entry)) key ⌝ }
 {
     let at = table::find(regions, false, number::u32_to_u64(key));
-    if 16 <= at {
+    if table::REGIONS <= at {
         return Status::NoSuchKey;
     }
     let row = [0; 7];
@@ -177,7 +177,7 @@ pub fn remove_region(regions: &mut [[u64; 7]; 16], key: u32) -> Status
 }
 
 // Gives memory for a message that a peer will send.
-pub fn post_entry(pair: Pair, entries: &mut [[u64; 3]; 16], entry: Entry) -> HostOutcome
+pub fn post_entry(pair: Pair, entries: &mut [[u64; 3]; table::ENTRIES], entry: Entry) -> HostOutcome
     ensures { λ r. ⌜ r ≡ posted pair entry ⌝ }
     ensures { λ r. ⌜ now (entries .exit) ≡ postEntries pair (now (entries .entry)) entry ⌝ }
 {
@@ -199,10 +199,10 @@ pub fn post_entry(pair: Pair, entries: &mut [[u64; 3]; 16], entry: Entry) -> Hos
     }
     let head = pair.entries.head;
     let count = pair.entries.count;
-    if 16 <= count {
+    if table::ENTRIES <= count {
         return outcome(Status::TableFull, pair);
     }
-    let at = table::slot(head, count);
+    let at = table::entry_slot(head, count);
     let row = table::entry_row(entry);
     entries[at] = row;
     let ring = Ring {

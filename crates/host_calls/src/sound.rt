@@ -57,14 +57,14 @@ pub fn setup_unsound(setup: Setup) -> bool
     pair::LIMIT < setup.memory
 }
 
-// A table has 16 rows.
-fn ring_unsound(head: usize, count: usize) -> bool
-    ensures { λ r. ⌜ r ≡ ringUnsound head count ⌝ }
+// A ring has no more rows than its table.
+fn ring_unsound(capacity: usize, head: usize, count: usize) -> bool
+    ensures { λ r. ⌜ r ≡ ringUnsound capacity head count ⌝ }
 {
-    if 16 <= head {
+    if capacity <= head {
         return true;
     }
-    16 < count
+    capacity < count
 }
 
 // An open SEND holds an entry, and has stored no more than memory can have.
@@ -155,11 +155,11 @@ pub fn numbers_unsound(pair: Pair) -> bool
     if b {
         return true;
     }
-    let c = ring_unsound(pair.entries.head, pair.entries.count);
+    let c = ring_unsound(table::ENTRIES, pair.entries.head, pair.entries.count);
     if c {
         return true;
     }
-    ring_unsound(pair.saved.head, pair.saved.count)
+    ring_unsound(table::SAVED, pair.saved.head, pair.saved.count)
 }
 
 // Whether some number is, given whether one of those is: one of the open message or of the READ being answered.

@@ -8,10 +8,10 @@ use native.Mathlib.Omega.{arith}
 use lib.Dec.{eqb}
 use lib.ListN.{length, getD, set, getD-replicate}
 use borrow.Author.Tests.{eqb-true, eqb-false}
-use Rattle.table.specs.Table.{entryRow, noRegion, keyRow, slotAt}
+use Rattle.table.specs.Table.{regionCapacity, entryCapacity, savedCapacity, entrySlot, entryRow, noRegion, keyRow}
 use Rattle.table.specs.View.{oneMore}
 use Rattle.table.specs.Claims.{EntryFits, HasKey, RegionsSound}
-use Rattle.table.proofs.Rings.{in-use-kept, posted-sound}
+use Rattle.table.proofs.Rings.{entry-ring, posted-sound}
 use Rattle.table.proofs.Regions.{added-sound, removed-sound, no-key}
 use Rattle.table.specs.declared.Region.{Region}
 use Rattle.table.specs.declared.Entry.{Entry}
@@ -32,8 +32,8 @@ empty-sound : (memory : ℕ) → RegionsSound memory noRegions
 empty-sound memory =
     record {
       rows16 = refl;
-      each = λ i h. inl (ap (λ x. getD x 2 0) (getD-replicate 16 i noRegion [] h));
-      once = λ i j key h k x y. absurd (no-key key (subst (HasKey key) (getD-replicate 16 i noRegion [] h) x));
+      each = λ i h. inl (ap (λ x. getD x 2 0) (getD-replicate regionCapacity i noRegion [] h));
+      once = λ i j key h k x y. absurd (no-key key (subst (HasKey key) (getD-replicate regionCapacity i noRegion [] h) x));
     }
 
 fresh-sound : (s : Setup) → SetupSound s → Sound (freshPair s)
@@ -50,15 +50,15 @@ fresh-sound s (f, limit) =
       read = inl refl;
     }
 
-fresh-whole : (s : Setup) (entries saved : List (List ℕ)) → SetupSound s → length entries ≡ 16 → length saved ≡ 16
+fresh-whole : (s : Setup) (entries saved : List (List ℕ)) → SetupSound s → length entries ≡ entryCapacity → length saved ≡ savedCapacity
     → WholeSound (record { pair = freshPair s; regions = noRegions; entries = entries; saved = saved })
 unfolding freshPair
 fresh-whole s entries saved h e l =
     record {
       pair = fresh-sound s h;
       regions = empty-sound (s .memory);
-      entries = record { rows16 = e; each = λ i b. absurd (omega arith) };
-      saved = record { rows16 = l; each = λ i b. absurd (omega arith) };
+      entries = record { sized = e; each = λ i b. absurd (omega arith) };
+      saved = record { sized = l; each = λ i b. absurd (omega arith) };
       held = λ z. absurd (omega arith);
     }
 
@@ -75,7 +75,7 @@ reset-kept w W =
     let h = W .pair .setup in
     subst (λ q. WholeSound (changed w q (resetRegions (w .pair) (w .regions)) (w .entries))) (sym (reset-pair (w .pair) h))
     (subst (λ x. WholeSound (changed w (freshPair (w .pair .setup)) x (w .entries))) (sym (reset-regions (w .pair) (w .regions) h))
-    (fresh-whole (w .pair .setup) (w .entries) (w .saved) h (W .entries .rows16) (W .saved .rows16)))
+    (fresh-whole (w .pair .setup) (w .entries) (w .saved) h (W .entries .sized) (W .saved .sized)))
 
 -- a sound pair that becomes Ready
 ready-sound : (q : Pair) → Sound q → Sound (moved q 1 (q .entries))
@@ -126,7 +126,7 @@ remove-kept w key W = with-regions w (removeRegions (w .regions) key) W (go (exe
     go false = W .regions
 
 -- a sound pair with an entry more
-pub one-more-sound : (q : Pair) → Sound q → q .entries .count < 16 → Sound (moved q (q .state) (oneMore (q .entries)))
+pub one-more-sound : (q : Pair) → Sound q → q .entries .count < entryCapacity → Sound (moved q (q .state) (oneMore (q .entries)))
 one-more-sound q S n =
     record {
       setup = S .setup;
@@ -146,7 +146,7 @@ one-more-sound q S n =
 
 -- post entry leaves pair and entries as they were, or with one entry more: what holds of both holds afterwards
 pub post-cases : (q : Pair) (rows : List (List ℕ)) (e : Entry) (P : Pair → List (List ℕ) → Type 0) → Sound q → P q rows
-    → (EntryFits (q .setup .memory) e → q .entries .count < 16 → P (moved q (q .state) (oneMore (q .entries))) (set rows (slotAt (q .entries .head) (q .entries .count)) (entryRow e)))
+    → (EntryFits (q .setup .memory) e → q .entries .count < entryCapacity → P (moved q (q .state) (oneMore (q .entries))) (set rows (entrySlot (q .entries .head) (q .entries .count)) (entryRow e)))
     → P (posted q e .pair) (postEntries q rows e)
 post-cases q rows e P S same more = go (post-either q rows e S)
   where
@@ -155,11 +155,11 @@ post-cases q rows e P S same more = go (post-either q rows e S)
     go (inr (f, n, a, b)) = subst (λ x. P x (postEntries q rows e)) (sym a) (subst (P (moved q (q .state) (oneMore (q .entries)))) (sym b) (more f n))
 
 -- the entry held stays the same row
-pub held-kept : (q : Pair) (rows : List (List ℕ)) (e : Entry) → Sound q → q .entries .count < 16 → q .message .kind ≡ 0
-    → q .message .stored ≤ getD (getD rows (slotAt (q .entries .head) 0) []) 2 0
-    → q .message .stored ≤ getD (getD (set rows (slotAt (q .entries .head) (q .entries .count)) (entryRow e)) (slotAt (q .entries .head) 0) []) 2 0
+pub held-kept : (q : Pair) (rows : List (List ℕ)) (e : Entry) → Sound q → q .entries .count < entryCapacity → q .message .kind ≡ 0
+    → q .message .stored ≤ getD (getD rows (entrySlot (q .entries .head) 0) []) 2 0
+    → q .message .stored ≤ getD (getD (set rows (entrySlot (q .entries .head) (q .entries .count)) (entryRow e)) (entrySlot (q .entries .head) 0) []) 2 0
 held-kept q rows e S n k h =
-    subst (λ x. q .message .stored ≤ getD x 2 0) (sym (in-use-kept rows (q .entries) (entryRow e) 0 n (held-some q S k))) h
+    subst (λ x. q .message .stored ≤ getD x 2 0) (sym (entry-ring .keeps rows (q .entries) (entryRow e) 0 n (held-some q S k))) h
 
 post-kept : (w : Whole) (e : Entry) → WholeSound w → WholeSound (called w (PostEntry e))
 unfolding called
@@ -176,7 +176,7 @@ post-kept w e W =
 
 called-sound : (w : Whole) (c : HostCall) → Accepted c → WholeSound w → WholeSound (called w c)
 unfolding called
-called-sound w (SetUp s) h W = begun-sound s (w .regions) (w .entries) (w .saved) h (W .entries .rows16) (W .saved .rows16)
+called-sound w (SetUp s) h W = begun-sound s (w .regions) (w .entries) (w .saved) h (W .entries .sized) (W .saved .sized)
 called-sound w Reset h W = reset-kept w W
 called-sound w MakeReady h W = ready-kept w W
 called-sound w (AddRegion r) h W = add-kept w r W

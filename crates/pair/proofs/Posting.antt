@@ -8,12 +8,13 @@ use native.Mathlib.Omega.{arith}
 use lib.Dec.{eqb, leb}
 use lib.ListN.{length, set, take, drop, length-append, take-append-drop}
 use lib.Seq.{take-append-le, drop-append-le}
-use borrow.Author.Tests.{le-leb, lt-leb, eq-eqb, ne-eqb, leb-true, leb-false, eqb-true, eqb-false}
+use borrow.Author.Tests.{lt-leb, eq-eqb, ne-eqb, leb-true, leb-false, eqb-true, eqb-false}
+use Rattle.lemmas.proofs.Auto.{tests}
 use Rattle.pmtu.specs.Claims.{IsPmtu}
-use Rattle.table.specs.Table.{outside, entryRow, slotAt}
+use Rattle.table.specs.Table.{entryCapacity, entrySlot, outside, entryRow}
 use Rattle.table.specs.View.{ringFrom, oneMore}
 use Rattle.table.specs.Claims.{EntryFits}
-use Rattle.table.proofs.Rings.{appends, ring-length}
+use Rattle.table.proofs.Rings.{entry-ring, ring-length}
 use Rattle.table.proofs.Regions.{entry-tested}
 use Rattle.table.specs.declared.Entry.{Entry}
 use Rattle.pair.specs.declared.Pair.{Pair}
@@ -22,7 +23,7 @@ use Rattle.pair.specs.declared.Status.the-variants as status
 use Rattle.pair.specs.Answer.{statusNumber, executed}
 use Rattle.pair.specs.Pair.{blankPair, freshPair, moved}
 use Rattle.pair.specs.Sound.{pairUnsound}
-use Rattle.pair.specs.Host.{entryLimit, entryCount, postStatus, posted, postEntries}
+use Rattle.pair.specs.Host.{entryCount, entriesFull, postStatus, posted, postEntries}
 use Rattle.pair.specs.View.{heldOf, waitingOf, entriesOf}
 use Rattle.pair.specs.Claims.{Unmoved, HeldFirst, HeldNone, BlankUnsound, IsBlank, SetupSound, MessageSound, Sound, PostError, PostRange, PostFull, PostDone, HeldWaiting, BlankRefused}
 use Rattle.pair.proofs.Known.{unmoved, holds-true, either, kept, done, unsound, sound}
@@ -42,11 +43,11 @@ pub held-none : HeldNone
 unfolding heldOf
 held-none q rows h = rw (ne-eqb (q .message .kind) 0 h)
 
--- so the 16 are those that the ring counts
+-- so they are those that the ring counts
 counted : (q : Pair) (rows : List (List ℕ)) → length (heldOf q rows) + length (waitingOf q rows) ≡ q .entries .count
 counted q rows =
     sym (length-append (heldOf q rows) (waitingOf q rows))
-    ∙ (ap length (held-waiting q rows) ∙ ring-length rows (q .entries .head) 0 (q .entries .count))
+    ∙ (ap length (held-waiting q rows) ∙ ring-length entrySlot rows (q .entries .head) 0 (q .entries .count))
 
 -- a SEND that is open holds an entry
 pub held-some : (q : Pair) → Sound q → q .message .kind ≡ 0 → 1 ≤ q .entries .count
@@ -62,7 +63,7 @@ unfolding heldOf ringFrom
 held-first q rows S k =
     let some : 1 ≤ q .entries .count = held-some q S k in
     let n : q .entries .count ≡ suc (q .entries .count - 1) = omega arith in
-    rw (eq-eqb (q .message .kind) 0 k) (ap (λ c. take 1 (ringFrom rows (q .entries .head) 0 c)) n)
+    rw (eq-eqb (q .message .kind) 0 k) (ap (λ c. take 1 (ringFrom entrySlot rows (q .entries .head) 0 c)) n)
 
 module _ (q : Pair) (rows : List (List ℕ)) (e : Entry) where
   post-refused : (s : Status) → postStatus q e ≡ s → executed s ≡ false
@@ -85,39 +86,39 @@ module _ (q : Pair) (rows : List (List ℕ)) (e : Entry) where
       (either (pairUnsound q))
 
   module _ (h : q .state ≡ 2 → ⊥) (S : Sound q) (f : EntryFits (q .setup .memory) e) where
-    full-post : entryLimit ≤ entryCount q → postStatus q e ≡ status.TableFull
+    full-post : entryCapacity ≤ entryCount q → postStatus q e ≡ status.TableFull
     unfolding postStatus
     full-post n =
-        rw (ne-eqb (q .state) 2 h, sound q S, entry-tested (q .setup .memory) e .1 f, le-leb entryLimit (entryCount q) n)
+        rw (ne-eqb (q .state) 2 h, sound q S, entry-tested (q .setup .memory) e .1 f, holds-true (entriesFull q) (λ z. omega (arith, tests)))
 
-    pub done-post : entryCount q < entryLimit → postStatus q e ≡ status.Executed
+    pub done-post : entryCount q < entryCapacity → postStatus q e ≡ status.Executed
     unfolding postStatus
     done-post n =
-        rw (ne-eqb (q .state) 2 h, sound q S, entry-tested (q .setup .memory) e .1 f, lt-leb entryLimit (entryCount q) n)
+        rw (ne-eqb (q .state) 2 h, sound q S, entry-tested (q .setup .memory) e .1 f, lt-leb entryCapacity (entryCount q) n)
 
-    pub posted-pair : entryCount q < entryLimit → posted q e .pair ≡ moved q (q .state) (oneMore (q .entries))
+    pub posted-pair : entryCount q < entryCapacity → posted q e .pair ≡ moved q (q .state) (oneMore (q .entries))
     unfolding posted executed statusNumber
     posted-pair n = done (postStatus q e) status.Executed (moved q (q .state) (oneMore (q .entries))) q (done-post n) refl
 
-    pub posted-entries : entryCount q < entryLimit
-        → postEntries q rows e ≡ set rows (slotAt (q .entries .head) (q .entries .count)) (entryRow e)
+    pub posted-entries : entryCount q < entryCapacity
+        → postEntries q rows e ≡ set rows (entrySlot (q .entries .head) (q .entries .count)) (entryRow e)
     unfolding postEntries executed statusNumber
     posted-entries n =
-        done (postStatus q e) status.Executed (set rows (slotAt (q .entries .head) (q .entries .count)) (entryRow e)) rows (done-post n) refl
+        done (postStatus q e) status.Executed (set rows (entrySlot (q .entries .head) (q .entries .count)) (entryRow e)) rows (done-post n) refl
 
   -- the lists, by those of the ring
   abbrev after : Pair
   after = moved q (q .state) (oneMore (q .entries))
 
   abbrev stored : List (List ℕ)
-  stored = set rows (slotAt (q .entries .head) (q .entries .count)) (entryRow e)
+  stored = set rows (entrySlot (q .entries .head) (q .entries .count)) (entryRow e)
 
-  module _ (S : Sound q) (n : q .entries .count < 16) (l : length rows ≡ 16) where
+  module _ (S : Sound q) (n : q .entries .count < entryCapacity) (l : length rows ≡ entryCapacity) where
     more : entriesOf after stored ≡ entriesOf q rows ++ (entryRow e ∷ [])
-    more = appends rows (q .entries) (entryRow e) l n
+    more = entry-ring .appends rows (q .entries) (entryRow e) l n
 
     first : q .message .kind ≡ 0 → 1 ≤ length (entriesOf q rows)
-    first k = omega (arith, ring-length rows (q .entries .head) 0 (q .entries .count), held-some q S k)
+    first k = omega (arith, ring-length entrySlot rows (q .entries .head) 0 (q .entries .count), held-some q S k)
 
     waiting-more : waitingOf after stored ≡ waitingOf q rows ++ (entryRow e ∷ [])
     unfolding waitingOf
@@ -152,15 +153,15 @@ post-full q rows e (h, S, f) n =
 pub post-done : PostDone
 unfolding posted statusNumber
 post-done q rows e (h, S, f) m l =
-    let n : q .entries .count < 16 = omega (arith, counted q rows) in
+    let n : q .entries .count < entryCapacity = omega (arith, counted q rows) in
     let p = posted-pair q rows e h S f n in
     let t = posted-entries q rows e h S f n in
     record {
       number = ap statusNumber (done-post q rows e h S f n);
       state = ap (λ x. x .state) p;
       unmoved = subst (Unmoved q) (sym p) (unmoved q (q .state) (oneMore (q .entries)) refl);
-      waiting = ap (λ x. waitingOf x (postEntries q rows e)) p ∙ (ap (waitingOf (after q rows e)) t ∙ waiting-more q rows e S n l);
-      held = ap (λ x. heldOf x (postEntries q rows e)) p ∙ (ap (heldOf (after q rows e)) t ∙ held-same q rows e S n l);
+      waiting = ap (λ x. waitingOf x (postEntries q rows e)) p ∙ (ap (waitingOf (after q rows e)) t ∙ waiting-more q rows e S n (omega arith));
+      held = ap (λ x. heldOf x (postEntries q rows e)) p ∙ (ap (heldOf (after q rows e)) t ∙ held-same q rows e S n (omega arith));
     }
 
 -- what a sound pair and its entries are after the call: the same, or with one entry more
@@ -168,22 +169,22 @@ abbrev pub PostEither : Pair → List (List ℕ) → Entry → Type 0
 PostEither q rows e =
     ((posted q e .pair ≡ q) × (postEntries q rows e ≡ rows))
     ⊎ (EntryFits (q .setup .memory) e
-    × (q .entries .count < 16)
+    × (q .entries .count < entryCapacity)
     × (posted q e .pair ≡ moved q (q .state) (oneMore (q .entries)))
-    × (postEntries q rows e ≡ set rows (slotAt (q .entries .head) (q .entries .count)) (entryRow e)))
+    × (postEntries q rows e ≡ set rows (entrySlot (q .entries .head) (q .entries .count)) (entryRow e)))
 
 pub post-either : (q : Pair) (rows : List (List ℕ)) (e : Entry) → Sound q
     → PostEither q rows e
 unfolding executed statusNumber
 post-either q rows e S =
-    go (eqb (q .state) 2) refl (outside (e .offset) (e .length) (q .setup .memory)) refl (leb entryLimit (entryCount q)) refl
+    go (eqb (q .state) 2) refl (outside (e .offset) (e .length) (q .setup .memory)) refl (leb entryCapacity (entryCount q)) refl
   where
     same : (n : ℕ) → ((statusNumber (posted q e .status) ≡ n) × (posted q e .pair ≡ q)) × (postEntries q rows e ≡ rows)
         → PostEither q rows e
     same n ((a, b), c) = inl (b, c)
 
     go : (a : Bool) → eqb (q .state) 2 ≡ a → (b : Bool) → outside (e .offset) (e .length) (q .setup .memory) ≡ b
-        → (c : Bool) → leb entryLimit (entryCount q) ≡ c
+        → (c : Bool) → leb entryCapacity (entryCount q) ≡ c
         → PostEither q rows e
     go true x b y c z = same 36 (post-error q rows e (eqb-true (q .state) 2 x))
     go false x true y c z =
@@ -191,11 +192,11 @@ post-either q rows e S =
     go false x false y true z =
         same 33
         (post-refused q rows e status.TableFull
-        (full-post q rows e (eqb-false (q .state) 2 x) S (entry-tested (q .setup .memory) e .0 y) (leb-true entryLimit (entryCount q) z)) refl)
+        (full-post q rows e (eqb-false (q .state) 2 x) S (entry-tested (q .setup .memory) e .0 y) (leb-true entryCapacity (entryCount q) z)) refl)
     go false x false y false z =
         let h = eqb-false (q .state) 2 x in
         let f : EntryFits (q .setup .memory) e = entry-tested (q .setup .memory) e .0 y in
-        let n : q .entries .count < 16 = leb-false entryLimit (entryCount q) z in
+        let n : q .entries .count < entryCapacity = leb-false entryCapacity (entryCount q) z in
         inr (f, n, posted-pair q rows e h S f n, posted-entries q rows e h S f n)
 
 -- The blank pair

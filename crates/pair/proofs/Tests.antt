@@ -12,7 +12,7 @@ use Rattle.sequence.specs.Sequence.{space}
 use Rattle.header.specs.Read.{otherService}
 use Rattle.pmtu.specs.Pieces.{pmtuFits, pieces}
 use Rattle.pmtu.proofs.Counting.{pmtus}
-use Rattle.table.specs.Table.{addresses, outside, pastTop}
+use Rattle.table.specs.Table.{entryCapacity, savedCapacity, addresses, outside, pastTop}
 use Rattle.pair.specs.declared.Setup.{Setup}
 use Rattle.pair.specs.declared.Pair.{Pair}
 use Rattle.pair.specs.Sound.{memoryLimit, setupUnfit, setupUnsound, countersUnsound, ringUnsound, noEntry, sendUnsound, writeUnsound, messageUnsound, readUnsound, pairUnsound, timerLimit}
@@ -81,13 +81,15 @@ pub sound-setup : (s : Setup) → SetupSound s → setupUnsound s ≡ false
 unfolding setupUnsound
 sound-setup s (fit, limit) = neither (setup-tested s .1 fit) (le-ltb memoryLimit (s .memory) limit)
 
-ring-fits : (head count : ℕ) → ringUnsound head count ≡ false → (head < 16) × (count ≤ 16)
-unfolding ringUnsound
-ring-fits head count h = (leb-false 16 head (or-left (leb 16 head) _ h), ltb-false 16 count (or-right (leb 16 head) _ h))
+module _ (capacity head count : ℕ) where
+  ring-fits : ringUnsound capacity head count ≡ false → (head < capacity) × (count ≤ capacity)
+  unfolding ringUnsound
+  ring-fits h =
+      (leb-false capacity head (or-left (leb capacity head) _ h), ltb-false capacity count (or-right (leb capacity head) _ h))
 
-fits-ring : (head count : ℕ) → (head < 16) × (count ≤ 16) → ringUnsound head count ≡ false
-unfolding ringUnsound
-fits-ring head count (a, b) = neither (lt-leb 16 head a) (le-ltb 16 count b)
+  fits-ring : (head < capacity) × (count ≤ capacity) → ringUnsound capacity head count ≡ false
+  unfolding ringUnsound
+  fits-ring (a, b) = neither (lt-leb capacity head a) (le-ltb capacity count b)
 
 write-fits : (stored address n : ℕ) → writeUnsound stored address n ≡ false
     → (stored < n) × (n ≤ 1048576) × (address + stored < 2 ^ 64)
@@ -204,8 +206,8 @@ tested q = (fits, passes)
     fits h =
         let h2 = or-right (setupUnsound (q .setup)) _ h in
         let h3 = or-right (countersUnsound (q .state) (q .expected .0) (q .msn .0)) _ h2 in
-        let h4 = or-right (ringUnsound (q .entries .head) (q .entries .count)) _ h3 in
-        let h5 = or-right (ringUnsound (q .saved .head) (q .saved .count)) _ h4 in
+        let h4 = or-right (ringUnsound entryCapacity (q .entries .head) (q .entries .count)) _ h3 in
+        let h5 = or-right (ringUnsound savedCapacity (q .saved .head) (q .saved .count)) _ h4 in
         let m = messageUnsound (q .message .kind) (q .message .stored) (q .message .address) (q .message .length) (q .entries .count) in
         let n = numbers-fit (q .state) (q .expected .0) (q .msn .0) (or-left (countersUnsound (q .state) (q .expected .0) (q .msn .0)) _ h2) in
         record {
@@ -213,8 +215,8 @@ tested q = (fits, passes)
           state = n .0;
           expected = n .1;
           msn = n .2;
-          entries = ring-fits (q .entries .head) (q .entries .count) (or-left (ringUnsound (q .entries .head) (q .entries .count)) _ h3);
-          saved = ring-fits (q .saved .head) (q .saved .count) (or-left (ringUnsound (q .saved .head) (q .saved .count)) _ h4);
+          entries = ring-fits entryCapacity (q .entries .head) (q .entries .count) (or-left (ringUnsound entryCapacity (q .entries .head) (q .entries .count)) _ h3);
+          saved = ring-fits savedCapacity (q .saved .head) (q .saved .count) (or-left (ringUnsound savedCapacity (q .saved .head) (q .saved .count)) _ h4);
           message = message-fits q (or-left m _ h5);
           read =
               read-fits (q .read .remaining) (q .read .offset) (q .read .length) (q .read .psn .0) (q .read .msn .0) (q .setup .pmtu) (q .setup .memory)
@@ -225,7 +227,7 @@ tested q = (fits, passes)
     passes S =
         neither (sound-setup (q .setup) (S .setup))
         (neither (fit-numbers (q .state) (q .expected .0) (q .msn .0) (S .state, S .expected, S .msn))
-        (neither (fits-ring (q .entries .head) (q .entries .count) (S .entries))
-        (neither (fits-ring (q .saved .head) (q .saved .count) (S .saved))
+        (neither (fits-ring entryCapacity (q .entries .head) (q .entries .count) (S .entries))
+        (neither (fits-ring savedCapacity (q .saved .head) (q .saved .count) (S .saved))
         (neither (fits-message q (S .message))
         (fits-read (q .read .remaining) (q .read .offset) (q .read .length) (q .read .psn .0) (q .read .msn .0) (q .setup .pmtu) (q .setup .memory) (S .read))))))

@@ -8,7 +8,7 @@ use mathlib.Core.Logic.{_⊎_}
 use lib.ListN.{length, getD, set}
 use Rattle.pmtu.specs.Pieces.{pieces}
 use Rattle.pmtu.specs.Claims.{IsPmtu}
-use Rattle.table.specs.Table.{regionRow, entryRow, noRegion, slotAt}
+use Rattle.table.specs.Table.{entrySlot, regionRow, entryRow, noRegion}
 use Rattle.table.specs.View.{regionOf, newestSaved}
 use Rattle.table.specs.Claims.{RegionFits, EntryFits, Free, HasKey, First, RegionsSound, EntriesSound, SavedSound}
 use Rattle.table.specs.declared.Region.{Region}
@@ -281,7 +281,7 @@ PostDone =
 abbrev pub HeldFirst : Type 0
 HeldFirst =
     (q : Pair) (rows : List (List ℕ)) → Sound q → q .message .kind ≡ 0
-    → heldOf q rows ≡ getD rows (slotAt (q .entries .head) 0) [] ∷ []
+    → heldOf q rows ≡ getD rows (entrySlot (q .entries .head) 0) [] ∷ []
 
 abbrev pub HeldNone : Type 0
 HeldNone = (q : Pair) (rows : List (List ℕ)) → (q .message .kind ≡ 0 → ⊥) → heldOf q rows ≡ []
@@ -326,7 +326,7 @@ pub record WholeSound (w : Whole) : Type 0 where
   pub regions : RegionsSound (w .pair .setup .memory) (w .regions)
   pub entries : EntriesSound (w .pair .setup .memory) (w .entries) (w .pair .entries)
   pub saved : SavedSound (w .saved) (w .pair .saved)
-  pub held : w .pair .message .kind ≡ 0 → w .pair .message .stored ≤ getD (getD (w .entries) (slotAt (w .pair .entries .head) 0) []) 2 0
+  pub held : w .pair .message .kind ≡ 0 → w .pair .message .stored ≤ getD (getD (w .entries) (entrySlot (w .pair .entries .head) 0) []) 2 0
 
 -- Set-up makes them sound, whatever the tables held before; and so they are after every list of the host's calls in
 -- which each set-up is accepted.

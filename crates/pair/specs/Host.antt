@@ -1,10 +1,10 @@
 -- The host's calls: each one's answer, the pair it leaves, and the table.
 use Prim.Native.Nat.{ℕ}
-use mathlib.Core.Bool.{cond}
+use mathlib.Core.Bool.{Bool, cond}
 use mathlib.Core.List.{List}
 use lib.Dec.{eqb, ltb, leb}
 use lib.ListN.{replicate, set}
-use Rattle.table.specs.Table.{outside, regionOutside, regionRow, entryRow, noRegion, keyRow, freeRow, slotAt}
+use Rattle.table.specs.Table.{regionCapacity, entryCapacity, entrySlot, outside, regionOutside, regionRow, entryRow, noRegion, keyRow, freeRow}
 use Rattle.table.specs.declared.Region.{Region}
 use Rattle.table.specs.declared.Entry.{Entry}
 use Rattle.table.specs.View.{oneMore}
@@ -22,7 +22,7 @@ abbrev pub outcome : Status → Pair → HostOutcome
 outcome s q = record { status = s; pair = q }
 
 abbrev pub noRegions : List (List ℕ)
-noRegions = replicate 16 noRegion
+noRegions = replicate regionCapacity noRegion
 
 -- Set-up: 39 for a bad number, 34 for memory over the limit
 unfoldable pub setUpStatus : Setup → Status
@@ -57,37 +57,37 @@ addStatus q rows r =
     cond (eqb (q .state) State.error) WrongState
     (cond (pairUnsound q) OutOfRange
     (cond (regionOutside (r .address) (r .length) (r .offset) (q .setup .memory)) OutOfRange
-    (cond (ltb (keyRow (r .key) rows) 16) KeyInUse
-    (cond (leb 16 (freeRow rows)) TableFull Executed))))
+    (cond (ltb (keyRow (r .key) rows) regionCapacity) KeyInUse
+    (cond (leb regionCapacity (freeRow rows)) TableFull Executed))))
 
 unfoldable pub addRegions : Pair → List (List ℕ) → Region → List (List ℕ)
 addRegions q rows r = cond (executed (addStatus q rows r)) (set rows (freeRow rows) (regionRow r)) rows
 
 -- Remove region: 37 for a key not in use
 unfoldable pub removeStatus : List (List ℕ) → ℕ → Status
-removeStatus rows key = cond (leb 16 (keyRow key rows)) NoSuchKey Executed
+removeStatus rows key = cond (leb regionCapacity (keyRow key rows)) NoSuchKey Executed
 
 unfoldable pub removeRegions : List (List ℕ) → ℕ → List (List ℕ)
 removeRegions rows key = cond (executed (removeStatus rows key)) (set rows (keyRow key rows) noRegion) rows
 
--- how many entries there may be, and how many there are, the one held and those waiting
-abbrev pub entryLimit : ℕ
-entryLimit = 16
-
+-- how many entries there are, the one held and those waiting
 abbrev pub entryCount : Pair → ℕ
 entryCount q = q .entries .count
 
--- Post entry: 36 in Error, 34 for an entry outside memory, 33 where 16 are held or waiting
+abbrev pub entriesFull : Pair → Bool
+entriesFull q = leb entryCapacity (entryCount q)
+
+-- Post entry: 36 in Error, 34 for an entry outside memory, 33 where all its rows are held or waiting
 unfoldable pub postStatus : Pair → Entry → Status
 postStatus q e =
     cond (eqb (q .state) State.error) WrongState
     (cond (pairUnsound q) OutOfRange
     (cond (outside (e .offset) (e .length) (q .setup .memory)) OutOfRange
-    (cond (leb entryLimit (entryCount q)) TableFull Executed)))
+    (cond (entriesFull q) TableFull Executed)))
 
 unfoldable pub posted : Pair → Entry → HostOutcome
 posted q e = outcome (postStatus q e) (cond (executed (postStatus q e)) (moved q (q .state) (oneMore (q .entries))) q)
 
 unfoldable pub postEntries : Pair → List (List ℕ) → Entry → List (List ℕ)
 postEntries q rows e =
-    cond (executed (postStatus q e)) (set rows (slotAt (q .entries .head) (q .entries .count)) (entryRow e)) rows
+    cond (executed (postStatus q e)) (set rows (entrySlot (q .entries .head) (q .entries .count)) (entryRow e)) rows

@@ -8,7 +8,7 @@ use Rattle.header.specs.Read.{otherService}
 use Rattle.header.specs.Write.{qpnSpace}
 use Rattle.header.specs.Check.{pkeyTop}
 use Rattle.pmtu.specs.Pieces.{pmtuFits, pieces}
-use Rattle.table.specs.Table.{outside, pastTop}
+use Rattle.table.specs.Table.{entryCapacity, savedCapacity, outside, pastTop}
 use Rattle.pair.specs.declared.Setup.{Setup}
 use Rattle.pair.specs.declared.Pair.{Pair}
 use Rattle.pair.specs.State as State
@@ -38,9 +38,9 @@ setupUnsound s = setupUnfit s || ltb memoryLimit (s .memory)
 unfoldable pub countersUnsound : ℕ → ℕ → ℕ → Bool
 countersUnsound state expected msn = ltb State.error state || (leb space expected || leb msnSpace msn)
 
--- a table has 16 rows
-unfoldable pub ringUnsound : ℕ → ℕ → Bool
-ringUnsound head count = leb 16 head || ltb 16 count
+-- a ring has no more rows than its table
+unfoldable pub ringUnsound : ℕ → ℕ → ℕ → Bool
+ringUnsound capacity head count = leb capacity head || ltb capacity count
 
 -- an open SEND holds an entry and has stored no more bytes than memory can have; an open WRITE has bytes to come,
 -- within the limit, and the next of them has an address
@@ -70,7 +70,7 @@ unfoldable pub pairUnsound : Pair → Bool
 pairUnsound q =
     setupUnsound (q .setup)
     || (countersUnsound (q .state) (q .expected .0) (q .msn .0)
-    || (ringUnsound (q .entries .head) (q .entries .count)
-    || (ringUnsound (q .saved .head) (q .saved .count)
+    || (ringUnsound entryCapacity (q .entries .head) (q .entries .count)
+    || (ringUnsound savedCapacity (q .saved .head) (q .saved .count)
     || (messageUnsound (q .message .kind) (q .message .stored) (q .message .address) (q .message .length) (q .entries .count)
     || readUnsound (q .read .remaining) (q .read .offset) (q .read .length) (q .read .psn .0) (q .read .msn .0) (q .setup .pmtu) (q .setup .memory)))))

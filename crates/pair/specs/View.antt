@@ -5,11 +5,12 @@ use mathlib.Core.List.{List, []}
 use lib.Dec.{eqb}
 use lib.ListN.{take, drop}
 use Rattle.opcode.specs.Kind as Kind
+use Rattle.table.specs.Table.{entrySlot}
 use Rattle.table.specs.View.{inRing}
 use Rattle.pair.specs.declared.Pair.{Pair}
 
 abbrev pub entriesOf : Pair → List (List ℕ) → List (List ℕ)
-entriesOf q rows = inRing rows (q .entries)
+entriesOf q rows = inRing entrySlot rows (q .entries)
 
 -- an open SEND holds the first entry
 abbrev pub holds : Pair → Bool

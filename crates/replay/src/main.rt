@@ -27,9 +27,9 @@ fn drain(start: Pair, mem: &[u8]) -> Pair {
 // Hands a packet to the pair, and writes its line.
 fn receive(
     pair: Pair,
-    regions: &[[u64; 7]; 16],
-    entries: &[[u64; 3]; 16],
-    saved: &mut [[u64; 2]; 16],
+    regions: &[[u64; 7]; table::REGIONS],
+    entries: &[[u64; 3]; table::ENTRIES],
+    saved: &mut [[u64; 2]; table::SAVED],
     mem: &mut [u8],
     packet: &[u8],
 ) -> Pair {
@@ -45,12 +45,12 @@ fn receive(
 // count's last number ends it.
 fn replay(
     start: Pair,
-    regions: &[[u64; 7]; 16],
-    entries: &[[u64; 3]; 16],
+    regions: &[[u64; 7]; table::REGIONS],
+    entries: &[[u64; 3]; table::ENTRIES],
     mem: &mut [u8],
     buf: &mut [u8],
 ) -> u64 {
-    let mut saved = [[0; 2]; 16];
+    let mut saved = [[0; 2]; table::SAVED];
     let mut pair = start;
     let mut whole: u64 = 0;
     while whole < u64::MAX {
@@ -66,8 +66,8 @@ fn replay(
 }
 
 fn main() {
-    let mut regions = [[0; 7]; 16];
-    let mut entries = [[0; 3]; 16];
+    let mut regions = [[0; 7]; table::REGIONS];
+    let mut entries = [[0; 3]; table::ENTRIES];
     let pair = setting::pair(&mut regions, &mut entries);
     let mut mem = io::buffer();
     let mut buf = io::large_buffer();

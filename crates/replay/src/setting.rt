@@ -36,7 +36,7 @@ fn region() -> Region {
 }
 
 // Posts entries 0 to 15, of 128 bytes each.
-fn post_entries(start: Pair, entries: &mut [[u64; 3]; 16]) -> Pair {
+fn post_entries(start: Pair, entries: &mut [[u64; 3]; table::ENTRIES]) -> Pair {
     let mut pair = start;
     let mut i: u64 = 0;
     while i < 16 {
@@ -54,7 +54,10 @@ fn post_entries(start: Pair, entries: &mut [[u64; 3]; 16]) -> Pair {
 
 // Makes the pair, with its tables. No call refuses these numbers; were the region refused, every packet would be too,
 // with 34, and no line would look like an answer to it.
-pub(crate) fn pair(regions: &mut [[u64; 7]; 16], entries: &mut [[u64; 3]; 16]) -> Pair {
+pub(crate) fn pair(
+    regions: &mut [[u64; 7]; table::REGIONS],
+    entries: &mut [[u64; 3]; table::ENTRIES],
+) -> Pair {
     let fresh = host_calls::set_up(setup(), regions);
     let added = host_calls::add_region(fresh.pair, regions, region());
     if added.number() != 0 {

@@ -154,7 +154,8 @@ read-served a outs h S P e n R = go h
     T : Table a l
     T = inbound-table a
 
-    serve : (number : Msn) → l .whole .pair .setup ≡ a .whole .pair .setup → Begun (a .whole .regions) (a .whole .pair .setup) (a .packet) number (l .whole .pair .read) → Drains (l .whole .pair) (a .memory) outs
+    serve : (number : Msn) → l .whole .pair .setup ≡ a .whole .pair .setup
+        → Begun (a .whole .regions) (a .whole .pair .setup) (a .packet) number (l .whole .pair .read) → Drains (l .whole .pair) (a .memory) outs
     serve number s B =
         let A : Answering (l .whole .pair) (a .memory) = record { sound = S; pkey = subst (λ x. x .pkey < 2 ^ 16) (sym s) P; some = B .some; memory = subst (λ x. length (a .memory) ≡ x .memory) (sym s) e } in
         read-drained (l .whole .pair) (a .memory) outs A (subst (λ x. l .whole .pair .read .remaining ≡ pieces (l .whole .pair .read .length) (x .pmtu)) (sym s) (B .all))

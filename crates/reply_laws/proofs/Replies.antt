@@ -26,8 +26,8 @@ use Rattle.header.proofs.Lengths.{length-header}
 use Rattle.header.proofs.ReadBack.{read-packet}
 use Rattle.header.proofs.Widths.{bth-fits, extension-fits}
 use Rattle.header.proofs.Writes.{both-fit}
-use Rattle.table.specs.Table.{slotAt}
-use Rattle.table.specs.View.{ringFrom, inRing, later, newest, savedLimit, newestSaved, savedRows}
+use Rattle.table.specs.Table.{savedCapacity, savedSlot}
+use Rattle.table.specs.View.{ringFrom, inRing, later, newest, newestSaved, savedRows}
 use Rattle.table.specs.Claims.{SavedSound}
 use Rattle.table.specs.declared.Ring.{Ring}
 use Rattle.table.specs.declared.Saved.{Saved}
@@ -134,21 +134,21 @@ match-small true v h = h
 match-small false v h = tt
 
 ring-small : (psn : ℕ) (rows : List (List ℕ)) (head n i : ℕ)
-    → ((j : ℕ) → j < i + n → getD (getD rows (slotAt head j) []) 1 0 < 2 ^ 64)
-    → Small (newest psn (ringFrom rows head i n))
+    → ((j : ℕ) → j < i + n → getD (getD rows (savedSlot head j) []) 1 0 < 2 ^ 64)
+    → Small (newest psn (ringFrom savedSlot rows head i n))
 unfolding ringFrom newest
 ring-small psn rows head zero i h = tt
 ring-small psn rows head (suc n) i h =
-    let row = getD rows (slotAt head i) [] in
-    later-small (newest psn (ringFrom rows head (suc i) n)) (cond (eqb (getD row 0 0) psn) (Value (getD row 1 0)) Nothing)
+    let row = getD rows (savedSlot head i) [] in
+    later-small (newest psn (ringFrom savedSlot rows head (suc i) n)) (cond (eqb (getD row 0 0) psn) (Value (getD row 1 0)) Nothing)
     (ring-small psn rows head n (suc i) (λ j k. h j (omega arith)))
     (match-small (eqb (getD row 0 0) psn) (getD row 1 0) (h i (omega arith)))
 
 saved-small : (psn : ℕ) (rows : List (List ℕ)) (r : Ring) → SavedSound rows r → Small (newestSaved psn rows r)
 unfolding newestSaved
-saved-small psn rows r S = go (ltb savedLimit (r .count))
+saved-small psn rows r S = go (ltb savedCapacity (r .count))
   where
-    go : (b : Bool) → Small (cond b Nothing (newest psn (inRing rows r)))
+    go : (b : Bool) → Small (cond b Nothing (newest psn (inRing savedSlot rows r)))
     go true = tt
     go false = ring-small psn rows (r .head) (r .count) 0 (λ j k. S .each j (omega arith) .1)
 
@@ -200,7 +200,8 @@ module _ (arrival : Arrival) (S : Sound (arrival .whole .pair)) (P : arrival .wh
 module _ (arrival : Arrival) where
   abbrev Swapped : Left → Type 0
   Swapped l =
-      (at : ℕ) × ValueSent arrival l (bthOf (arrival .packet) .psn) (wordAt (arrival .memory) at) × (l .whole .saved ≡ savedRows (arrival .whole .saved) (arrival .whole .pair .saved) (bthOf (arrival .packet) .psn .0) (wordAt (arrival .memory) at))
+      (at : ℕ) × ValueSent arrival l (bthOf (arrival .packet) .psn) (wordAt (arrival .memory) at) ×
+      (l .whole .saved ≡ savedRows (arrival .whole .saved) (arrival .whole .pair .saved) (bthOf (arrival .packet) .psn .0) (wordAt (arrival .memory) at))
 
   abbrev DuplicateLeaves : Left → Type 0
   DuplicateLeaves l =
@@ -228,7 +229,8 @@ module _ (arrival : Arrival) where
   Reply status.KeyInUse l = Unit {0}
   Reply status.BadNumber l = Unit {0}
 
-  module _ (S : Sound (arrival .whole .pair)) (P : arrival .whole .pair .setup .pkey < 2 ^ 16) (M : Bytes (arrival .memory)) (B : Bytes (arrival .packet)) (W : SavedSound (arrival .whole .saved) (arrival .whole .pair .saved)) where
+  module _ (S : Sound (arrival .whole .pair)) (P : arrival .whole .pair .setup .pkey < 2 ^ 16) (M : Bytes (arrival .memory))
+      (B : Bytes (arrival .packet)) (W : SavedSound (arrival .whole .saved) (arrival .whole .pair .saved)) where
     store-reply : (t : OpenMessage) (entry region : List ℕ) (b : Bool) → packetIn (arrival .packet) .ackreq ≡ b
         → Reply (cond b status.Acknowledged status.Executed) (leftBy arrival (storePayload (packetIn (arrival .packet)) t entry region))
     unfolding storePayload packetOf headerOf

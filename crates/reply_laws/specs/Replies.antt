@@ -38,10 +38,13 @@ pub record ValueSent (a : Arrival) (l : Left) (psn : Psn) (value : ℕ) : Type 0
 pub record Replies (a : Arrival) (l : Left) : Type 0 where
   pub acknowledged : l .number ≡ 1 → AckSent a l (bthOf (a .packet) .psn) 31
   pub swapped : l .number ≡ 3
-      → (at : ℕ) × ValueSent a l (bthOf (a .packet) .psn) (wordAt (a .memory) at) × (l .whole .saved ≡ savedRows (a .whole .saved) (a .whole .pair .saved) (bthOf (a .packet) .psn .0) (wordAt (a .memory) at))
+      → (at : ℕ) × ValueSent a l (bthOf (a .packet) .psn) (wordAt (a .memory) at)
+      × (l .whole .saved ≡ savedRows (a .whole .saved) (a .whole .pair .saved) (bthOf (a .packet) .psn .0) (wordAt (a .memory) at))
   pub duplicate : l .number ≡ 4
       → AckSent a l (psnAfter (a .whole .pair .expected) 16777215) 31
-      ⊎ (((v : ℕ) × (newestSaved (bthOf (a .packet) .psn .0) (a .whole .saved) (a .whole .pair .saved) ≡ Value v) × ValueSent a l (bthOf (a .packet) .psn) v) ⊎ (l .outgoing ≡ 0))
+      ⊎ (((v : ℕ) × (newestSaved (bthOf (a .packet) .psn .0) (a .whole .saved) (a .whole .pair .saved) ≡ Value v)
+      × ValueSent a l (bthOf (a .packet) .psn) v)
+      ⊎ (l .outgoing ≡ 0))
   pub sequence : l .number ≡ 16 → AckSent a l (a .whole .pair .expected) 96
   pub invalid : l .number ≡ 17 → AckSent a l (bthOf (a .packet) .psn) 97
   pub access : l .number ≡ 18 → AckSent a l (bthOf (a .packet) .psn) 98

@@ -1,5 +1,5 @@
-// The request checks of a responder: tests on numbers, each naming the failing case, and their first failure as one
-// number. The definitions and their laws stand in the crate request_spec.
+// The request checks of a responder: tests on numbers, each naming the failing case, and the number of the first that
+// fails. The definitions and their laws stand in the crate request_spec.
 mod key;
 mod lengths;
 mod place;
@@ -7,12 +7,13 @@ mod place;
 pub use key::key_fails;
 use pair::OpenMessage;
 use pair::Setup;
-use pair::Status;
 pub use place::uses_entry;
 use request_spec::Packet;
+use request_spec::check;
 ghost use mathlib.Core.Path.{_≡_};
-ghost use Rattle.pair.specs.Answer.{statusNumber};
-ghost use Rattle.request_spec.specs.Verdict.{carrying, single, fragment, notEnabled, overLimit, current, requestCodeOf, expectedCodeOf};
+ghost use mathlib.Core.Bool.{cond};
+ghost use Rattle.request_spec.specs.RequestCheck as RequestCheck;
+ghost use Rattle.request_spec.specs.Verdict.{carrying, single, fragment, notEnabled, overLimit, current, keyFails, lengthsOff, requestCheckOf, expectedCheckOf};
 
 // Whether the kind is one of the two that carry bytes.
 pub fn carrying(kind: u8) -> bool
@@ -91,8 +92,24 @@ pub fn fragment(p: Packet) -> bool
     false
 }
 
+// The last two checks, of the key and of the lengths. In one function with those before them, the compiler does not
+// inline the lengths, and a packet takes some 50 instructions more.
+fn bytes_check(p: Packet, m: OpenMessage, s: Setup, region: [u64; 7], most: u64) -> u8
+    ensures { λ r. ⌜ r ≡ cond (keyFails (s .memory) (p .kind) m region) RequestCheck.key (cond (lengthsOff p (s .pmtu) m most) RequestCheck.lengths RequestCheck.none) ⌝ }
+{
+    let lacking = key_fails(s.memory, p.kind, m, region);
+    if lacking {
+        return check::KEY;
+    }
+    let bad = lengths::lengths_off(p, s.pmtu, m, most);
+    if bad {
+        return check::LENGTHS;
+    }
+    check::NONE
+}
+
 // The checks but that of the sequence. Apart from that one, so that the compiler inlines all of them.
-fn request_status(
+fn request_check(
     p: Packet,
     m: OpenMessage,
     opened: u8,
@@ -100,42 +117,34 @@ fn request_status(
     count: usize,
     region: [u64; 7],
     entry: [u64; 3],
-) -> Status
-    ensures { λ r. ⌜ statusNumber r ≡ requestCodeOf s opened m p count entry region ⌝ }
+) -> u8
+    ensures { λ r. ⌜ r ≡ requestCheckOf s opened m p count entry region ⌝ }
 {
     let off = not_enabled(s, p.kind);
     if off {
-        return Status::InvalidRequestNak;
+        return check::FUNCTION;
     }
     let early = place::pad_early(p.place, p.pad);
     if early {
-        return Status::InvalidRequestNak;
+        return check::PAD;
     }
     let long = over_limit(p.operands.length);
     if long {
-        return Status::InvalidRequestNak;
+        return check::DMA_LENGTH;
     }
     let unready = place::none_waiting(p.kind, p.place, p.operands.immediate, opened, count);
     if unready {
-        return Status::NotReadyNak;
+        return check::ENTRY;
     }
     let stray = place::entry_outside(p.kind, p.operands.immediate, entry, s.memory);
     if stray {
-        return Status::OutOfRange;
+        return check::ENTRY_OUTSIDE;
     }
-    let lacking = key_fails(s.memory, p.kind, m, region);
-    if lacking {
-        return Status::AccessNak;
-    }
-    let bad = lengths::lengths_off(p, s.pmtu, m, entry[table::ENTRY_LENGTH]);
-    if bad {
-        return Status::InvalidRequestNak;
-    }
-    Status::Executed
+    bytes_check(p, m, s, region, entry[table::ENTRY_LENGTH])
 }
 
-// The request checks, for a packet of the message m: the answer of the first that fails, or that none does.
-pub fn expected_status(
+// The request checks, for a packet of the message m: the first that fails, or none.
+pub fn expected_check(
     s: Setup,
     opened: u8,
     m: OpenMessage,
@@ -143,12 +152,12 @@ pub fn expected_status(
     count: usize,
     entry: [u64; 3],
     region: [u64; 7],
-) -> Status
-    ensures { λ r. ⌜ statusNumber r ≡ expectedCodeOf s opened m p count entry region ⌝ }
+) -> u8
+    ensures { λ r. ⌜ r ≡ expectedCheckOf s opened m p count entry region ⌝ }
 {
     let unexpected = place::out_of_sequence(opened, p.kind, p.place);
     if unexpected {
-        return Status::InvalidRequestNak;
+        return check::SEQUENCE;
     }
-    request_status(p, m, opened, s, count, region, entry)
+    request_check(p, m, opened, s, count, region, entry)
 }

@@ -1,3 +1,4 @@
 pub mod Conditions
 pub mod Order
+pub mod Answered
 pub mod Taken

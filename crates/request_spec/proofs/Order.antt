@@ -1,14 +1,16 @@
 -- The order of the request checks.
-use Prim.Native.Nat.{ℕ}
+use Prim.Native.Nat.{ℕ, _≤_}
 use mathlib.Core.Path.{_≡_, refl, sym, subst, _∙_}
 use mathlib.Core.Bool.{Bool, true, false, cond, true≢false}
-use mathlib.Core.Logic.{_⊎_, inl, inr}
+use mathlib.Core.Logic.{inl, inr}
 use native.Mathlib.Omega.{arith}
+use lib.Dec.{eqb}
 use lib.ListN.{getD}
+use borrow.Author.Tests.{eqb-false}
 use Rattle.pair.specs.declared.Setup.{Setup}
 use Rattle.pair.specs.declared.OpenMessage.{OpenMessage}
 use Rattle.request_spec.specs.declared.Packet.{Packet}
-use Rattle.request_spec.specs.Verdict.{outOfSequence, notEnabled, padEarly, overLimit, noneWaiting, entryOutside, keyFails, lengthsOff, current, requestCode, expectedCode}
+use Rattle.request_spec.specs.Verdict.{outOfSequence, notEnabled, padEarly, overLimit, noneWaiting, entryOutside, keyFails, lengthsOff, current, requestCheck, expectedCheck}
 use Rattle.request_spec.specs.Claims.{Place, Served, Enabled, IsCurrent, Tells, Judged, JudgedBy, Order}
 use Rattle.request_spec.proofs.Conditions.{current-tested, sequence-tested, enabled-tested, pad-tested, limit-tested, entry-tested, inside-tested, key-tested, lengths-tested}
 
@@ -40,120 +42,157 @@ refutes : (b : Bool) (Good : Type 0) → (Good → b ≡ false) → b ≡ true �
 refutes b Good f t x = true≢false (sym t ∙ f x)
 
 -- a cascade with another value than its first test gives goes on, and one with a value that comes nowhere later stops
-pass : (b : Bool) (n x v : ℕ) → (n ≡ v → ⊥) → cond b n x ≡ v → (b ≡ false) × (x ≡ v)
-pass true n x v z e = absurd (z e)
+pass : (b : Bool) (n x v : ℕ) → eqb n v ≡ false → cond b n x ≡ v → (b ≡ false) × (x ≡ v)
+pass true n x v z e = absurd (eqb-false n v z e)
 pass false n x v z e = (refl, e)
 
 stop : (b : Bool) (n x v : ℕ) → (x ≡ v → ⊥) → cond b n x ≡ v → b ≡ true
 stop true n x v z e = refl
 stop false n x v z e = absurd (z e)
 
-after-key : (h : Bool) → _≡_ {A = ℕ} (cond h 17 0) 18 → ⊥
-after-key true e = omega arith
-after-key false e = omega arith
+-- a value that no test gives does not come, and none over the greatest
+never : (b : Bool) (n x v : ℕ) → eqb n v ≡ false → (x ≡ v → ⊥) → cond b n x ≡ v → ⊥
+never true n x v z k e = eqb-false n v z e
+never false n x v z k e = k e
 
-after-inside : (g h : Bool) → _≡_ {A = ℕ} (cond g 18 (cond h 17 0)) 34 → ⊥
-after-inside true h e = omega arith
-after-inside false true e = omega arith
-after-inside false false e = omega arith
-
-after-waiting : (f g h : Bool) → _≡_ {A = ℕ} (cond f 34 (cond g 18 (cond h 17 0))) 19 → ⊥
-after-waiting true g h e = omega arith
-after-waiting false true h e = omega arith
-after-waiting false false true e = omega arith
-after-waiting false false false e = omega arith
-
-abbrev coded : Bool → Bool → Bool → Bool → Bool → Bool → Bool → Bool → ℕ
-coded a b c d e f g h = cond a 17 (cond b 17 (cond c 17 (cond d 17 (cond e 19 (cond f 34 (cond g 18 (cond h 17 0)))))))
-
-one-of : (a b c d e f g h : Bool)
-    → (coded a b c d e f g h ≡ 0)
-    ⊎ ((coded a b c d e f g h ≡ 17) ⊎ ((coded a b c d e f g h ≡ 18) ⊎ ((coded a b c d e f g h ≡ 19) ⊎ (coded a b c d e f g h ≡ 34))))
-one-of true b c d e f g h = inr (inl refl)
-one-of false true c d e f g h = inr (inl refl)
-one-of false false true d e f g h = inr (inl refl)
-one-of false false false true e f g h = inr (inl refl)
-one-of false false false false true f g h = inr (inr (inr (inl refl)))
-one-of false false false false false true g h = inr (inr (inr (inr refl)))
-one-of false false false false false false true h = inr (inr (inl refl))
-one-of false false false false false false false true = inr (inl refl)
-one-of false false false false false false false false = inl refl
+within : (b : Bool) (n x v : ℕ) → n ≤ v → x ≤ v → cond b n x ≤ v
+within true n x v h k = h
+within false n x v h k = k
 
 module _ (A B C D E F G H : Type 0) (a b c d e f g h : Bool) (sa : Tells a A) (sb : Tells b B) (sc : Tells c C) (sd : Tells d D) (se : Tells e E)
     (sf : Tells f F) (sg : B → Tells g G) (sh : B → Tells h H) where
-  -- any code but 17: the first four hold
-  four : (v : ℕ) → (17 ≡ v → ⊥) → coded a b c d e f g h ≡ v → (A × B × C × D) × (cond e 19 (cond f 34 (cond g 18 (cond h 17 0))) ≡ v)
-  four v n q =
-      let pa = pass a 17 _ v n q in
-      let pb = pass b 17 _ v n (pa .1) in
-      let pc = pass c 17 _ v n (pb .1) in
-      let pd = pass d 17 _ v n (pc .1) in
-      ((sa .0 (pa .0), sb .0 (pb .0), sc .0 (pc .0), sd .0 (pd .0)), pd .1)
+  -- the cascade, from each check on
+  abbrev from7 : ℕ
+  from7 = cond h 7 0
 
-  seventeen : coded a b c d e f g h ≡ 17 → ((A × B × C × D) → ⊥) ⊎ (E × F × G × (H → ⊥))
-  seventeen q = go a b c d refl refl refl refl
-    where
-      go : (w x y z : Bool) → a ≡ w → b ≡ x → c ≡ y → d ≡ z → ((A × B × C × D) → ⊥) ⊎ (E × F × G × (H → ⊥))
-      go true x y z i j k l = inl (λ T. refutes a A (sa .1) i (T .0))
-      go false true y z i j k l = inl (λ T. refutes b B (sb .1) j (T .1))
-      go false false true z i j k l = inl (λ T. refutes c C (sc .1) k (T .2))
-      go false false false true i j k l = inl (λ T. refutes d D (sd .1) l (T .3))
-      go false false false false i j k l =
-          let r : _≡_ {A = ℕ} (cond e 19 (cond f 34 (cond g 18 (cond h 17 0)))) 17 = rw (i, j, k, l) at q in
-          let pe = pass e 19 _ 17 (λ n. omega arith) r in
-          let pf = pass f 34 _ 17 (λ n. omega arith) (pe .1) in
-          let pg = pass g 18 _ 17 (λ n. omega arith) (pf .1) in
-          let ph = stop h 17 0 17 (λ n. omega arith) (pg .1) in
-          let y = sb .0 j in
-          inr (se .0 (pe .0), sf .0 (pf .0), sg y .0 (pg .0), refutes h H (sh y .1) ph)
+  abbrev from6 : ℕ
+  from6 = cond g 6 from7
 
-  judged : Judged A B C D E F G H (coded a b c d e f g h)
+  abbrev from8 : ℕ
+  from8 = cond f 8 from6
+
+  abbrev from5 : ℕ
+  from5 = cond e 5 from8
+
+  abbrev from4 : ℕ
+  from4 = cond d 4 from5
+
+  abbrev from3 : ℕ
+  from3 = cond c 3 from4
+
+  abbrev from2 : ℕ
+  from2 = cond b 2 from3
+
+  abbrev from1 : ℕ
+  from1 = cond a 1 from2
+
+  -- with another number than those of the first checks, these hold
+  one : (v : ℕ) → eqb 1 v ≡ false → from1 ≡ v → A × (from2 ≡ v)
+  one v z1 q = let p = pass a 1 _ v z1 q in (sa .0 (p .0), p .1)
+
+  two : (v : ℕ) → eqb 1 v ≡ false → eqb 2 v ≡ false → from1 ≡ v → A × B × (from3 ≡ v)
+  two v z1 z2 q =
+      let t = one v z1 q in
+      let p = pass b 2 _ v z2 (t .1) in
+      (t .0, sb .0 (p .0), p .1)
+
+  three : (v : ℕ) → eqb 1 v ≡ false → eqb 2 v ≡ false → eqb 3 v ≡ false → from1 ≡ v → A × B × C × (from4 ≡ v)
+  three v z1 z2 z3 q =
+      let t = two v z1 z2 q in
+      let p = pass c 3 _ v z3 (t .2) in
+      (t .0, t .1, sc .0 (p .0), p .1)
+
+  four : (v : ℕ) → eqb 1 v ≡ false → eqb 2 v ≡ false → eqb 3 v ≡ false → eqb 4 v ≡ false → from1 ≡ v → A × B × C × D × (from5 ≡ v)
+  four v z1 z2 z3 z4 q =
+      let t = three v z1 z2 z3 q in
+      let p = pass d 4 _ v z4 (t .3) in
+      (t .0, t .1, t .2, sd .0 (p .0), p .1)
+
+  five : (v : ℕ) → eqb 1 v ≡ false → eqb 2 v ≡ false → eqb 3 v ≡ false → eqb 4 v ≡ false → eqb 5 v ≡ false → from1 ≡ v → A × B × C × D × E × (from8 ≡ v)
+  five v z1 z2 z3 z4 z5 q =
+      let t = four v z1 z2 z3 z4 q in
+      let p = pass e 5 _ v z5 (t .4) in
+      (t .0, t .1, t .2, t .3, se .0 (p .0), p .1)
+
+  six : (v : ℕ) → eqb 1 v ≡ false → eqb 2 v ≡ false → eqb 3 v ≡ false → eqb 4 v ≡ false → eqb 5 v ≡ false → eqb 8 v ≡ false → from1 ≡ v → A × B × C × D × E × F × (from6 ≡ v)
+  six v z1 z2 z3 z4 z5 z8 q =
+      let t = five v z1 z2 z3 z4 z5 q in
+      let p = pass f 8 _ v z8 (t .5) in
+      (t .0, t .1, t .2, t .3, t .4, sf .0 (p .0), p .1)
+
+  seven : (v : ℕ) → eqb 1 v ≡ false → eqb 2 v ≡ false → eqb 3 v ≡ false → eqb 4 v ≡ false → eqb 5 v ≡ false → eqb 8 v ≡ false → eqb 6 v ≡ false → from1 ≡ v → A × B × C × D × E × F × G × (from7 ≡ v)
+  seven v z1 z2 z3 z4 z5 z8 z6 q =
+      let t = six v z1 z2 z3 z4 z5 z8 q in
+      let p = pass g 6 _ v z6 (t .6) in
+      (t .0, t .1, t .2, t .3, t .4, t .5, sg (t .1) .0 (p .0), p .1)
+
+  eight : (v : ℕ) → eqb 1 v ≡ false → eqb 2 v ≡ false → eqb 3 v ≡ false → eqb 4 v ≡ false → eqb 5 v ≡ false → eqb 8 v ≡ false
+      → eqb 6 v ≡ false → eqb 7 v ≡ false → from1 ≡ v → A × B × C × D × E × F × G × H × (0 ≡ v)
+  eight v z1 z2 z3 z4 z5 z8 z6 z7 q =
+      let t = seven v z1 z2 z3 z4 z5 z8 z6 q in
+      let p = pass h 7 _ v z7 (t .7) in
+      (t .0, t .1, t .2, t .3, t .4, t .5, t .6, sh (t .1) .0 (p .0), p .1)
+
+  judged : Judged A B C D E F G H from1
   judged =
       record {
-        sequence = λ n. rw (fails a A (sa .0) n);
-        function = λ x n. rw (sa .1 x, fails b B (sb .0) n);
-        pad = λ x y n. rw (sa .1 x, sb .1 y, fails c C (sc .0) n);
-        limit = λ x y z n. rw (sa .1 x, sb .1 y, sc .1 z, fails d D (sd .0) n);
-        waiting = λ x y z u n. rw (sa .1 x, sb .1 y, sc .1 z, sd .1 u, fails e E (se .0) n);
-        inside = λ x y z u v n. rw (sa .1 x, sb .1 y, sc .1 z, sd .1 u, se .1 v, fails f F (sf .0) n);
-        key = λ x y z u v w n. rw (sa .1 x, sb .1 y, sc .1 z, sd .1 u, se .1 v, sf .1 w, fails g G (sg y .0) n);
-        lengths = λ x y z u v w k n. rw (sa .1 x, sb .1 y, sc .1 z, sd .1 u, se .1 v, sf .1 w, sg y .1 k, fails h H (sh y .0) n);
-        good = λ x y z u v w k l. rw (sa .1 x, sb .1 y, sc .1 z, sd .1 u, se .1 v, sf .1 w, sg y .1 k, sh y .1 l);
-        only =
-            λ q.
-            let t = four 0 (λ n. omega arith) q in
-            let T = t .0 in
-            let pe = pass e 19 _ 0 (λ n. omega arith) (t .1) in
-            let pf = pass f 34 _ 0 (λ n. omega arith) (pe .1) in
-            let pg = pass g 18 _ 0 (λ n. omega arith) (pf .1) in
-            let ph = pass h 17 _ 0 (λ n. omega arith) (pg .1) in
-            (T .0, T .1, T .2, T .3, se .0 (pe .0), sf .0 (pf .0), sg (T .1) .0 (pg .0), sh (T .1) .0 (ph .0));
-        only19 =
-            λ q.
-            let t = four 19 (λ n. omega arith) q in
-            let T = t .0 in
-            (T .0, T .1, T .2, T .3, refutes e E (se .1) (stop e 19 _ 19 (after-waiting f g h) (t .1)));
-        only34 =
-            λ q.
-            let t = four 34 (λ n. omega arith) q in
-            let T = t .0 in
-            let pe = pass e 19 _ 34 (λ n. omega arith) (t .1) in
-            (T .0, T .1, T .2, T .3, se .0 (pe .0), refutes f F (sf .1) (stop f 34 _ 34 (after-inside g h) (pe .1)));
-        only18 =
-            λ q.
-            let t = four 18 (λ n. omega arith) q in
-            let T = t .0 in
-            let pe = pass e 19 _ 18 (λ n. omega arith) (t .1) in
-            let pf = pass f 34 _ 18 (λ n. omega arith) (pe .1) in
-            (T .0, T .1, T .2, T .3, se .0 (pe .0), sf .0 (pf .0), refutes g G (sg (T .1) .1) (stop g 18 _ 18 (after-key h) (pf .1)));
-        only17 = seventeen;
-        codes = one-of a b c d e f g h;
+        none = (
+          λ q. let t = eight 0 refl refl refl refl refl refl refl refl q in (t .0, t .1, t .2, t .3, t .4, t .5, t .6, t .7),
+          λ t. rw (sa .1 (t .0), sb .1 (t .1), sc .1 (t .2), sd .1 (t .3), se .1 (t .4), sf .1 (t .5), sg (t .1) .1 (t .6), sh (t .1) .1 (t .7)),
+        );
+        sequence = (
+          λ q. refutes a A (sa .1) (stop a 1 _ 1 (never b 2 _ 1 refl (never c 3 _ 1 refl (never d 4 _ 1 refl (never e 5 _ 1 refl (never f 8 _ 1 refl (never g 6 _ 1 refl (never h 7 _ 1 refl (λ z. eqb-false 0 1 refl z)))))))) q),
+          λ t. rw (fails a A (sa .0) t),
+        );
+        function = (
+          λ q.
+              let t = one 2 refl q in
+              (t .0, refutes b B (sb .1) (stop b 2 _ 2 (never c 3 _ 2 refl (never d 4 _ 2 refl (never e 5 _ 2 refl (never f 8 _ 2 refl (never g 6 _ 2 refl (never h 7 _ 2 refl (λ z. eqb-false 0 2 refl z))))))) (t .1))),
+          λ t. rw (sa .1 (t .0), fails b B (sb .0) (t .1)),
+        );
+        pad = (
+          λ q.
+              let t = two 3 refl refl q in
+              (t .0, t .1, refutes c C (sc .1) (stop c 3 _ 3 (never d 4 _ 3 refl (never e 5 _ 3 refl (never f 8 _ 3 refl (never g 6 _ 3 refl (never h 7 _ 3 refl (λ z. eqb-false 0 3 refl z)))))) (t .2))),
+          λ t. rw (sa .1 (t .0), sb .1 (t .1), fails c C (sc .0) (t .2)),
+        );
+        limit = (
+          λ q.
+              let t = three 4 refl refl refl q in
+              (t .0, t .1, t .2, refutes d D (sd .1) (stop d 4 _ 4 (never e 5 _ 4 refl (never f 8 _ 4 refl (never g 6 _ 4 refl (never h 7 _ 4 refl (λ z. eqb-false 0 4 refl z))))) (t .3))),
+          λ t. rw (sa .1 (t .0), sb .1 (t .1), sc .1 (t .2), fails d D (sd .0) (t .3)),
+        );
+        waiting = (
+          λ q.
+              let t = four 5 refl refl refl refl q in
+              (t .0, t .1, t .2, t .3, refutes e E (se .1) (stop e 5 _ 5 (never f 8 _ 5 refl (never g 6 _ 5 refl (never h 7 _ 5 refl (λ z. eqb-false 0 5 refl z)))) (t .4))),
+          λ t. rw (sa .1 (t .0), sb .1 (t .1), sc .1 (t .2), sd .1 (t .3), fails e E (se .0) (t .4)),
+        );
+        inside = (
+          λ q.
+              let t = five 8 refl refl refl refl refl q in
+              (t .0, t .1, t .2, t .3, t .4, refutes f F (sf .1) (stop f 8 _ 8 (never g 6 _ 8 refl (never h 7 _ 8 refl (λ z. eqb-false 0 8 refl z))) (t .5))),
+          λ t. rw (sa .1 (t .0), sb .1 (t .1), sc .1 (t .2), sd .1 (t .3), se .1 (t .4), fails f F (sf .0) (t .5)),
+        );
+        key = (
+          λ q.
+              let t = six 6 refl refl refl refl refl refl q in
+              (t .0, t .1, t .2, t .3, t .4, t .5, refutes g G (sg (t .1) .1) (stop g 6 _ 6 (never h 7 _ 6 refl (λ z. eqb-false 0 6 refl z)) (t .6))),
+          λ t. rw (sa .1 (t .0), sb .1 (t .1), sc .1 (t .2), sd .1 (t .3), se .1 (t .4), sf .1 (t .5), fails g G (sg (t .1) .0) (t .6)),
+        );
+        lengths = (
+          λ q.
+              let t = seven 7 refl refl refl refl refl refl refl q in
+              (t .0, t .1, t .2, t .3, t .4, t .5, t .6, refutes h H (sh (t .1) .1) (stop h 7 _ 7 (λ z. eqb-false 0 7 refl z) (t .7))),
+          λ t. rw (sa .1 (t .0), sb .1 (t .1), sc .1 (t .2), sd .1 (t .3), se .1 (t .4), sf .1 (t .5), sg (t .1) .1 (t .6), fails h H (sh (t .1) .0) (t .7)),
+        );
+        most = within a 1 _ 8 (omega arith) (within b 2 _ 8 (omega arith) (within c 3 _ 8 (omega arith) (within d 4 _ 8 (omega arith) (within e 5 _ 8 (omega arith) (within f 8 _ 8 (omega arith) (within g 6 _ 8 (omega arith) (within h 7 _ 8 (omega arith) (omega arith))))))));
       }
 
 pub order : Order
-unfolding expectedCode requestCode
+unfolding expectedCheck requestCheck
 order s opened p m count entry region P C =
-    subst (λ x. JudgedBy s opened p x count entry region (expectedCode s opened p count entry region)) (sym (current-one opened p m P C))
+    subst (λ x. JudgedBy s opened p x count entry region (expectedCheck s opened p count entry region)) (sym (current-one opened p m P C))
     (judged _ _ _ _ _ _ _ _ (outOfSequence (opened .kind) (p .kind) (p .place)) (notEnabled s (p .kind)) (padEarly (p .place) (p .pad))
     (overLimit (p .operands .length)) (noneWaiting (p .kind) (p .place) (p .operands .immediate) (opened .kind) count)
     (entryOutside (p .kind) (p .operands .immediate) entry (s .memory)) (keyFails (s .memory) (p .kind) (current opened p) region)

@@ -16,7 +16,7 @@ use Rattle.pair.specs.declared.OpenMessage.{OpenMessage}
 use Rattle.request_spec.specs.declared.Operands.{Operands}
 use Rattle.request_spec.specs.declared.Packet.{Packet}
 use Rattle.request_spec.specs.Packet.{packetOf, admission, admissionNumber}
-use Rattle.request_spec.specs.Verdict.{outOfSequence, notEnabled, padEarly, overLimit, noneWaiting, entryOutside, keyFails, lengthsOff, current, expectedCode}
+use Rattle.request_spec.specs.Verdict.{outOfSequence, notEnabled, padEarly, overLimit, noneWaiting, entryOutside, keyFails, lengthsOff, current, expectedCheck, checkAnswer}
 
 -- Places: 0 First, 1 Middle, 2 Last, 4 Only. First and Only begin a message, Middle and Last go on with one; First and
 -- Middle are followed by more, Last and Only end it.
@@ -165,24 +165,23 @@ LengthsTested =
     (p : Packet) (pmtu : ℕ) (m : OpenMessage) (most : ℕ) → Place (p .place) → Served (p .kind)
     → Tells (lengthsOff p pmtu m most) (LengthsGood p pmtu m most)
 
--- The code of eight conditions, in this order: the first that fails decides, whatever the later ones are; 0 if none
--- does. And back: each code says what held and what did not, and no other code comes.
-pub record Judged (Sequence Function Pad Limit Waiting Inside Key Lengths : Type 0) (code : ℕ) : Type 0 where
-  pub sequence : (Sequence → ⊥) → code ≡ 17
-  pub function : Sequence → (Function → ⊥) → code ≡ 17
-  pub pad : Sequence → Function → (Pad → ⊥) → code ≡ 17
-  pub limit : Sequence → Function → Pad → (Limit → ⊥) → code ≡ 17
-  pub waiting : Sequence → Function → Pad → Limit → (Waiting → ⊥) → code ≡ 19
-  pub inside : Sequence → Function → Pad → Limit → Waiting → (Inside → ⊥) → code ≡ 34
-  pub key : Sequence → Function → Pad → Limit → Waiting → Inside → (Key → ⊥) → code ≡ 18
-  pub lengths : Sequence → Function → Pad → Limit → Waiting → Inside → Key → (Lengths → ⊥) → code ≡ 17
-  pub good : Sequence → Function → Pad → Limit → Waiting → Inside → Key → Lengths → code ≡ 0
-  pub only : code ≡ 0 → Sequence × Function × Pad × Limit × Waiting × Inside × Key × Lengths
-  pub only19 : code ≡ 19 → Sequence × Function × Pad × Limit × (Waiting → ⊥)
-  pub only34 : code ≡ 34 → Sequence × Function × Pad × Limit × Waiting × (Inside → ⊥)
-  pub only18 : code ≡ 18 → Sequence × Function × Pad × Limit × Waiting × Inside × (Key → ⊥)
-  pub only17 : code ≡ 17 → ((Sequence × Function × Pad × Limit) → ⊥) ⊎ (Waiting × Inside × Key × (Lengths → ⊥))
-  pub codes : (code ≡ 0) ⊎ ((code ≡ 17) ⊎ ((code ≡ 18) ⊎ ((code ≡ 19) ⊎ (code ≡ 34))))
+-- A number is n where a case holds, and nowhere else.
+abbrev pub Means : ℕ → ℕ → Type 0 → Type 0
+Means number n Case = (number ≡ n → Case) × (Case → number ≡ n)
+
+-- The check that fails, of eight with these conditions: n where those before it hold and its own does not, whatever the
+-- later ones are; 0 where all hold. The entry's row, 8, comes between 5 and 6; no other number comes.
+pub record Judged (Sequence Function Pad Limit Waiting Inside Key Lengths : Type 0) (check : ℕ) : Type 0 where
+  pub none : Means check 0 (Sequence × Function × Pad × Limit × Waiting × Inside × Key × Lengths)
+  pub sequence : Means check 1 (Sequence → ⊥)
+  pub function : Means check 2 (Sequence × (Function → ⊥))
+  pub pad : Means check 3 (Sequence × Function × (Pad → ⊥))
+  pub limit : Means check 4 (Sequence × Function × Pad × (Limit → ⊥))
+  pub waiting : Means check 5 (Sequence × Function × Pad × Limit × (Waiting → ⊥))
+  pub inside : Means check 8 (Sequence × Function × Pad × Limit × Waiting × (Inside → ⊥))
+  pub key : Means check 6 (Sequence × Function × Pad × Limit × Waiting × Inside × (Key → ⊥))
+  pub lengths : Means check 7 (Sequence × Function × Pad × Limit × Waiting × Inside × Key × (Lengths → ⊥))
+  pub most : check ≤ 8
 
 -- The request checks, of a packet of the message m.
 abbrev pub JudgedBy : Setup → OpenMessage → Packet → OpenMessage → ℕ → List ℕ → List ℕ → ℕ → Type 0
@@ -196,7 +195,18 @@ abbrev pub Order : Type 0
 Order =
     (s : Setup) (opened : OpenMessage) (p : Packet) (m : OpenMessage) (count : ℕ) (entry region : List ℕ) → Place (p .place)
     → IsCurrent opened p m
-    → JudgedBy s opened p m count entry region (expectedCode s opened p count entry region)
+    → JudgedBy s opened p m count entry region (expectedCheck s opened p count entry region)
+
+-- The answer that a check has.
+pub record AnswerOf (check answer : ℕ) : Type 0 where
+  pub executed : Means answer 0 (check ≡ 0)
+  pub invalid : Means answer 17 ((check ≡ 1) ⊎ ((check ≡ 2) ⊎ ((check ≡ 3) ⊎ ((check ≡ 4) ⊎ (check ≡ 7)))))
+  pub access : Means answer 18 (check ≡ 6)
+  pub unready : Means answer 19 (check ≡ 5)
+  pub outside : Means answer 34 (check ≡ 8)
+
+abbrev pub CheckAnswered : Type 0
+CheckAnswered = (check : ℕ) → check ≤ 8 → AnswerOf check (checkAnswer check)
 
 -- What is taken from a packet's bytes. From the BTH, of every packet; the bytes behind the headers are the rest.
 pub record FromBth (bytes : List ℕ) (n : ℕ) (p : Packet) : Type 0 where

@@ -1,3 +1,4 @@
 pub mod Packet
+pub mod RequestCheck
 pub mod Verdict
 pub mod Claims

@@ -15,6 +15,7 @@ use Rattle.pair.specs.Sound.{memoryLimit}
 use Rattle.pair.specs.declared.Setup.{Setup}
 use Rattle.pair.specs.declared.OpenMessage.{OpenMessage}
 use Rattle.request_spec.specs.Packet.{atomicLength}
+use Rattle.request_spec.specs.RequestCheck as RequestCheck
 use Rattle.request_spec.specs.declared.Packet.{Packet}
 
 -- SEND and WRITE, whose numbers are the lowest, carry bytes
@@ -130,27 +131,35 @@ current opened p =
     (record { kind = p .kind; stored = 0; address = p .operands .address; key = p .operands .key; length = p .operands .length })
     opened
 
--- The checks but the first: the number of the answer, that of executed where none fails. By the set-up, the kind of the
--- open message, the message m that the packet is of, the packet, the count of entries, the entry's row and the region's
-abbrev pub requestCodeOf : Setup → ℕ → OpenMessage → Packet → ℕ → List ℕ → List ℕ → ℕ
-requestCodeOf s opened m p count entry region =
-    cond (notEnabled s (p .kind)) Number.invalidRequestNak
-    (cond (padEarly (p .place) (p .pad)) Number.invalidRequestNak
-    (cond (overLimit (p .operands .length)) Number.invalidRequestNak
-    (cond (noneWaiting (p .kind) (p .place) (p .operands .immediate) opened count) Number.notReadyNak
-    (cond (entryOutside (p .kind) (p .operands .immediate) entry (s .memory)) Number.outOfRange
-    (cond (keyFails (s .memory) (p .kind) m region) Number.accessNak
-    (cond (lengthsOff p (s .pmtu) m (EntryRow.length entry)) Number.invalidRequestNak Number.executed))))))
+-- The checks but the first: which one failed first, or none. By the set-up, the kind of the open message, the message m
+-- that the packet is of, the packet, the count of entries, the entry's row and the region's
+abbrev pub requestCheckOf : Setup → ℕ → OpenMessage → Packet → ℕ → List ℕ → List ℕ → ℕ
+requestCheckOf s opened m p count entry region =
+    cond (notEnabled s (p .kind)) RequestCheck.function
+    (cond (padEarly (p .place) (p .pad)) RequestCheck.pad
+    (cond (overLimit (p .operands .length)) RequestCheck.dmaLength
+    (cond (noneWaiting (p .kind) (p .place) (p .operands .immediate) opened count) RequestCheck.entry
+    (cond (entryOutside (p .kind) (p .operands .immediate) entry (s .memory)) RequestCheck.entryOutside
+    (cond (keyFails (s .memory) (p .kind) m region) RequestCheck.key
+    (cond (lengthsOff p (s .pmtu) m (EntryRow.length entry)) RequestCheck.lengths RequestCheck.none))))))
 
 -- All of them, on RC
-abbrev pub expectedCodeOf : Setup → ℕ → OpenMessage → Packet → ℕ → List ℕ → List ℕ → ℕ
-expectedCodeOf s opened m p count entry region =
-    cond (outOfSequence opened (p .kind) (p .place)) Number.invalidRequestNak (requestCodeOf s opened m p count entry region)
+abbrev pub expectedCheckOf : Setup → ℕ → OpenMessage → Packet → ℕ → List ℕ → List ℕ → ℕ
+expectedCheckOf s opened m p count entry region =
+    cond (outOfSequence opened (p .kind) (p .place)) RequestCheck.sequence (requestCheckOf s opened m p count entry region)
 
 -- The same, of the message that the packet is of while this one is open
-unfoldable pub requestCode : Setup → OpenMessage → Packet → ℕ → List ℕ → List ℕ → ℕ
-requestCode s opened p count entry region = requestCodeOf s (opened .kind) (current opened p) p count entry region
+unfoldable pub requestCheck : Setup → OpenMessage → Packet → ℕ → List ℕ → List ℕ → ℕ
+requestCheck s opened p count entry region = requestCheckOf s (opened .kind) (current opened p) p count entry region
 
-unfoldable pub expectedCode : Setup → OpenMessage → Packet → ℕ → List ℕ → List ℕ → ℕ
-expectedCode s opened p count entry region =
-    cond (outOfSequence (opened .kind) (p .kind) (p .place)) Number.invalidRequestNak (requestCode s opened p count entry region)
+unfoldable pub expectedCheck : Setup → OpenMessage → Packet → ℕ → List ℕ → List ℕ → ℕ
+expectedCheck s opened p count entry region =
+    cond (outOfSequence (opened .kind) (p .kind) (p .place)) RequestCheck.sequence (requestCheck s opened p count entry region)
+
+-- The number of the answer, by the check that failed; by all but these the request is invalid
+unfoldable pub checkAnswer : ℕ → ℕ
+checkAnswer check =
+    cond (eqb check RequestCheck.none) Number.executed
+    (cond (eqb check RequestCheck.entry) Number.notReadyNak
+    (cond (eqb check RequestCheck.key) Number.accessNak
+    (cond (eqb check RequestCheck.entryOutside) Number.outOfRange Number.invalidRequestNak)))

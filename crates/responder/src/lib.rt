@@ -1,5 +1,5 @@
-// The two calls of a responder: a packet comes in, and the next response of a READ goes out. The definitions and their
-// laws stand in the crate responder_spec.
+// The two calls of a responder: a packet comes in, and the next response of a READ goes out. The definitions stand
+// in the crate responder_spec.
 mod refuse;
 mod response;
 
@@ -47,9 +47,9 @@ fn outcome_with(pair: Pair, d: Decision) -> Outcome
 // udalopek.
 pub fn decided(
     pair: Pair,
-    regions: &[[u64; 7]; 16],
-    entries: &[[u64; 3]; 16],
-    saved: &[[u64; 2]; 16],
+    regions: &[[u64; 7]; table::REGIONS],
+    entries: &[[u64; 3]; table::ENTRIES],
+    saved: &[[u64; 2]; table::SAVED],
     mem: &[u8],
     packet: &[u8],
     out: &[u8],
@@ -76,9 +76,9 @@ pub fn decided(
 // Takes a packet: the decision, and what it does to memory, saved atomics, pair and output.
 pub fn inbound(
     pair: Pair,
-    regions: &[[u64; 7]; 16],
-    entries: &[[u64; 3]; 16],
-    saved: &mut [[u64; 2]; 16],
+    regions: &[[u64; 7]; table::REGIONS],
+    entries: &[[u64; 3]; table::ENTRIES],
+    saved: &mut [[u64; 2]; table::SAVED],
     mem: &mut [u8],
     packet: &[u8],
     out: &mut [u8],

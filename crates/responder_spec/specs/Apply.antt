@@ -8,7 +8,7 @@ use Rattle.sequence.specs.Sequence.{psnAfter, msnNext}
 use Rattle.sequence.specs.declared.Msn.{Msn}
 use Rattle.memory.specs.Memory.{store}
 use Rattle.memory.specs.Word.{wordAt, fetchAdded, swapped}
-use Rattle.table.specs.Table.{slotAt}
+use Rattle.table.specs.Table.{entrySlot}
 use Rattle.table.specs.View.{savedRing, savedRows}
 use Rattle.table.specs.declared.Ring.{Ring}
 use Rattle.pair.specs.Answer.{statusNumber}
@@ -39,7 +39,7 @@ savedRingBy ring act = cond (actsAtomic act) (savedRing ring) ring
 
 -- the entry at the head is done with; it was held, or waited
 unfoldable pub ringTaken : Ring → Ring
-ringTaken r = record { head = slotAt (r .head) 1; count = r .count - 1 }
+ringTaken r = record { head = entrySlot (r .head) 1; count = r .count - 1 }
 
 unfoldable pub entriesBy : Bool → Ring → Ring
 entriesBy completes r = cond completes (ringTaken r) r

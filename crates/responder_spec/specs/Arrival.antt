@@ -24,15 +24,14 @@ pub record Left : Type 0 where
   pub memory : List ℕ
   pub out : List ℕ
 
--- an arrival by what a call is lent, and what it leaves by its outcome: inbound writes no regions and no entries
+-- an arrival by the pair with its tables, and by what a call is lent; and what a call leaves by its outcome: inbound
+-- writes no regions and no entries
+abbrev pub arrivingAt : Whole → List ℕ → List ℕ → List ℕ → Arrival
+arrivingAt w memory packet out = record { whole = w; memory = memory; packet = packet; out = out }
+
 abbrev pub arriving : Pair → List (List ℕ) → List (List ℕ) → List (List ℕ) → List ℕ → List ℕ → List ℕ → Arrival
 arriving q regions entries saved memory packet out =
-    record {
-      whole = record { pair = q; regions = regions; entries = entries; saved = saved };
-      memory = memory;
-      packet = packet;
-      out = out;
-    }
+    arrivingAt (record { pair = q; regions = regions; entries = entries; saved = saved }) memory packet out
 
 abbrev pub leaving : Arrival → Outcome → List (List ℕ) → List ℕ → List ℕ → Left
 leaving a o saved memory out =

@@ -17,7 +17,7 @@ use Rattle.header.specs.declared.HeaderRead.{HeaderRead}
 use Rattle.header.specs.declared.HeaderRead.the-variants as read
 use Rattle.opcode.specs.Place.{starts, ends}
 use Rattle.pmtu.specs.Pieces.{pieces}
-use Rattle.table.specs.Table.{slotAt, noRegion, memoryOffset}
+use Rattle.table.specs.Table.{entrySlot, noRegion, memoryOffset}
 use Rattle.table.specs.View.{regionOf, newestSaved}
 use Rattle.table.specs.EntryRow as EntryRow
 use Rattle.table.specs.declared.Saved.{Saved}
@@ -34,7 +34,8 @@ use Rattle.pair.specs.declared.Pair.{Pair}
 use Rattle.pair.specs.declared.Status.{Status}
 use Rattle.pair.specs.declared.Status.the-variants as status
 use Rattle.request_spec.specs.Packet.{packetOf}
-use Rattle.request_spec.specs.Verdict.{carrying, notEnabled, overLimit, keyFails, bytesToCome, payloadSize, current, requestCode, expectedCode}
+use Rattle.request_spec.specs.Verdict.{carrying, notEnabled, overLimit, keyFails, bytesToCome, payloadSize, current, requestCheck, expectedCheck, checkAnswer}
+use Rattle.request_spec.specs.RequestCheck as RequestCheck
 use Rattle.request_spec.specs.declared.Packet.{Packet}
 use Rattle.responder_spec.specs.declared.Completion.{Completion}
 use Rattle.responder_spec.specs.declared.Decision.{Decision}
@@ -91,12 +92,12 @@ unfoldable pub aheadDecision : Bool → Psn → Decision
 aheadDecision nakmark expected =
     cond nakmark (noReply status.Dropped) (acknowledging status.SequenceNak expected Syndrome.sequence)
 
--- Expected, but refused by the request checks; out of range for an entry that no call made
+-- Expected, but refused by a request check, with the answer of that check; out of range for an entry that no call made
 unfoldable pub failed : ℕ → Psn → ℕ → Decision
-failed code psn timer =
-    cond (eqb code Number.invalidRequestNak) (acknowledging status.InvalidRequestNak psn Syndrome.invalidRequest)
-    (cond (eqb code Number.accessNak) (acknowledging status.AccessNak psn Syndrome.access)
-    (cond (eqb code Number.notReadyNak) (acknowledging status.NotReadyNak psn (Syndrome.notReady + timer))
+failed check psn timer =
+    cond (eqb (checkAnswer check) Number.invalidRequestNak) (acknowledging status.InvalidRequestNak psn Syndrome.invalidRequest)
+    (cond (eqb (checkAnswer check) Number.accessNak) (acknowledging status.AccessNak psn Syndrome.access)
+    (cond (eqb (checkAnswer check) Number.notReadyNak) (acknowledging status.NotReadyNak psn (Syndrome.notReady + timer))
     (noReply status.OutOfRange)))
 
 -- A completion comes with the packet that ends a SEND, or a WRITE that has an immediate; a WRITE counts its DMA length
@@ -207,14 +208,14 @@ execute p m opened entry region pmtu =
     (cond (eqb (p .kind) Kind.read) (acceptRead p m opened region pmtu) (runAtomic p m opened region))
 
 unfoldable pub checkedDecision : ℕ → Packet → Setup → OpenMessage → List ℕ → List ℕ → Decision
-checkedDecision code p s opened entry region =
-    cond (eqb code Number.executed) (execute p (current opened p) opened entry region (s .pmtu))
-    (failed code (p .psn) (s .timer))
+checkedDecision check p s opened entry region =
+    cond (eqb check RequestCheck.none) (execute p (current opened p) opened entry region (s .pmtu))
+    (failed check (p .psn) (s .timer))
 
 -- Expected, by the row of its entry and the region of its key
 unfoldable pub expectedDecision : Packet → Setup → OpenMessage → ℕ → List ℕ → List ℕ → Decision
 expectedDecision p s opened count entry region =
-    checkedDecision (expectedCode s opened p count entry region) p s opened entry region
+    checkedDecision (expectedCheck s opened p count entry region) p s opened entry region
 
 -- A duplicate SEND or WRITE is acknowledged up to the PSN before the expected one
 unfoldable pub psnBefore : Psn → Psn
@@ -257,7 +258,7 @@ regionFor kind key regions = cond (eqb kind Kind.send) noRegion (regionOf key re
 
 -- the entry at the head of the ring: the one that an open SEND holds, else the first that waits
 abbrev pub headEntry : Pair → List (List ℕ) → List ℕ
-headEntry q entries = getD entries (slotAt (q .entries .head) 0) []
+headEntry q entries = getD entries (entrySlot (q .entries .head) 0) []
 
 -- By the class of its number
 abbrev pub decisionByClass : Class → Pair → Packet → List ℕ → List ℕ → Saved → Decision
@@ -291,8 +292,8 @@ closedBy place opened = cond (starts place) noMessage opened
 -- A check failed: no NAK. A message that was open when the packet came is abandoned; if none was, the packet is
 -- dropped. Out of range, for an entry that no call made, is the caller's mistake and abandons nothing
 unfoldable pub abandoning : ℕ → ℕ → Decision
-abandoning code opened =
-    cond (eqb code Number.outOfRange) (noReply status.OutOfRange)
+abandoning check opened =
+    cond (eqb (checkAnswer check) Number.outOfRange) (noReply status.OutOfRange)
     (cond (eqb opened closed) (noReply status.Dropped) (noReply status.Abandoned))
 
 -- the decision acknowledged or not, and with so many PSNs taken
@@ -330,16 +331,16 @@ ucExecute p expected m entry region =
     (unanswered (1 + distance (p .psn .0) (expected .0)) (storePayload p m entry region)) (noReply status.Dropped)
 
 unfoldable pub ucCheckedDecision : ℕ → Packet → Psn → OpenMessage → List ℕ → List ℕ → Decision
-ucCheckedDecision code p expected opened entry region =
-    cond (eqb code Number.executed) (ucExecute p expected (current opened p) entry region)
-    (abandoning code (opened .kind))
+ucCheckedDecision check p expected opened entry region =
+    cond (eqb check RequestCheck.none) (ucExecute p expected (current opened p) entry region)
+    (abandoning check (opened .kind))
 
 -- a Middle or Last without its message first, then the request checks
 unfoldable pub ucDecision : Packet → Setup → Psn → OpenMessage → ℕ → List ℕ → List ℕ → Decision
 ucDecision p s expected opened count entry region =
     cond (orphaned (p .place) (opened .kind)) (noReply status.Dropped)
     (cond (strays p expected (opened .kind)) (noReply status.Abandoned)
-    (ucCheckedDecision (requestCode s (closedBy (p .place) opened) p count entry region) p expected opened entry region))
+    (ucCheckedDecision (requestCheck s (closedBy (p .place) opened) p count entry region) p expected opened entry region))
 
 -- By the service of the pair
 unfoldable pub packetDecision : Whole → Packet → Decision

@@ -1,10 +1,10 @@
--- A sound pair with sound tables, and that calls keep it so.
+-- A sound pair with sound tables, and that calls keep it so, which the crate sound_laws proves.
 use Prim.Native.Nat.{ℕ, _≤_, _<_, _^_}
 use mathlib.Core.Path.{_≡_}
 use mathlib.Core.List.{List, []}
 use lib.ListN.{getD}
 use Rattle.header.specs.Read.{bthOf}
-use Rattle.table.specs.Table.{slotAt}
+use Rattle.table.specs.Table.{entrySlot}
 use Rattle.table.specs.Claims.{RegionsSound, EntriesSound}
 use Rattle.table.specs.declared.Entry.{Entry}
 use Rattle.pair.specs.Calls.HostCall.{PostEntry}
@@ -20,7 +20,7 @@ pub record Steady (w : Whole) : Type 0 where
   pub pair : Sound (w .pair)
   pub regions : RegionsSound (w .pair .setup .memory) (w .regions)
   pub entries : EntriesSound (w .pair .setup .memory) (w .entries) (w .pair .entries)
-  pub held : w .pair .message .kind ≡ 0 → w .pair .message .stored ≤ getD (getD (w .entries) (slotAt (w .pair .entries .head) 0) []) 2 0
+  pub held : w .pair .message .kind ≡ 0 → w .pair .message .stored ≤ getD (getD (w .entries) (entrySlot (w .pair .entries .head) 0) []) 2 0
 
 abbrev pub InboundSteady : Type 0
 InboundSteady = (a : Arrival) → bthOf (a .packet) .psn .0 < 2 ^ 24 → Steady (a .whole) → Steady (inbound a .whole)

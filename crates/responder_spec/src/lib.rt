@@ -1,4 +1,4 @@
-// What a responder does, as definitions in specs/ and their laws in proofs/. Here the types.
+// What a responder does, as definitions in specs/; their laws are the crates .._laws. Here the types.
 use pair::OpenMessage;
 use pair::Pair;
 use pair::Status;

@@ -29,7 +29,7 @@ use Rattle.pair.specs.declared.OpenMessage.{OpenMessage}
 use Rattle.pair.specs.declared.Status.the-variants as status
 use Rattle.request_spec.specs.Packet.{packetOf}
 use Rattle.request_spec.specs.declared.Packet.{Packet}
-use Rattle.request_spec.specs.Verdict.{carrying, notEnabled, overLimit, keyFails, current, requestCode, expectedCode}
+use Rattle.request_spec.specs.Verdict.{carrying, notEnabled, overLimit, keyFails, current, requestCheck, expectedCheck, checkAnswer}
 use Rattle.responder_spec.specs.Syndrome as Syndrome
 use Rattle.responder_spec.specs.Decide.{aheadDecision, failed, checkedDecision, expectedDecision, psnBefore}
 use Rattle.responder_spec.specs.Decide.{duplicateReadFails, duplicateRead, duplicateAtomic, isAtomic}
@@ -120,9 +120,9 @@ module _ (w : Whole) (W : Steady w) where
   failed-leads : (code : ℕ) (psn : Psn) (timer : ℕ) → Leads w (failed code psn timer)
   unfolding failed statusNumber
   failed-leads code psn timer =
-      branch w (eqb code 17) _ _ (λ e. ack-leads w W status.InvalidRequestNak psn 97 refl)
-      (λ e. branch w (eqb code 18) _ _ (λ f. ack-leads w W status.AccessNak psn 98 refl)
-      (λ f. branch w (eqb code 19) _ _ (λ g. ack-leads w W status.NotReadyNak psn (32 + timer) refl) (λ g. quiet-leads w W status.OutOfRange refl)))
+      branch w (eqb (checkAnswer code) 17) _ _ (λ e. ack-leads w W status.InvalidRequestNak psn 97 refl)
+      (λ e. branch w (eqb (checkAnswer code) 18) _ _ (λ f. ack-leads w W status.AccessNak psn 98 refl)
+      (λ f. branch w (eqb (checkAnswer code) 19) _ _ (λ g. ack-leads w W status.NotReadyNak psn (32 + timer) refl) (λ g. quiet-leads w W status.OutOfRange refl)))
 
   atomic-leads : (s : Saved) (psn : Psn) → Leads w (duplicateAtomic s psn)
   unfolding statusNumber
@@ -139,7 +139,7 @@ module _ (w : Whole) (W : Steady w) where
     expected-leads : Leads w (expectedDecision p (w .pair .setup) (w .pair .message) (w .pair .entries .count) (headEntry (w .pair) (w .entries)) region)
     unfolding expectedDecision checkedDecision
     expected-leads =
-        let code = expectedCode (w .pair .setup) (w .pair .message) p (w .pair .entries .count) (headEntry (w .pair) (w .entries)) region in
+        let code = expectedCheck (w .pair .setup) (w .pair .message) p (w .pair .entries .count) (headEntry (w .pair) (w .entries)) region in
         branch w (eqb code 0) _ _
         (λ e. execute-leads w W p (checked (w .pair .setup) (w .pair .message) p (w .pair .entries .count) (headEntry (w .pair) (w .entries)) region (eqb-true code 0 e)) n)
         (λ e. failed-leads code (p .psn) (w .pair .setup .timer))
@@ -180,7 +180,7 @@ module _ (w : Whole) (W : Steady w) where
     uc-leads =
         let entry = headEntry (w .pair) (w .entries) in
         let opened = closedBy (p .place) (w .pair .message) in
-        let code = requestCode (w .pair .setup) opened p (w .pair .entries .count) entry region in
+        let code = requestCheck (w .pair .setup) opened p (w .pair .entries .count) entry region in
         branch w (orphaned (p .place) (w .pair .message .kind)) _ _ (λ o. quiet-leads w W status.Dropped refl)
         (λ o. branch w (strays p (w .pair .expected) (w .pair .message .kind)) _ _ (λ t. quiet-leads w W status.Abandoned refl)
         (λ t. branch w (eqb code 0) _ _
@@ -188,7 +188,7 @@ module _ (w : Whole) (W : Steady w) where
         (λ c. does-leads w W _ (took w W p (checked (w .pair .setup) opened p (w .pair .entries .count) entry region
         (same-code (w .pair .setup) (w .pair .message) p (w .pair .expected) (w .pair .entries .count) entry region t ∙ eqb-true code 0 z)) c))
         (λ c. quiet-leads w W status.Dropped refl))
-        (λ z. branch w (eqb code 34) _ _ (λ e. quiet-leads w W status.OutOfRange refl)
+        (λ z. branch w (eqb (checkAnswer code) 34) _ _ (λ e. quiet-leads w W status.OutOfRange refl)
         (λ e. branch w (eqb (w .pair .message .kind) 255) _ _ (λ f. quiet-leads w W status.Dropped refl) (λ f. quiet-leads w W status.Abandoned refl)))))
 
     packet-leads : Leads w (packetDecision w p)

@@ -12,9 +12,10 @@ use Rattle.sequence.specs.declared.Psn.{Psn}
 use Rattle.sequence.specs.declared.Msn.{Msn}
 use Rattle.sequence.proofs.Circle.{after-below}
 use Rattle.pmtu.specs.Pieces.{pieces}
-use Rattle.table.specs.Table.{slotAt}
-use Rattle.table.specs.View.{savedRing, savedLimit, oneMore}
+use Rattle.table.specs.Table.{entryCapacity, savedCapacity, entrySlot}
+use Rattle.table.specs.View.{savedRing}
 use Rattle.table.specs.Claims.{EntriesSound, EntrySound}
+use Rattle.table.proofs.Rings.{entry-slots, entry-ring, saved-ring}
 use Rattle.table.specs.declared.Ring.{Ring}
 use Rattle.pair.specs.Answer.{statusNumber}
 use Rattle.pair.specs.Calls.{Whole}
@@ -161,33 +162,24 @@ pub record Does (w : Whole) (d : Decision) : Type 0 where
   pub psn : actsAtomic (d .act) ≡ true → d .psn .0 < 2 ^ 24
 
 -- the rings stay within their tables, and the entries behind the one taken are as they were
-saved-within : (r : Ring) (act : ℕ) → (r .head < 16) × (r .count ≤ 16) → (savedRingBy r act .head < 16) × (savedRingBy r act .count ≤ 16)
-unfolding savedRingBy savedRing slotAt
-saved-within r act (a, b) = go (actsAtomic act) (ltb (r .count) savedLimit) refl
+saved-within : (r : Ring) (act : ℕ) → (r .head < savedCapacity) × (r .count ≤ savedCapacity)
+    → (savedRingBy r act .head < savedCapacity) × (savedRingBy r act .count ≤ savedCapacity)
+unfolding savedRingBy savedRing
+saved-within r act (a, b) = go (actsAtomic act)
   where
-    go : (t u : Bool) → ltb (r .count) savedLimit ≡ u
-        → (cond t (cond u (oneMore r) (record { head = slotAt (r .head) 1; count = r .count })) r .head < 16)
-        × (cond t (cond u (oneMore r) (record { head = slotAt (r .head) 1; count = r .count })) r .count ≤ 16)
-    go true true e = (a, omega (arith, ltb-true (r .count) savedLimit e))
-    go true false e = (omega arith, b)
-    go false u e = (a, b)
+    go : (t : Bool) → (cond t (savedRing r) r .head < savedCapacity) × (cond t (savedRing r) r .count ≤ savedCapacity)
+    go true = saved-ring .overwrites-within r a b
+    go false = (a, b)
 
-entries-within : (r : Ring) (t : Bool) → (r .head < 16) × (r .count ≤ 16) → (entriesBy t r .head < 16) × (entriesBy t r .count ≤ 16)
-unfolding entriesBy ringTaken slotAt
-entries-within r true (a, b) = (omega arith, omega arith)
+entries-within : (r : Ring) (t : Bool) → (r .head < entryCapacity) × (r .count ≤ entryCapacity)
+    → (entriesBy t r .head < entryCapacity) × (entriesBy t r .count ≤ entryCapacity)
+unfolding entriesBy ringTaken
+entries-within r true (a, b) = (entry-slots .below (r .head) 1, omega arith)
 entries-within r false h = h
-
-next-slot : (head i : ℕ) → slotAt (slotAt head 1) i ≡ slotAt head (i + 1)
-unfolding slotAt
-next-slot head i = omega arith
 
 entries-kept : (memory : ℕ) (rows : List (List ℕ)) (r : Ring) (t : Bool) → EntriesSound memory rows r → EntriesSound memory rows (entriesBy t r)
 unfolding entriesBy ringTaken
-entries-kept memory rows r true E =
-    record {
-      rows16 = E .rows16;
-      each = λ i h. subst (λ k. EntrySound memory (getD rows k [])) (sym (next-slot (r .head) i)) (E .each (i + 1) (omega arith));
-    }
+entries-kept memory rows r true E = entry-ring .takes-sound (EntrySound memory) rows r E
 entries-kept memory rows r false E = E
 
 msn-below : (t : Bool) (msn : Msn) → msn .0 < 2 ^ 24 → msnBy t msn .0 < 2 ^ 24
@@ -220,7 +212,7 @@ module _ (w : Whole) (W : Steady w) (d : Decision) (D : Does w d) where
   done-held k = go (d .completion .some) (D .message)
     where
       go : (t : Bool) → Opens w t (d .message)
-          → d .message .stored ≤ getD (getD (w .entries) (slotAt (cond t (ringTaken (w .pair .entries)) (w .pair .entries) .head) 0) []) 2 0
+          → d .message .stored ≤ getD (getD (w .entries) (entrySlot (cond t (ringTaken (w .pair .entries)) (w .pair .entries) .head) 0) []) 2 0
       go t (inl e) = absurd (omega arith)
       go true (inr (inl (e, f, x, y, z))) = absurd (true≢false f)
       go false (inr (inl (e, f, x, y, z))) = z

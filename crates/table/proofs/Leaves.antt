@@ -1,5 +1,5 @@
 -- What the leaves of the tables rest on: sums tested by differences, and the search for a row.
-use Prim.Native.Nat.{ℕ, suc, _+_, _-_, _%_, _^_, _≤_, _<_}
+use Prim.Native.Nat.{ℕ, suc, _+_, _-_, _^_, _≤_, _<_}
 use mathlib.Core.Path.{_≡_, refl, sym}
 use mathlib.Core.Bool.{Bool, true, false}
 use mathlib.Core.List.{List, []}
@@ -8,7 +8,7 @@ use native.Mathlib.Numerals.{add-one}
 use lib.Dec.{ltb, leb}
 use lib.ListN.{getD}
 use borrow.Author.Tests.{lt-ltb, le-ltb, le-leb, lt-leb, ltb-true, ltb-false}
-use Rattle.table.specs.Table.{addresses, outside, pastTop, sought, firstFrom, slotAt}
+use Rattle.table.specs.Table.{addresses, outside, pastTop, sought, firstFrom}
 
 pub off-outside : (offset length memory : ℕ) → memory < offset → outside offset length memory ≡ true
 unfolding outside
@@ -29,10 +29,6 @@ rest-past-top address length h = go (ltb (18446744073709551615 - address) length
     go : (t : Bool) → ltb (18446744073709551615 - address) length ≡ t → t ≡ leb addresses (address + length)
     go true e = sym (le-leb addresses (address + length) (omega (arith, ltb-true (18446744073709551615 - address) length e)))
     go false e = sym (lt-leb addresses (address + length) (omega (arith, ltb-false (18446744073709551615 - address) length e)))
-
-pub slot-rest : (head i : ℕ) → (head % 16 + i % 16) % 16 ≡ slotAt head i
-unfolding slotAt
-slot-rest head i = omega arith
 
 module _ (free : Bool) (key : ℕ) (rows : List (List ℕ)) (i m : ℕ) (h : i < m) where
   one-more : m - i ≡ suc (m - (i + 1))

@@ -11,7 +11,7 @@ use lib.Seq.{getD-set-same, getD-set-other, set-out}
 use borrow.Author.Tests.{lt-ltb, le-ltb, lt-leb, ne-eqb, ltb-true, ltb-false, leb-false, eqb-true, eqb-false}
 use Rattle.lemmas.proofs.Tests.{or-left, or-right}
 use Rattle.table.specs.declared.Region.{Region}
-use Rattle.table.specs.Table.{addresses, outside, pastTop, regionOutside, regionRow, noRegion, sought, firstFrom, keyRow, freeRow, entryRow}
+use Rattle.table.specs.Table.{regionCapacity, addresses, outside, pastTop, regionOutside, regionRow, noRegion, sought, firstFrom, keyRow, freeRow, entryRow}
 use Rattle.table.specs.View.{regionOf}
 use Rattle.table.specs.Claims.{RegionRows, EntryRows, RegionFits, RegionTested, EntryTested, Free, HasKey}
 use Rattle.table.specs.Claims.{First, KeyFound, FreeFound, RowSound, RegionsSound, Added, Removed, AddedSound}
@@ -119,19 +119,19 @@ finds free key rows i (suc n) = go (meets free key (getD rows i [])) refl (finds
 
 pub key-found : KeyFound
 key-found key rows =
-    let F = finds false key rows 0 16 in
+    let F = finds false key rows 0 regionCapacity in
     record {
-      bound = F .high;
-      found = λ h. key-meets key (getD rows (keyRow key rows) []) (F .hit h);
+      bound = omega (arith, F .high);
+      found = λ h. key-meets key (getD rows (keyRow key rows) []) (F .hit (omega arith));
       before = λ j h. meets-key key (getD rows j []) (F .none j (omega arith) h);
     }
 
 pub free-found : FreeFound
 free-found rows =
-    let F = finds true 0 rows 0 16 in
+    let F = finds true 0 rows 0 regionCapacity in
     record {
-      bound = F .high;
-      found = λ h. free-meets 0 (getD rows (freeRow rows) []) (F .hit h);
+      bound = omega (arith, F .high);
+      found = λ h. free-meets 0 (getD rows (freeRow rows) []) (F .hit (omega arith));
       before = λ j h. meets-free 0 (getD rows j []) (F .none j (omega arith) h);
     }
 

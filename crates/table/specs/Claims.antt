@@ -1,5 +1,5 @@
 -- What is proved of the tables, each statement by a name; the proofs stand in proofs/.
-use Prim.Native.Nat.{ℕ, suc, _+_, _^_, _≤_, _<_}
+use Prim.Native.Nat.{ℕ, suc, _+_, _-_, _%_, _^_, _≤_, _<_}
 use mathlib.Core.Path.{_≡_}
 use mathlib.Core.Bool.{cond, false}
 use mathlib.Core.List.{List, [], _∷_, _++_}
@@ -10,8 +10,8 @@ use Rattle.table.specs.declared.Region.{Region}
 use Rattle.table.specs.declared.Entry.{Entry}
 use Rattle.table.specs.declared.Ring.{Ring}
 use Rattle.table.specs.declared.Saved.the-variants.{Value, Nothing}
-use Rattle.table.specs.Table.{outside, regionOutside, regionRow, entryRow, noRegion, keyRow, freeRow, slotAt}
-use Rattle.table.specs.View.{regionOf, inRing, oneMore, newest, newestSaved, savedRing, savedRows}
+use Rattle.table.specs.Table.{entrySlot, savedSlot, outside, regionOutside, regionRow, entryRow, noRegion, keyRow, freeRow}
+use Rattle.table.specs.View.{regionOf, inRing, oneMore, overwritten, newest, newestSaved, savedRing, savedRows}
 
 -- A region that the rules allow in memory of that length, and an entry.
 pub record RegionFits (memory : ℕ) (r : Region) : Type 0 where
@@ -108,52 +108,99 @@ RemovedSound =
     (memory : ℕ) (rows : List (List ℕ)) (key : ℕ) → RegionsSound memory rows
     → RegionsSound memory (set rows (keyRow key rows) noRegion)
 
--- A row put behind the last is the last of the list, and the list before it is as it was.
-abbrev pub Appends : Type 0
-Appends =
-    (rows : List (List ℕ)) (r : Ring) (row : List ℕ) → length rows ≡ 16 → r .count < 16
-    → inRing (set rows (slotAt (r .head) (r .count)) row) (oneMore r) ≡ inRing rows r ++ (row ∷ [])
+-- What a ring asks of the slot of each position: positions less than the capacity apart are different rows, the slots
+-- after the first are those of the ring from there on, all lie in the table, the first is the head, and after the last
+-- row comes the first.
+pub record SlotLaws (capacity : ℕ) (slot : ℕ → ℕ → ℕ) : Type 0 where
+  pub apart : (head i n : ℕ) → i < n → n < i + capacity → slot head i ≡ slot head n → ⊥
+  pub next : (head i : ℕ) → slot (slot head 1) i ≡ slot head (suc i)
+  pub below : (head i : ℕ) → slot head i < capacity
+  pub start : (head : ℕ) → head < capacity → slot head 0 ≡ head
+  pub around : (head : ℕ) → slot head capacity ≡ slot head 0
 
--- Entries that calls posted: 16 rows, those in use the rows of entries that fit. Saved atomics: numbers of 24 and 64
--- bits.
+-- The slot of each position, of both rings.
+abbrev pub SlotsAre : Type 0
+SlotsAre = (head i : ℕ) → (entrySlot head i ≡ (head + i) % 16) × (savedSlot head i ≡ (head + i) % 16)
+
+-- So it is with 16 entries and 16 saved atomics.
+abbrev pub EntrySlots : Type 0
+EntrySlots = SlotLaws 16 entrySlot
+
+abbrev pub SavedSlots : Type 0
+SavedSlots = SlotLaws 16 savedSlot
+
+-- The remainder is such a slot at each capacity that the rules have now and will have.
+abbrev pub Capacities : Type 0
+Capacities =
+    SlotLaws 16 (λ head i. (head + i) % 16) × SlotLaws 64 (λ head i. (head + i) % 64) × SlotLaws 4096 (λ head i. (head + i) % 4096)
+
+-- A ring that calls made: all rows of its table, and those in use good.
+pub record RingSound (capacity : ℕ) (slot : ℕ → ℕ → ℕ) (good : List ℕ → Type 0) (rows : List (List ℕ)) (r : Ring) : Type 0 where
+  pub sized : length rows ≡ capacity
+  pub each : (i : ℕ) → i < r .count → good (getD rows (slot (r .head) i) [])
+
+-- A ring, whatever its capacity.
+pub record RingLaws (capacity : ℕ) (slot : ℕ → ℕ → ℕ) : Type 1 where
+  -- a row stored behind the last is the last of the list, the list before it is as it was, and so is each row in use
+  pub appends : (rows : List (List ℕ)) (r : Ring) (row : List ℕ) → length rows ≡ capacity → r .count < capacity
+      → inRing slot (set rows (slot (r .head) (r .count)) row) (oneMore r) ≡ inRing slot rows r ++ (row ∷ [])
+  pub keeps : (rows : List (List ℕ)) (r : Ring) (row : List ℕ) (i : ℕ) → r .count < capacity → i < r .count
+      → getD (set rows (slot (r .head) (r .count)) row) (slot (r .head) i) [] ≡ getD rows (slot (r .head) i) []
+  -- the ring from the next row on, one shorter, is the list without its first
+  pub takes : (rows : List (List ℕ)) (head n : ℕ)
+      → inRing slot rows (record { head = slot head 1; count = n }) ≡ drop 1 (inRing slot rows (record { head = head; count = suc n }))
+  -- in a full ring the row stored is the last, the oldest is gone, and none else
+  pub overwrites : (rows : List (List ℕ)) (r : Ring) (row : List ℕ) → length rows ≡ capacity → r .count ≡ capacity
+      → inRing slot (set rows (slot (r .head) (r .count)) row) (overwritten capacity slot r) ≡ drop 1 (inRing slot rows r) ++ (row ∷ [])
+  -- a sound ring stays sound, and within its table
+  pub appends-sound : (good : List ℕ → Type 0) (rows : List (List ℕ)) (r : Ring) (row : List ℕ) → RingSound capacity slot good rows r
+      → r .count < capacity
+      → good row
+      → RingSound capacity slot good (set rows (slot (r .head) (r .count)) row) (oneMore r)
+  pub takes-sound : (good : List ℕ → Type 0) (rows : List (List ℕ)) (r : Ring) → RingSound capacity slot good rows r
+      → RingSound capacity slot good rows (record { head = slot (r .head) 1; count = r .count - 1 })
+  pub overwrites-sound : (good : List ℕ → Type 0) (rows : List (List ℕ)) (r : Ring) (row : List ℕ) → RingSound capacity slot good rows r
+      → r .count ≤ capacity
+      → good row
+      → RingSound capacity slot good (set rows (slot (r .head) (r .count)) row) (overwritten capacity slot r)
+  pub overwrites-within : (r : Ring) → r .head < capacity → r .count ≤ capacity
+      → (overwritten capacity slot r .head < capacity) × (overwritten capacity slot r .count ≤ capacity)
+
+abbrev pub EntryRing : Type 1
+EntryRing = RingLaws 16 entrySlot
+
+abbrev pub SavedRing : Type 1
+SavedRing = RingLaws 16 savedSlot
+
+-- Entries that calls posted: the rows in use are those of entries that fit. Saved atomics: numbers of 24 and 64 bits.
 abbrev pub EntrySound : ℕ → List ℕ → Type 0
 EntrySound memory row = (e : Entry) × (row ≡ entryRow e) × EntryFits memory e
 
-pub record EntriesSound (memory : ℕ) (rows : List (List ℕ)) (r : Ring) : Type 0 where
-  pub rows16 : length rows ≡ 16
-  pub each : (i : ℕ) → i < r .count → EntrySound memory (getD rows (slotAt (r .head) i) [])
+abbrev pub EntriesSound : ℕ → List (List ℕ) → Ring → Type 0
+EntriesSound memory rows r = RingSound 16 entrySlot (EntrySound memory) rows r
 
-pub record SavedSound (rows : List (List ℕ)) (r : Ring) : Type 0 where
-  pub rows16 : length rows ≡ 16
-  pub each : (i : ℕ) → i < r .count → (getD (getD rows (slotAt (r .head) i) []) 0 0 < 2 ^ 24) × (getD (getD rows (slotAt (r .head) i) []) 1 0 < 2 ^ 64)
+abbrev pub SavedNumbers : List ℕ → Type 0
+SavedNumbers row = (getD row 0 0 < 2 ^ 24) × (getD row 1 0 < 2 ^ 64)
 
--- An entry put behind the last leaves each row in use as it was, and the entries sound.
-abbrev pub InUseKept : Type 0
-InUseKept =
-    (rows : List (List ℕ)) (r : Ring) (row : List ℕ) (i : ℕ) → r .count < 16 → i < r .count
-    → getD (set rows (slotAt (r .head) (r .count)) row) (slotAt (r .head) i) [] ≡ getD rows (slotAt (r .head) i) []
+abbrev pub SavedSound : List (List ℕ) → Ring → Type 0
+SavedSound rows r = RingSound 16 savedSlot SavedNumbers rows r
 
+-- An entry put behind the last leaves the entries sound.
 abbrev pub PostedSound : Type 0
 PostedSound =
     (memory : ℕ) (rows : List (List ℕ)) (r : Ring) (e : Entry) → EntriesSound memory rows r → r .count < 16 → EntryFits memory e
-    → EntriesSound memory (set rows (slotAt (r .head) (r .count)) (entryRow e)) (oneMore r)
-
--- The ring from the next row on, one shorter, is the list without its first.
-abbrev pub Takes : Type 0
-Takes =
-    (rows : List (List ℕ)) (head n : ℕ)
-    → inRing rows (record { head = slotAt head 1; count = n }) ≡ drop 1 (inRing rows (record { head = head; count = suc n }))
+    → EntriesSound memory (set rows (entrySlot (r .head) (r .count)) (entryRow e)) (oneMore r)
 
 -- A saved atomic is the last of those saved; with 16 saved before, the oldest is gone, and none else.
 abbrev pub Saves : Type 0
 Saves =
     (rows : List (List ℕ)) (r : Ring) (psn value : ℕ) → length rows ≡ 16 → r .count < 16
-    → inRing (savedRows rows r psn value) (savedRing r) ≡ inRing rows r ++ ((psn ∷ value ∷ []) ∷ [])
+    → inRing savedSlot (savedRows rows r psn value) (savedRing r) ≡ inRing savedSlot rows r ++ ((psn ∷ value ∷ []) ∷ [])
 
 abbrev pub SavesFull : Type 0
 SavesFull =
     (rows : List (List ℕ)) (r : Ring) (psn value : ℕ) → length rows ≡ 16 → r .count ≡ 16
-    → inRing (savedRows rows r psn value) (savedRing r) ≡ drop 1 (inRing rows r) ++ ((psn ∷ value ∷ []) ∷ [])
+    → inRing savedSlot (savedRows rows r psn value) (savedRing r) ≡ drop 1 (inRing savedSlot rows r) ++ ((psn ∷ value ∷ []) ∷ [])
 
 -- Saving keeps what is saved sound, and the ring within the table.
 abbrev pub SavesSound : Type 0
@@ -172,7 +219,7 @@ Newest =
     → newest psn (rows ++ (row ∷ [])) ≡ cond (eqb (getD row 0 0) psn) (Value (getD row 1 0)) (newest psn rows)
 
 abbrev pub NewestSaved : Type 0
-NewestSaved = (psn : ℕ) (rows : List (List ℕ)) (r : Ring) → r .count ≤ 16 → newestSaved psn rows r ≡ newest psn (inRing rows r)
+NewestSaved = (psn : ℕ) (rows : List (List ℕ)) (r : Ring) → r .count ≤ 16 → newestSaved psn rows r ≡ newest psn (inRing savedSlot rows r)
 
 abbrev pub NewestOver : Type 0
 NewestOver = (psn : ℕ) (rows : List (List ℕ)) (r : Ring) → 16 < r .count → newestSaved psn rows r ≡ Nothing
@@ -192,4 +239,4 @@ SavedOther =
 abbrev pub SavedOtherFull : Type 0
 SavedOtherFull =
     (rows : List (List ℕ)) (r : Ring) (psn value other : ℕ) → length rows ≡ 16 → r .count ≡ 16 → (psn ≡ other → ⊥)
-    → newestSaved other (savedRows rows r psn value) (savedRing r) ≡ newest other (drop 1 (inRing rows r))
+    → newestSaved other (savedRows rows r psn value) (savedRing r) ≡ newest other (drop 1 (inRing savedSlot rows r))

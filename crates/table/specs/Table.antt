@@ -8,6 +8,23 @@ use Rattle.table.specs.RegionRow as RegionRow
 use Rattle.table.specs.declared.Region.{Region}
 use Rattle.table.specs.declared.Entry.{Entry}
 
+-- how many rows each table has (house)
+abbrev pub regionCapacity : ℕ
+regionCapacity = 16
+
+abbrev pub entryCapacity : ℕ
+entryCapacity = 16
+
+abbrev pub savedCapacity : ℕ
+savedCapacity = 16
+
+-- entries and saved atomics are rings: position i is the row i past the head, and after the last row comes row 0
+unfoldable pub entrySlot : ℕ → ℕ → ℕ
+entrySlot head i = (head + i) % entryCapacity
+
+unfoldable pub savedSlot : ℕ → ℕ → ℕ
+savedSlot head i = (head + i) % savedCapacity
+
 -- length bytes from offset on do not all lie in memory
 unfoldable pub outside : ℕ → ℕ → ℕ → Bool
 outside offset length memory = ltb memory (offset + length)
@@ -51,13 +68,9 @@ firstFrom free key rows i zero = i
 firstFrom free key rows i (suc n) =
     cond (sought free key (RegionRow.key (getD rows i [])) (RegionRow.length (getD rows i []))) i (firstFrom free key rows (suc i) n)
 
--- the first row of a key and the first free row of a table, or 16
+-- the first row of a key and the first free row of a table, or the capacity
 abbrev pub keyRow : ℕ → List (List ℕ) → ℕ
-keyRow key rows = firstFrom false key rows 0 16
+keyRow key rows = firstFrom false key rows 0 regionCapacity
 
 abbrev pub freeRow : List (List ℕ) → ℕ
-freeRow rows = firstFrom true 0 rows 0 16
-
--- position i of a ring is the row i past its head, and after row 15 comes row 0
-unfoldable pub slotAt : ℕ → ℕ → ℕ
-slotAt head i = (head + i) % 16
+freeRow rows = firstFrom true 0 rows 0 regionCapacity

@@ -1,11 +1,18 @@
-// The tables of a pair, lent as 16 rows of numbers each: regions, receive entries, saved atomics.
+// The tables of a pair, lent as rows of numbers: regions, receive entries, saved atomics.
 use sequence::Psn;
 ghost use mathlib.Core.Path.{_≡_};
 ghost use mathlib.Core.List.{[]};
 ghost use Prim.Native.Nat.{_%_, _^_, _≤_, _<_};
 ghost use lib.ListN.{getD};
 ghost use Rattle.table.specs.View.{regionOf, ringFrom, newest, newestSaved, savedRing, savedRows};
-ghost use Rattle.table.specs.Table.{memoryOffset, sought, firstFrom, regionRow, entryRow, slotAt, outside, pastTop, regionOutside};
+ghost use Rattle.table.specs.Table.{regionCapacity, entryCapacity, savedCapacity, entrySlot, savedSlot, memoryOffset, sought, firstFrom, regionRow, entryRow, outside, pastTop, regionOutside};
+
+// How many rows each table has.
+pub const REGIONS: usize = 16;
+
+pub const ENTRIES: usize = 16;
+
+pub const SAVED: usize = 16;
 
 // Columns of a region's row; a right is 1 or 0.
 pub const REGION_KEY: usize = 0;
@@ -125,13 +132,13 @@ fn hit(free: bool, key: u64, of: u64, length: u64) -> bool
     of == key
 }
 
-// The first free row, whatever the key, or the first row of the key; 16 where there is none.
-pub fn find(regions: &[[u64; 7]; 16], free: bool, key: u64) -> usize
-    ensures { λ r. ⌜ r ≡ firstFrom free key (now (regions .entry)) 0 16 ⌝ }
-    ensures { λ r. ⌜ r ≤ 16 ⌝ }
+// The first free row, whatever the key, or the first row of the key; REGIONS where there is none.
+pub fn find(regions: &[[u64; 7]; REGIONS], free: bool, key: u64) -> usize
+    ensures { λ r. ⌜ r ≡ firstFrom free key (now (regions .entry)) 0 regionCapacity ⌝ }
+    ensures { λ r. ⌜ r ≤ regionCapacity ⌝ }
 {
     let mut i: usize = 0;
-    while i < 16 {
+    while i < REGIONS {
         let row = regions[i];
         let found = hit(free, key, row[REGION_KEY], row[REGION_LENGTH]);
         if found {
@@ -143,11 +150,11 @@ pub fn find(regions: &[[u64; 7]; 16], free: bool, key: u64) -> usize
 }
 
 // The row of a key's region; an empty row where no region has the key.
-pub fn region_of(regions: &[[u64; 7]; 16], key: u32) -> [u64; 7]
+pub fn region_of(regions: &[[u64; 7]; REGIONS], key: u32) -> [u64; 7]
     ensures { λ r. ⌜ r ≡ regionOf key (now (regions .entry)) ⌝ }
 {
     let i = find(regions, false, number::u32_to_u64(key));
-    if 16 <= i {
+    if REGIONS <= i {
         return [0; 7];
     }
     regions[i]
@@ -166,19 +173,26 @@ pub fn memory_offset(region: [u64; 7], address: u64, needed: usize) -> usize
 }
 
 // The first entry of a ring.
-pub fn entry_at(entries: &[[u64; 3]; 16], head: usize) -> [u64; 3]
-    ensures { λ r. ⌜ r ≡ getD (now (entries .entry)) (slotAt head 0) [] ⌝ }
+pub fn entry_at(entries: &[[u64; 3]; ENTRIES], head: usize) -> [u64; 3]
+    ensures { λ r. ⌜ r ≡ getD (now (entries .entry)) (entrySlot head 0) [] ⌝ }
 {
-    let at = slot(head, 0);
+    let at = entry_slot(head, 0);
     entries[at]
 }
 
-// The row of position i in a ring.
-pub fn slot(head: usize, i: usize) -> usize
-    ensures { λ r. ⌜ r ≡ slotAt head i ⌝ }
-    ensures { λ r. ⌜ r < 16 ⌝ }
+// The row of position i among the entries, and among the saved atomics.
+pub fn entry_slot(head: usize, i: usize) -> usize
+    ensures { λ r. ⌜ r ≡ entrySlot head i ⌝ }
+    ensures { λ r. ⌜ r < entryCapacity ⌝ }
 {
-    (head % 16 + i % 16) % 16
+    (head % ENTRIES + i % ENTRIES) % ENTRIES
+}
+
+fn saved_slot(head: usize, i: usize) -> usize
+    ensures { λ r. ⌜ r ≡ savedSlot head i ⌝ }
+    ensures { λ r. ⌜ r < savedCapacity ⌝ }
+{
+    (head % SAVED + i % SAVED) % SAVED
 }
 
 // The ring with one atomic more: the seventeenth replaces the oldest.
@@ -186,42 +200,42 @@ pub fn saved_ring(ring: Ring) -> Ring
     ensures { λ r. ⌜ r ≡ savedRing ring ⌝ }
 {
     let count = ring.count;
-    if count < 16 {
+    if count < SAVED {
         return Ring {
             head: ring.head,
             count: count + 1,
         };
     }
-    let head = slot(ring.head, 1);
+    let head = saved_slot(ring.head, 1);
     Ring { head, count }
 }
 
 // Saves the value that an atomic answered, behind those that the ring has; saved_ring gives the ring to go on with.
-pub fn save(saved: &mut [[u64; 2]; 16], ring: Ring, psn: Psn, value: u64)
+pub fn save(saved: &mut [[u64; 2]; SAVED], ring: Ring, psn: Psn, value: u64)
     ensures { λ _. ⌜ now (saved .exit) ≡ savedRows (now (saved .entry)) ring (psn .0) value ⌝ }
 {
-    let at = slot(ring.head, ring.count);
+    let at = saved_slot(ring.head, ring.count);
     let row = [number::u32_to_u64(psn.0), value];
     saved[at] = row;
 }
 
 // What the atomic saved last under this PSN answered.
-pub fn newest(saved: &[[u64; 2]; 16], ring: Ring, psn: Psn) -> Saved
+pub fn newest(saved: &[[u64; 2]; SAVED], ring: Ring, psn: Psn) -> Saved
     ensures { λ r. ⌜ r ≡ newestSaved (psn .0) (now (saved .entry)) ring ⌝ }
 {
-    if 16 < ring.count {
+    if SAVED < ring.count {
         return Saved::Nothing;
     }
     newest_of(saved, ring.head, ring.count, number::u32_to_u64(psn.0))
 }
 
 // Of the first n rows of a ring, looking at the last first.
-fn newest_of(saved: &[[u64; 2]; 16], head: usize, n: usize, psn: u64) -> Saved
-    ensures { λ r. ⌜ r ≡ newest psn (ringFrom (now (saved .entry)) head 0 n) ⌝ }
+fn newest_of(saved: &[[u64; 2]; SAVED], head: usize, n: usize, psn: u64) -> Saved
+    ensures { λ r. ⌜ r ≡ newest psn (ringFrom savedSlot (now (saved .entry)) head 0 n) ⌝ }
 {
     let mut rest = n;
     while 0 < rest {
-        let at = slot(head, rest - 1);
+        let at = saved_slot(head, rest - 1);
         let row = saved[at];
         if row[SAVED_PSN] == psn {
             return Saved::Value(row[SAVED_VALUE]);

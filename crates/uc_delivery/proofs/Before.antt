@@ -29,7 +29,7 @@ use Rattle.delivery_spec.specs.Stream.{Message}
 use Rattle.delivery_spec.proofs.Rel.{stepBy}
 use Rattle.delivery_spec.specs.Demand.{handing, Run, taken, Addressed}
 use Rattle.delivery_spec.proofs.Made.{all-idle, accepted, begun-idle}
-use Rattle.uc_delivery.specs.Message.{StandsMade, Apart, Arrival, heard, AllBytes, Foreign, MayCome, MayComeOn, ApartOn, WholeAfter, PartAfter}
+use Rattle.uc_delivery.specs.Message.{StandsMade, Apart, Earlier, heard, AllBytes, Foreign, MayCome, MayComeOn, ApartOn, WholeAfter, PartAfter}
 use Rattle.uc_delivery.proofs.Lost.{kind-open, handed-in-part}
 use Rattle.uc_delivery.proofs.Whole.{handed-whole}
 use Rattle.uc_delivery.proofs.Steps.{taken-is}
@@ -105,7 +105,7 @@ may-come-on outs m first x (a ∷ rest) K B =
 before-it : (first : Psn) (n psn i : ℕ) → n < 2 ^ 24 → psn ≡ (n + 1) % 16777216 → 0 < i → psn ≡ psnAfter first i .0 → n ≡ psnAfter first (i - 1) .0
 before-it first n psn i h e o f = omega arith
 
-apart-from : (m : Message) (first : Psn) (x : Run) (before : List Arrival) → x .whole .pair .setup .service ≡ 1 → AllBytes before
+apart-from : (m : Message) (first : Psn) (x : Run) (before : List Earlier) → x .whole .pair .setup .service ≡ 1 → AllBytes before
     → Apart (x .whole) m first
     → Foreign m first before
     → Apart (heard x before .whole) m first

@@ -10,7 +10,7 @@ use Rattle.responder_spec.specs.Inbound.{inbound, leftBy}
 use Rattle.header.specs.Check.{pkeysMatch, fullMember}
 use Rattle.header.specs.Read.{otherService}
 use Rattle.pmtu.specs.Pieces.{pmtuFits, pieces}
-use Rattle.table.specs.Table.{regionRow, entryRow, firstFrom, sought, outside, pastTop, regionOutside, slotAt}
+use Rattle.table.specs.Table.{regionRow, entryRow, firstFrom, sought, outside, pastTop, regionOutside, entrySlot}
 use Rattle.table.specs.View.{regionOf}
 use Rattle.pair.specs.Claims.{SetupSound}
 use Rattle.pair.specs.Answer.{statusNumber, executed}
@@ -37,7 +37,7 @@ is-standing : Standing made
 unfolding made setup calls region calledAll called begun setUp setUpStatus setUpRegions addStatus addRegions
     postStatus posted postEntries readyStatus madeReady executed statusNumber freshPair setupUnfit setupUnsound
     countersUnsound ringUnsound messageUnsound readUnsound pairUnsound pmtuFits otherService outside pastTop
-    regionOutside firstFrom sought regionRow entryRow slotAt
+    regionOutside firstFrom sought regionRow entryRow entrySlot
 is-standing = stands-made setup [] (replicate 16 (replicate 3 0)) (replicate 16 (replicate 2 0)) calls sound refl refl refl (tt, (tt, (tt, tt))) refl .0
 
 room : (i : ℕ) → 24 ≤ length (replicate {A = ℕ} 24 0)
@@ -48,7 +48,7 @@ comes-by : (r : Request) (n : ℕ) → InLimit r (length (replicate {A = ℕ} n 
 unfolding fresh made setup calls region message calledAll called begun setUp setUpStatus setUpRegions addStatus
     addRegions postStatus posted postEntries readyStatus madeReady executed statusNumber freshPair setupUnfit
     setupUnsound countersUnsound ringUnsound messageUnsound readUnsound pairUnsound pmtuFits otherService outside
-    pastTop regionOutside firstFrom sought regionRow entryRow slotAt regionOf pkeysMatch fullMember
+    pastTop regionOutside firstFrom sought regionRow entryRow entrySlot regionOf pkeysMatch fullMember
 comes-by r n limit widths carrier =
     record {
       standing = is-standing;
@@ -63,7 +63,7 @@ pub all-met : AllFulfilled
 unfolding fresh made setup calls region message calledAll called begun setUp setUpStatus setUpRegions addStatus
     addRegions postStatus posted postEntries readyStatus madeReady executed statusNumber freshPair setupUnfit
     setupUnsound countersUnsound ringUnsound messageUnsound readUnsound pairUnsound pmtuFits otherService outside
-    pastTop regionOutside firstFrom sought regionRow entryRow slotAt regionOf pkeysMatch fullMember
+    pastTop regionOutside firstFrom sought regionRow entryRow entrySlot regionOf pkeysMatch fullMember
 all-met =
     record {
       send =
@@ -127,7 +127,7 @@ sends-on =
 fits-held : AtLeast (firstWaiting (broken .whole) .length) Send 3
 unfolding broken handed inbound leftBy message fresh
 fits-held =
-    subst (λ r. 3 ≤ entryOf (getD (fresh .whole .entries) (slotAt (r .head) 0) []) .length) (sym (is-broken .entries)) (all-met .send .supplied .long)
+    subst (λ r. 3 ≤ entryOf (getD (fresh .whole .entries) (entrySlot (r .head) 0) []) .length) (sym (is-broken .entries)) (all-met .send .supplied .long)
 
 pub is-interrupted : Interrupted
 unfolding fresh message packetsOf carriedLength carries pieces

@@ -13,7 +13,7 @@ use Rattle.sequence.specs.declared.Psn.{Psn}
 use Rattle.sequence.specs.declared.Msn.{Msn}
 use Rattle.memory.specs.Memory.{overwrite}
 use Rattle.pmtu.specs.Pieces.{pieceAt}
-use Rattle.table.specs.Table.{outside, slotAt}
+use Rattle.table.specs.Table.{outside, entrySlot}
 use Rattle.table.specs.declared.Entry.{Entry}
 use Rattle.pair.specs.Calls.{Whole}
 use Rattle.pair.specs.Claims.{SetupFit}
@@ -23,7 +23,7 @@ use Rattle.pair.specs.declared.Pair.{Pair}
 use Rattle.cut_spec.specs.Claims.{Carrier, kindNumber}
 use Rattle.cut_spec.specs.declared.Request.{Request}
 use Rattle.cut_spec.specs.declared.Request.the-variants.{Send, SendImmediate, Write, WriteImmediate, Read, CmpSwap, FetchAdd}
-use Rattle.request_spec.specs.Verdict.{carrying, usesEntry, payloadSize, current, requestCode, expectedCode}
+use Rattle.request_spec.specs.Verdict.{carrying, usesEntry, payloadSize, current, requestCheck, expectedCheck}
 use Rattle.responder_spec.specs.declared.Decision.{Decision}
 use Rattle.responder_spec.specs.Decide.{decision, regionFor, closedBy, orphaned, strays, completionOf, messageAfter, storePayload, unanswered}
 use Rattle.responder_spec.specs.Apply.{memoryBy, entriesBy, msnBy}
@@ -176,7 +176,7 @@ module _ (w : Whole) (m : Message) (first : Psn) (P : Permitted (w .pair .setup)
   slot i = record { message = m; first = first; index = i }
 
   abbrev pub entry : List ℕ
-  entry = getD (w .entries) (slotAt (w .pair .entries .head) 0) []
+  entry = getD (w .entries) (entrySlot (w .pair .entries .head) 0) []
 
   abbrev pub held : ℕ → List Entry
   held i = heldAt (eqb i 0) (m .request) (firstWaiting w)
@@ -239,7 +239,7 @@ module _ (w : Whole) (m : Message) (first : Psn) (P : Permitted (w .pair .setup)
     immediate-is = says (w .pair .setup) (w .regions) f t H v .immediate ∙ ap (λ c. c && immediateOf (m .request)) (ends-is (w .pair .setup) (w .regions) f t H v (held i) (F .opened))
 
     -- the request checks pass it
-    code-zero : expectedCode (w .pair .setup) v (cutPacket t) (w .pair .entries .count) entry region ≡ 0
+    code-zero : expectedCheck (w .pair .setup) v (cutPacket t) (w .pair .entries .count) entry region ≡ 0
     code-zero =
         passes (w .pair .setup) v (cutPacket t) (w .pair .entries .count) entry region (before (w .pair .setup) (w .regions) f t H v (held i) (F .opened))
         (waiting-is (w .pair .setup) (w .regions) f t H v (held i) (F .opened) waiting (w .pair .entries .count) count-is ∙ wanted)
@@ -248,9 +248,9 @@ module _ (w : Whole) (m : Message) (first : Psn) (P : Permitted (w .pair .setup)
         (suits (m .request) (length (m .bytes)) (getD entry 2 0) (sup .long)))
 
     -- so the rules let it do what it would on the reliable connection, unanswered
-    code-is : (m' : OpenMessage) → M ≡ m' → requestCode (w .pair .setup) v (cutPacket t) (w .pair .entries .count) entry (regionFor (kindNumber (m .request)) (m' .key) (w .regions)) ≡ 0
+    code-is : (m' : OpenMessage) → M ≡ m' → requestCheck (w .pair .setup) v (cutPacket t) (w .pair .entries .count) entry (regionFor (kindNumber (m .request)) (m' .key) (w .regions)) ≡ 0
     code-is m' e =
-        subst (λ y. requestCode (w .pair .setup) v (cutPacket t) (w .pair .entries .count) entry (regionFor (kindNumber (m .request)) (y .key) (w .regions)) ≡ 0) e
+        subst (λ y. requestCheck (w .pair .setup) v (cutPacket t) (w .pair .entries .count) entry (regionFor (kindNumber (m .request)) (y .key) (w .regions)) ≡ 0) e
         (sym (same-code (w .pair .setup) u (cutPacket t) E (w .pair .entries .count) entry region (F .stray)) ∙ code-zero)
 
     abbrev d : Decision

@@ -23,7 +23,7 @@ use Rattle.pair.specs.declared.Status.the-variants as status
 use Rattle.cut_spec.specs.Claims.{Carrier, InLimit, kindNumber}
 use Rattle.cut_spec.specs.declared.Request.{Request}
 use Rattle.cut_spec.specs.declared.Request.the-variants.{Send, SendImmediate, Write, WriteImmediate, Read, CmpSwap, FetchAdd}
-use Rattle.request_spec.specs.Verdict.{carrying, current, requestCode}
+use Rattle.request_spec.specs.Verdict.{carrying, current, requestCheck, checkAnswer}
 use Rattle.responder_spec.specs.Decide.{decision, headEntry, regionFor, noReply, orphaned, strays, closedBy, abandoning, completes, completionOf, storePayload, unanswered, ucExecute, ucCheckedDecision, ucDecision}
 use Rattle.responder_spec.specs.Apply.{executedPair, pairBy, pairByNumber, readAnswerBy, entriesBy, msnBy}
 use Rattle.responder_spec.specs.Inbound.{inbound, leftBy}
@@ -73,14 +73,14 @@ module _ (outs : ℕ → List ℕ) (m : Message) (first : Psn) (x : Run) (K : Ma
   went : Went q t (ucDecision (cutPacket t) (q .setup) (q .expected) (q .message) (q .entries .count) entry region)
   unfolding ucDecision ucCheckedDecision ucExecute abandoning orphaned
   went =
-      let code = requestCode (q .setup) (closedBy (placeFor t) (q .message)) (cutPacket t) (q .entries .count) entry region in
+      let code = requestCheck (q .setup) (closedBy (placeFor t) (q .message)) (cutPacket t) (q .entries .count) entry region in
       branch (Went q t) (not (starts (placeFor t)) && eqb (q .message .kind) 255)
       (λ o. nothing (eqb-true (q .message .kind) 255 (and-right (not (starts (placeFor t))) (eqb (q .message .kind) 255) o)))
       (λ o. branch (Went q t) (strays (cutPacket t) (q .expected) (q .message .kind)) (λ e. shut)
       (λ e. branch (Went q t) (eqb code 0)
       (λ z. branch (Went q t) (carrying (kindNumber (m .request))) (λ c. ran (current (q .message) (cutPacket t)) entry region)
       (λ c. absurd (true≢false (sym (carries-bytes (m .request) (K .carries)) ∙ c))))
-      (λ z. branch (Went q t) (eqb code 34) (λ e. outside)
+      (λ z. branch (Went q t) (eqb (checkAnswer code) 34) (λ e. outside)
       (λ e. branch (Went q t) (eqb (q .message .kind) 255) (λ f. nothing (eqb-true (q .message .kind) 255 f)) (λ f. shut)))))
 
   abbrev decides : Decision

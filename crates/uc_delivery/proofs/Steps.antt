@@ -15,7 +15,7 @@ use Rattle.pair.specs.declared.Setup.{Setup}
 use Rattle.pair.specs.declared.OpenMessage.{OpenMessage}
 use Rattle.pair.specs.declared.Pair.{Pair}
 use Rattle.cut_spec.specs.Claims.{kindNumber}
-use Rattle.request_spec.specs.Verdict.{carrying, current, requestCode}
+use Rattle.request_spec.specs.Verdict.{carrying, current, requestCheck}
 use Rattle.request_spec.specs.declared.Packet.{Packet}
 use Rattle.responder_spec.specs.Decide.{decision, packetDecision, headEntry, regionFor, orphaned, strays, closedBy, storePayload, unanswered, ucExecute, ucCheckedDecision, ucDecision}
 use Rattle.responder_spec.specs.Apply.{executedPair, pairBy, memoryBy, savedBy, savedRingBy, entriesBy, msnBy, readAnswerBy, actsAtomic, pairByNumber}
@@ -100,7 +100,7 @@ stored-out w e n b u r m cs p k t entry region =
 pub delivers : (p : Packet) (s : Setup) (expected : Psn) (opened : OpenMessage) (count : ℕ) (entry region : List ℕ)
     → orphaned (p .place) (opened .kind) ≡ false
     → strays p expected (opened .kind) ≡ false
-    → requestCode s (closedBy (p .place) opened) p count entry region ≡ 0
+    → requestCheck s (closedBy (p .place) opened) p count entry region ≡ 0
     → carrying (p .kind) ≡ true
     → ucDecision p s expected opened count entry region
     ≡ unanswered (1 + distance (p .psn .0) (expected .0)) (storePayload p (current opened p) entry region)

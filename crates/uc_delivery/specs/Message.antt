@@ -11,7 +11,7 @@ use Rattle.sequence.specs.declared.Psn.{Psn}
 use Rattle.header.specs.Bytes.{Bytes}
 use Rattle.header.specs.Read.{bthOf}
 use Rattle.memory.specs.Memory.{overwrite}
-use Rattle.table.specs.Table.{slotAt}
+use Rattle.table.specs.Table.{entrySlot}
 use Rattle.table.specs.declared.Entry.{Entry}
 use Rattle.table.specs.declared.Ring.{Ring}
 use Rattle.pair.specs.Calls.{Whole, HostCall, begun, calledAll}
@@ -68,7 +68,7 @@ pub record MayCome (outs : ℕ → List ℕ) (m : Message) (first : Psn) (x : Ru
 
 -- The first entry of the ring: the one of an open SEND, which a First or Only closes, else the first that waits.
 abbrev pub firstWaiting : Whole → Entry
-firstWaiting w = entryOf (getD (w .entries) (slotAt (w .pair .entries .head) 0) [])
+firstWaiting w = entryOf (getD (w .entries) (entrySlot (w .pair .entries .head) 0) [])
 
 -- an entry is there if the message takes one, and a SEND fits it
 pub record HasEntry (w : Whole) (m : Message) : Type 0 where
@@ -87,7 +87,7 @@ target (FetchAdd t v) regions e = 0
 
 -- the entry, if the message takes one, is used up
 abbrev pub without : Bool → Ring → Ring
-without takesEntry r = cond takesEntry (record { head = slotAt (r .head) 1; count = r .count - 1 }) r
+without takesEntry r = cond takesEntry (record { head = entrySlot (r .head) 1; count = r .count - 1 }) r
 
 -- The whole of what is left: the message's bytes where they belong and no other byte changed; one completion, if the
 -- message takes an entry; the MSN one higher, the PSN behind the last packet's expected, no message open.
@@ -153,33 +153,33 @@ HandedInPart =
     → Unreported x (handed outs m first x 0 chosen)
 
 -- What came before: any bytes, each with an output.
-pub record Arrival : Type 0 where
+pub record Earlier : Type 0 where
   pub packet : List ℕ
   pub output : List ℕ
 
-unfoldable pub heard : Run → List Arrival → Run
+unfoldable pub heard : Run → List Earlier → Run
 heard x [] = x
 heard x (a ∷ rest) = heard (taken x (a .packet) (a .output)) rest
 
-abbrev pub AllBytes : List Arrival → Type 0
+abbrev pub AllBytes : List Earlier → Type 0
 AllBytes [] = Unit {0}
 AllBytes (a ∷ rest) = Bytes (a .packet) × AllBytes rest
 
 -- None of these packets has a PSN of the message's; that of its last packet may be among theirs.
-abbrev pub Foreign : Message → Psn → List Arrival → Type 0
+abbrev pub Foreign : Message → Psn → List Earlier → Type 0
 Foreign m first [] = Unit {0}
 Foreign m first (a ∷ rest) = ((i : ℕ) → suc i < packetCount m → bthOf (a .packet) .psn .0 ≡ psnAfter first i .0 → ⊥) × Foreign m first rest
 
 -- Whatever a pair hears, it stays as the claims ask, and a pair that is apart stays so if all of it was foreign.
 abbrev pub MayComeOn : Type 0
 MayComeOn =
-    (outs : ℕ → List ℕ) (m : Message) (first : Psn) (x : Run) (before : List Arrival) → MayCome outs m first x
+    (outs : ℕ → List ℕ) (m : Message) (first : Psn) (x : Run) (before : List Earlier) → MayCome outs m first x
     → AllBytes before
     → MayCome outs m first (heard x before)
 
 abbrev pub ApartOn : Type 0
 ApartOn =
-    (outs : ℕ → List ℕ) (m : Message) (first : Psn) (x : Run) (before : List Arrival) → MayCome outs m first x
+    (outs : ℕ → List ℕ) (m : Message) (first : Psn) (x : Run) (before : List Earlier) → MayCome outs m first x
     → AllBytes before
     → Apart (x .whole) m first
     → Foreign m first before
@@ -188,7 +188,7 @@ ApartOn =
 -- So both claims hold after any packets.
 abbrev pub WholeAfter : Type 0
 WholeAfter =
-    (outs : ℕ → List ℕ) (m : Message) (first : Psn) (x : Run) (before : List Arrival) → MayCome outs m first x
+    (outs : ℕ → List ℕ) (m : Message) (first : Psn) (x : Run) (before : List Earlier) → MayCome outs m first x
     → AllBytes before
     → let y = heard x before in
     Allowed (y .whole .pair .setup) (y .whole .regions) (m .request) (length (m .bytes))
@@ -197,7 +197,7 @@ WholeAfter =
 
 abbrev pub PartAfter : Type 0
 PartAfter =
-    (outs : ℕ → List ℕ) (m : Message) (first : Psn) (x : Run) (before : List Arrival) (chosen : List Bool) → MayCome outs m first x
+    (outs : ℕ → List ℕ) (m : Message) (first : Psn) (x : Run) (before : List Earlier) (chosen : List Bool) → MayCome outs m first x
     → AllBytes before
     → length chosen ≡ packetCount m
     → Lost chosen (packetCount m)

@@ -26,7 +26,7 @@ pub(crate) fn leave(pair: &mut [u64], q: Pair, status: Status) -> u8
 #[no_mangle]
 pub extern "C" fn udalopek_set_up(
     pair: &mut [u64],
-    regions: &mut [[u64; 7]; 16],
+    regions: &mut [[u64; 7]; table::REGIONS],
     service: u8,
     pmtu: usize,
     ours: u32,
@@ -74,7 +74,7 @@ pub extern "C" fn udalopek_set_up(
 
 // Starts afresh with the numbers of the set-up.
 #[no_mangle]
-pub extern "C" fn udalopek_reset(pair: &mut [u64], regions: &mut [[u64; 7]; 16]) -> u8
+pub extern "C" fn udalopek_reset(pair: &mut [u64], regions: &mut [[u64; 7]; table::REGIONS]) -> u8
     ensures { λ r. ⌜ r ≡ resetNumber (now (pair .entry)) ⌝ }
     ensures { λ r. ⌜ now (pair .exit) ≡ resetWords (now (pair .entry)) ⌝ }
     ensures { λ r. ⌜ now (regions .exit) ≡ resetTable (now (pair .entry)) (now (regions .entry)) ⌝ }
@@ -123,7 +123,7 @@ pub extern "C" fn udalopek_make_ready(pair: &mut [u64]) -> u8
 #[no_mangle]
 pub extern "C" fn udalopek_add_region(
     pair: &[u64],
-    regions: &mut [[u64; 7]; 16],
+    regions: &mut [[u64; 7]; table::REGIONS],
     key: u32,
     address: u64,
     length: u64,
@@ -155,7 +155,11 @@ pub extern "C" fn udalopek_add_region(
 
 // Takes a key back.
 #[no_mangle]
-pub extern "C" fn udalopek_remove_region(pair: &[u64], regions: &mut [[u64; 7]; 16], key: u32) -> u8
+pub extern "C" fn udalopek_remove_region(
+    pair: &[u64],
+    regions: &mut [[u64; 7]; table::REGIONS],
+    key: u32,
+) -> u8
     ensures { λ r. ⌜ r ≡ removeNumber (now (pair .entry)) (now (regions .entry)) key ⌝ }
     ensures { λ r. ⌜ now (regions .exit) ≡ removeTable (now (pair .entry)) (now (regions .entry)) key ⌝ }
 {
@@ -170,7 +174,7 @@ pub extern "C" fn udalopek_remove_region(pair: &[u64], regions: &mut [[u64; 7]; 
 #[no_mangle]
 pub extern "C" fn udalopek_post_entry(
     pair: &mut [u64],
-    entries: &mut [[u64; 3]; 16],
+    entries: &mut [[u64; 3]; table::ENTRIES],
     number: u64,
     offset: u64,
     length: u64,

@@ -21,9 +21,9 @@ fn report_words(outgoing: usize, c: Completion) -> [u64; 6]
 #[no_mangle]
 pub extern "C" fn udalopek_inbound(
     pair: &mut [u64],
-    regions: &[[u64; 7]; 16],
-    entries: &[[u64; 3]; 16],
-    saved: &mut [[u64; 2]; 16],
+    regions: &[[u64; 7]; table::REGIONS],
+    entries: &[[u64; 3]; table::ENTRIES],
+    saved: &mut [[u64; 2]; table::SAVED],
     mem: &mut [u8],
     packet: &[u8],
     out: &mut [u8],

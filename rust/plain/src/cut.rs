@@ -1,7 +1,8 @@
 //! Cutting a message into packets ("Cutting a message").
 
-use crate::header::{encode_packet, opcode, Extension, Header};
+use crate::header::{encode_packet, Extension, Header};
 use crate::number::{after, is_pmtu, packets, pad, LAST, LIMIT};
+use crate::opcode;
 use crate::refusal::{BAD_NUMBER, RANGE, SHORT};
 use crate::{RC, UC};
 

@@ -1,28 +1,13 @@
 //! Reading and writing headers ("Headers").
 
 use crate::number::LAST;
+use crate::opcode::{Class, Form};
 use crate::refusal::{BAD_NUMBER, SHORT};
-use crate::{RC, UC};
 
 /// Bytes of the BTH.
 pub(crate) const BTH: usize = 12;
 /// Bytes of the longest packet: BTH, RETH, Immediate and 4,096 of payload.
 const LONGEST: usize = 4128;
-
-/// Bits 4 to 0 of the opcodes that the responder and cut write.
-pub(crate) mod opcode {
-    pub const SEND: u8 = 0;
-    pub const WRITE: u8 = 6;
-    pub const READ: u8 = 12;
-    pub const READ_FIRST: u8 = 13;
-    pub const READ_MIDDLE: u8 = 14;
-    pub const READ_LAST: u8 = 15;
-    pub const READ_ONLY: u8 = 16;
-    pub const ACKNOWLEDGE: u8 = 17;
-    pub const ATOMIC_ACKNOWLEDGE: u8 = 18;
-    pub const CMP_SWAP: u8 = 19;
-    pub const FETCH_ADD: u8 = 20;
-}
 
 /// What follows the BTH, in wire order.
 #[derive(Clone, Copy, Debug, PartialEq, Eq)]
@@ -74,51 +59,6 @@ pub struct Header {
     pub extension: Extension,
 }
 
-/// The shape of what follows the BTH.
-#[derive(Clone, Copy, Debug, PartialEq, Eq)]
-enum Form {
-    None,
-    Reth,
-    RethImmediate,
-    Immediate,
-    Atomic,
-    Aeth,
-    AethValue,
-}
-
-impl Form {
-    /// The headers of an opcode; nothing for a service not RC or UC.
-    #[inline]
-    fn of_opcode(opcode: u8) -> Option<Form> {
-        let service = opcode >> 5;
-        if service != RC && service != UC {
-            return None;
-        }
-        Some(match opcode & 31 {
-            3 | 5 | 9 => Form::Immediate,
-            6 | 10 => Form::Reth,
-            11 => Form::RethImmediate,
-            12 if service == RC => Form::Reth,
-            13 | 15 | 16 | 17 if service == RC => Form::Aeth,
-            18 if service == RC => Form::AethValue,
-            19 | 20 if service == RC => Form::Atomic,
-            _ => Form::None,
-        })
-    }
-
-    #[inline]
-    fn bytes(self) -> usize {
-        match self {
-            Form::None => 0,
-            Form::Immediate | Form::Aeth => 4,
-            Form::AethValue => 12,
-            Form::Reth => 16,
-            Form::RethImmediate => 20,
-            Form::Atomic => 28,
-        }
-    }
-}
-
 impl Extension {
     #[inline]
     fn form(&self) -> Form {
@@ -140,6 +80,15 @@ impl Header {
     pub(crate) fn bytes(&self) -> usize {
         BTH + self.extension.form().bytes()
     }
+
+    fn bth(&self) -> Bth {
+        let Bth([mut first, mut to, mut sequence]) =
+            Bth::new(self.opcode, self.pad, self.pkey, self.dest, self.psn);
+        first |= u32::from(self.se) << 23 | u32::from(self.migreq) << 22;
+        to |= u32::from(self.reserved8) << 24;
+        sequence |= u32::from(self.ackreq) << 31 | u32::from(self.reserved7) << 24;
+        Bth([first, to, sequence])
+    }
 }
 
 #[inline]
@@ -152,40 +101,241 @@ fn be64(bytes: &[u8], at: usize) -> u64 {
     u64::from_be_bytes(bytes[at..at + 8].try_into().expect("eight bytes"))
 }
 
+/// The BTH as the three words it is on the wire; fields are cut out when asked
+/// for.
+#[derive(Clone, Copy, Debug, PartialEq, Eq)]
+pub(crate) struct Bth([u32; 3]);
+
+impl Bth {
+    /// A BTH whose SE, MigReq, AckReq and reserved bits are 0.
+    #[inline]
+    pub fn new(opcode: u8, pad: u8, pkey: u16, dest: u32, psn: u32) -> Bth {
+        let first = u32::from(opcode) << 24 | u32::from(pad) << 20 | u32::from(pkey);
+        Bth([first, dest, psn])
+    }
+
+    #[inline]
+    fn from_bytes(bytes: &[u8; BTH]) -> Bth {
+        Bth([be32(bytes, 0), be32(bytes, 4), be32(bytes, 8)])
+    }
+
+    #[inline]
+    pub fn to_bytes(self) -> [u8; BTH] {
+        let mut bytes = [0; BTH];
+        for (place, word) in bytes.chunks_exact_mut(4).zip(self.0) {
+            place.copy_from_slice(&word.to_be_bytes());
+        }
+        bytes
+    }
+
+    #[inline]
+    pub fn opcode(self) -> u8 {
+        (self.0[0] >> 24) as u8
+    }
+
+    #[inline]
+    fn se(self) -> bool {
+        self.0[0] >> 23 & 1 != 0
+    }
+
+    #[inline]
+    fn migreq(self) -> bool {
+        self.0[0] >> 22 & 1 != 0
+    }
+
+    #[inline]
+    pub fn pad(self) -> u8 {
+        (self.0[0] >> 20 & 3) as u8
+    }
+
+    #[inline]
+    fn tver(self) -> u8 {
+        (self.0[0] >> 16 & 15) as u8
+    }
+
+    #[inline]
+    pub fn pkey(self) -> u16 {
+        self.0[0] as u16
+    }
+
+    #[inline]
+    fn reserved8(self) -> u8 {
+        (self.0[1] >> 24) as u8
+    }
+
+    #[inline]
+    pub fn dest(self) -> u32 {
+        self.0[1] & LAST
+    }
+
+    #[inline]
+    pub fn ackreq(self) -> bool {
+        self.0[2] >> 31 != 0
+    }
+
+    #[inline]
+    fn reserved7(self) -> u8 {
+        (self.0[2] >> 24 & 0x7F) as u8
+    }
+
+    #[inline]
+    pub fn psn(self) -> u32 {
+        self.0[2] & LAST
+    }
+}
+
+/// A RETH.
+#[derive(Clone, Copy, Debug, PartialEq, Eq)]
+pub(crate) struct Reth {
+    pub address: u64,
+    pub key: u32,
+    pub length: u32,
+}
+
+impl Reth {
+    #[inline]
+    fn read(bytes: &[u8]) -> Reth {
+        let bytes = &bytes[..16];
+        Reth {
+            address: be64(bytes, 0),
+            key: be32(bytes, 8),
+            length: be32(bytes, 12),
+        }
+    }
+}
+
+/// An AtomicETH.
+#[derive(Clone, Copy, Debug, PartialEq, Eq)]
+pub(crate) struct AtomicEth {
+    pub address: u64,
+    pub key: u32,
+    pub swap: u64,
+    pub compare: u64,
+}
+
+impl AtomicEth {
+    #[inline]
+    fn read(bytes: &[u8]) -> AtomicEth {
+        let bytes = &bytes[..28];
+        AtomicEth {
+            address: be64(bytes, 0),
+            key: be32(bytes, 8),
+            swap: be64(bytes, 12),
+            compare: be64(bytes, 20),
+        }
+    }
+}
+
+/// A packet taken apart at the borders of its headers.
+#[derive(Clone, Copy, Debug)]
+pub(crate) struct Packet<'a> {
+    pub bth: Bth,
+    pub class: Class,
+    /// The extension headers, as long as the opcode says.
+    extension: &'a [u8],
+    /// Payload with pad.
+    pub body: &'a [u8],
+}
+
+impl<'a> Packet<'a> {
+    /// The error names the check that failed: 1 lengths, 2 TVer, 5 service
+    /// bits, 8 too short, tested in that order.
+    #[inline]
+    pub fn read(packet: &'a [u8]) -> Result<Packet<'a>, u8> {
+        if packet.len() > LONGEST || packet.len() % 4 != 0 {
+            return Err(1);
+        }
+        let (bth, rest) = packet.split_first_chunk().ok_or(1)?;
+        let bth = Bth::from_bytes(bth);
+        if bth.tver() != 0 {
+            return Err(2);
+        }
+        let class = Class::of(bth.opcode()).ok_or(5)?;
+        let (extension, body) = rest.split_at_checked(usize::from(class.bytes)).ok_or(8)?;
+        Ok(Packet {
+            bth,
+            class,
+            extension,
+            body,
+        })
+    }
+
+    /// The RETH, if the opcode has one.
+    #[inline]
+    pub fn reth(&self) -> Option<Reth> {
+        matches!(self.class.form, Form::Reth | Form::RethImmediate)
+            .then(|| Reth::read(self.extension))
+    }
+
+    /// The AtomicETH, if the opcode has one.
+    #[inline]
+    pub fn atomic_eth(&self) -> Option<AtomicEth> {
+        (self.class.form == Form::Atomic).then(|| AtomicEth::read(self.extension))
+    }
+
+    /// The Immediate, if the opcode has one: it is the last header.
+    #[inline]
+    pub fn immediate(&self) -> Option<u32> {
+        match self.class.form {
+            Form::Immediate | Form::RethImmediate => {
+                self.extension.last_chunk().copied().map(u32::from_be_bytes)
+            }
+            _ => None,
+        }
+    }
+}
+
 /// Reads a header alone. The error names the check that failed: 1 lengths,
 /// 2 TVer, 5 service bits, 8 too short, tested in that order.
-#[inline]
 pub fn read_header(packet: &[u8]) -> Result<Header, u8> {
-    if packet.len() < BTH || packet.len() > LONGEST || !packet.len().is_multiple_of(4) {
-        return Err(1);
-    }
-    let (opcode, flags) = (packet[0], packet[1]);
-    if flags & 15 != 0 {
-        return Err(2);
-    }
-    let form = Form::of_opcode(opcode).ok_or(5)?;
-    let rest = packet.get(BTH..BTH + form.bytes()).ok_or(8)?;
-    let (to, sequence) = (be32(packet, 4), be32(packet, 8));
-    let extension = match form {
+    let Packet {
+        bth,
+        class,
+        extension: rest,
+        ..
+    } = Packet::read(packet)?;
+    let extension = match class.form {
         Form::None => Extension::None,
-        Form::Reth => Extension::Reth {
-            address: be64(rest, 0),
-            key: be32(rest, 8),
-            length: be32(rest, 12),
-        },
-        Form::RethImmediate => Extension::RethImmediate {
-            address: be64(rest, 0),
-            key: be32(rest, 8),
-            length: be32(rest, 12),
-            immediate: be32(rest, 16),
-        },
+        Form::Reth => {
+            let Reth {
+                address,
+                key,
+                length,
+            } = Reth::read(rest);
+            Extension::Reth {
+                address,
+                key,
+                length,
+            }
+        }
+        Form::RethImmediate => {
+            let Reth {
+                address,
+                key,
+                length,
+            } = Reth::read(rest);
+            Extension::RethImmediate {
+                address,
+                key,
+                length,
+                immediate: be32(rest, 16),
+            }
+        }
         Form::Immediate => Extension::Immediate(be32(rest, 0)),
-        Form::Atomic => Extension::Atomic {
-            address: be64(rest, 0),
-            key: be32(rest, 8),
-            swap: be64(rest, 12),
-            compare: be64(rest, 20),
-        },
+        Form::Atomic => {
+            let AtomicEth {
+                address,
+                key,
+                swap,
+                compare,
+            } = AtomicEth::read(rest);
+            Extension::Atomic {
+                address,
+                key,
+                swap,
+                compare,
+            }
+        }
         Form::Aeth => Extension::Aeth {
             syndrome: rest[0],
             msn: be32(rest, 0) & LAST,
@@ -197,17 +347,17 @@ pub fn read_header(packet: &[u8]) -> Result<Header, u8> {
         },
     };
     Ok(Header {
-        opcode,
-        se: flags & 0x80 != 0,
-        migreq: flags & 0x40 != 0,
-        pad: flags >> 4 & 3,
-        tver: 0,
-        pkey: u16::from_be_bytes([packet[2], packet[3]]),
-        reserved8: packet[4],
-        dest: to & LAST,
-        ackreq: packet[8] & 0x80 != 0,
-        reserved7: packet[8] & 0x7F,
-        psn: sequence & LAST,
+        opcode: bth.opcode(),
+        se: bth.se(),
+        migreq: bth.migreq(),
+        pad: bth.pad(),
+        tver: bth.tver(),
+        pkey: bth.pkey(),
+        reserved8: bth.reserved8(),
+        dest: bth.dest(),
+        ackreq: bth.ackreq(),
+        reserved7: bth.reserved7(),
+        psn: bth.psn(),
         extension,
     })
 }
@@ -225,7 +375,8 @@ pub fn write_header(header: &Header, out: &mut [u8]) -> Result<usize, u8> {
         && header.reserved7 <= 0x7F
         && header.psn <= LAST
         && msn <= LAST;
-    if !fits || Form::of_opcode(header.opcode) != Some(header.extension.form()) {
+    let class = Class::of(header.opcode);
+    if !fits || class.map(|class| class.form) != Some(header.extension.form()) {
         return Err(BAD_NUMBER);
     }
     if out.len() < header.bytes() {
@@ -236,17 +387,10 @@ pub fn write_header(header: &Header, out: &mut [u8]) -> Result<usize, u8> {
 
 /// Writes a header known to be good into an output known to be long enough.
 #[inline]
-pub(crate) fn encode(header: &Header, out: &mut [u8]) -> usize {
+fn encode(header: &Header, out: &mut [u8]) -> usize {
     let bytes = header.bytes();
     let (bth, rest) = out[..bytes].split_at_mut(BTH);
-    bth[0] = header.opcode;
-    bth[1] = u8::from(header.se) << 7 | u8::from(header.migreq) << 6 | header.pad << 4;
-    bth[2..4].copy_from_slice(&header.pkey.to_be_bytes());
-    let to = u32::from(header.reserved8) << 24 | header.dest;
-    bth[4..8].copy_from_slice(&to.to_be_bytes());
-    let top = u8::from(header.ackreq) << 7 | header.reserved7;
-    let sequence = u32::from(top) << 24 | header.psn;
-    bth[8..12].copy_from_slice(&sequence.to_be_bytes());
+    bth.copy_from_slice(&header.bth().to_bytes());
     match header.extension {
         Extension::None => {}
         Extension::Reth {
@@ -297,7 +441,13 @@ fn put_reth(rest: &mut [u8], address: u64, key: u32, length: u32) {
 
 #[inline]
 fn put_aeth(rest: &mut [u8], syndrome: u8, msn: u32) {
-    rest[..4].copy_from_slice(&(u32::from(syndrome) << 24 | msn).to_be_bytes());
+    rest[..4].copy_from_slice(&aeth(syndrome, msn));
+}
+
+/// An AETH.
+#[inline]
+pub(crate) fn aeth(syndrome: u8, msn: u32) -> [u8; 4] {
+    (u32::from(syndrome) << 24 | msn).to_be_bytes()
 }
 
 /// Writes header, payload and zero pad into an output known to be long

@@ -10,6 +10,7 @@ mod cut;
 mod header;
 pub mod list;
 mod number;
+mod opcode;
 mod pair;
 mod record;
 pub mod replay;

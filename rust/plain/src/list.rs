@@ -3,7 +3,8 @@
 use std::fmt::Display;
 use std::io::{self, Write};
 
-use crate::header::{opcode, read_header, write_header, Extension, Header};
+use crate::header::{read_header, write_header, Extension, Header};
+use crate::opcode;
 use crate::{record, UC};
 
 /// The names of the opcodes by their bits 4 to 0.

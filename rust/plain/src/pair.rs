@@ -72,15 +72,17 @@ pub(crate) enum State {
 /// at the front of the queue, which stays there until the message completes.
 #[derive(Clone, Copy, Debug, PartialEq, Eq)]
 pub(crate) enum Open {
-    Send {
-        placed: usize,
-    },
-    Write {
-        address: u64,
-        key: u32,
-        length: usize,
-        placed: usize,
-    },
+    Send { placed: usize },
+    Write(Write),
+}
+
+/// What the RETH of a WRITE says, and the bytes placed so far.
+#[derive(Clone, Copy, Debug, PartialEq, Eq)]
+pub(crate) struct Write {
+    pub address: u64,
+    pub key: u32,
+    pub length: usize,
+    pub placed: usize,
 }
 
 /// A read answer being sent: what is left of it.
@@ -294,19 +296,14 @@ impl QueuePair {
     pub fn open_message(&self) -> Option<(u8, u64)> {
         self.open.map(|open| match open {
             Open::Send { placed } => (0, placed as u64),
-            Open::Write { placed, .. } => (6, placed as u64),
+            Open::Write(write) => (6, write.placed as u64),
         })
     }
 
     /// Address, R_Key and DMA length of an open WRITE, as its First gave them.
     pub fn open_write(&self) -> Option<(u64, u32, u64)> {
         match self.open {
-            Some(Open::Write {
-                address,
-                key,
-                length,
-                ..
-            }) => Some((address, key, length as u64)),
+            Some(Open::Write(write)) => Some((write.address, write.key, write.length as u64)),
             _ => None,
         }
     }

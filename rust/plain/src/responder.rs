@@ -1,11 +1,16 @@
 //! The RC and the UC responder, duplicates and read responses.
 
-use crate::header::{encode, encode_packet, opcode, read_header, Extension, Header};
+use crate::header::{aeth, AtomicEth, Bth, Packet, BTH};
 use crate::number::{after, before, distance, packets, pad, standing, Standing, LIMIT};
-use crate::pair::{Answer, Completion, Inbound, Open, QueuePair, Region, Saved, State};
+use crate::opcode::{self, Function, Part};
+use crate::pair::{
+    Answer, Completion, Entry, Inbound, Open, QueuePair, Region, Saved, Setup, State, Write,
+};
 use crate::refusal::{RANGE, SHORT, STATE, UNFINISHED};
 use crate::{RC, UC};
 
+/// Bytes of an Acknowledge: BTH and AETH.
+const ACKNOWLEDGE: usize = 16;
 /// Bytes of the longest answer, an Atomic Acknowledge.
 const ANSWER: usize = 24;
 /// The syndrome of an answer that is no NAK.
@@ -24,89 +29,44 @@ const INVALID: u8 = 17;
 const ACCESS: u8 = 18;
 const NOT_READY: u8 = 19;
 
-/// The functions a request asks for.
+/// Why a packet is not executed.
 #[derive(Clone, Copy, Debug, PartialEq, Eq)]
-enum Function {
-    Send,
-    Write,
-    Read,
-    Atomic,
-    Reserved,
-}
-
-/// A packet's part of its message.
-#[derive(Clone, Copy, Debug, PartialEq, Eq)]
-enum Part {
-    First,
-    Middle,
-    Last,
-    Only,
-}
-
-/// Function and part of an opcode that is no response.
-#[inline]
-fn classify(opcode: u8) -> (Function, Part) {
-    match opcode & 31 {
-        0 => (Function::Send, Part::First),
-        1 => (Function::Send, Part::Middle),
-        2 | 3 => (Function::Send, Part::Last),
-        4 | 5 => (Function::Send, Part::Only),
-        6 => (Function::Write, Part::First),
-        7 => (Function::Write, Part::Middle),
-        8 | 9 => (Function::Write, Part::Last),
-        10 | 11 => (Function::Write, Part::Only),
-        12 => (Function::Read, Part::Only),
-        19 | 20 => (Function::Atomic, Part::Only),
-        _ => (Function::Reserved, Part::Only),
-    }
-}
-
-/// A request as the responder looks at it: body is payload with pad.
-#[derive(Clone, Copy)]
-struct Packet<'a> {
-    header: &'a Header,
-    function: Function,
-    part: Part,
-    body: &'a [u8],
+enum Fault {
+    Invalid,
+    Access,
+    NotReady,
 }
 
 impl<'a> Packet<'a> {
-    fn immediate(&self) -> Option<u32> {
-        match self.header.extension {
-            Extension::Immediate(immediate) | Extension::RethImmediate { immediate, .. } => {
-                Some(immediate)
-            }
-            _ => None,
-        }
+    /// Whether a message begins here.
+    #[inline]
+    fn begins(&self) -> bool {
+        matches!(self.class.part, Part::First | Part::Only)
     }
 
-    /// Address, key and DMA length, if the packet has a RETH.
-    fn reth(&self) -> Option<(u64, u32, usize)> {
-        match self.header.extension {
-            Extension::Reth {
-                address,
-                key,
-                length,
-            }
-            | Extension::RethImmediate {
-                address,
-                key,
-                length,
-                ..
-            } => Some((address, key, length as usize)),
-            _ => None,
-        }
+    /// Whether a message ends here.
+    #[inline]
+    fn ends(&self) -> bool {
+        matches!(self.class.part, Part::Last | Part::Only)
+    }
+
+    /// Pad where the payload must be a full PMTU.
+    #[inline]
+    fn pads_early(&self) -> bool {
+        self.bth.pad() != 0 && !self.ends()
     }
 
     /// Neither payload nor pad, as on READ and atomics.
+    #[inline]
     fn is_bare(&self) -> bool {
-        self.body.is_empty() && self.header.pad == 0
+        self.body.is_empty() && self.bth.pad() == 0
     }
 
     /// The payload without its pad, if the length is one of its part's.
+    #[inline]
     fn payload(&self, pmtu: usize) -> Option<&'a [u8]> {
-        let length = self.body.len().checked_sub(usize::from(self.header.pad))?;
-        let good = match self.part {
+        let length = self.body.len().checked_sub(usize::from(self.bth.pad()))?;
+        let good = match self.class.part {
             Part::First | Part::Middle => length == pmtu,
             Part::Last => (1..=pmtu).contains(&length),
             Part::Only => length <= pmtu,
@@ -115,28 +75,10 @@ impl<'a> Packet<'a> {
     }
 }
 
-/// What a packet that passed every check does.
-enum Action<'a> {
-    /// Places bytes; `open` is the message left open, none at its end.
-    Place {
-        at: usize,
-        payload: &'a [u8],
-        open: Option<Open>,
-        completion: Option<Completion>,
-    },
-    Read {
-        at: usize,
-        length: usize,
-    },
-    CmpSwap {
-        at: usize,
-        swap: u64,
-        compare: u64,
-    },
-    FetchAdd {
-        at: usize,
-        add: u64,
-    },
+/// The answer to a packet that goes no further: a drop or a host refusal.
+#[cold]
+fn dropped(number: u8) -> Inbound {
+    quiet(number)
 }
 
 #[inline]
@@ -160,319 +102,324 @@ fn sending(number: u8, sent: usize) -> Inbound {
 impl QueuePair {
     /// Takes one packet. Refusals: 35, 34, 32 in that order.
     pub fn inbound(&mut self, memory: &mut [u8], packet: &[u8], out: &mut [u8]) -> Inbound {
-        if out.len() < ANSWER {
-            return quiet(SHORT);
-        }
+        let Some(out) = out.first_chunk_mut() else {
+            return dropped(SHORT);
+        };
         if memory.len() != self.setup.memory {
-            return quiet(RANGE);
+            return dropped(RANGE);
         }
         if self.answer.is_some() {
-            return quiet(UNFINISHED);
+            return dropped(UNFINISHED);
         }
-        let Ok(header) = read_header(packet) else {
-            return quiet(DROPPED);
+        let Ok(packet) = Packet::read(packet) else {
+            return dropped(DROPPED);
         };
-        if !self.admits(&header) {
-            return quiet(DROPPED);
+        if !self.admits(&packet) {
+            return dropped(DROPPED);
         }
-        let (function, part) = classify(header.opcode);
-        let packet = Packet {
-            header: &header,
-            function,
-            part,
-            body: &packet[header.bytes()..],
-        };
         if self.setup.service == UC {
-            return self.unreliable(memory, packet);
-        }
-        match standing(self.expected, header.psn) {
-            Standing::Expected => self.reliable(memory, packet, out),
-            Standing::Ahead if self.marked => quiet(DROPPED),
-            Standing::Ahead => {
-                self.marked = true;
-                sending(SEQUENCE, self.acknowledge(0x60, self.expected, out))
+            // First and Only take any PSN.
+            if !packet.begins() && packet.bth.psn() != self.expected {
+                return self.abandon();
             }
-            Standing::Duplicate => self.duplicate(packet, out),
+        } else {
+            match standing(self.expected, packet.bth.psn()) {
+                Standing::Expected => {}
+                Standing::Ahead => return self.ahead(out),
+                Standing::Duplicate => return self.duplicate(&packet, out),
+            }
+        }
+        match packet.class.function {
+            Function::Send => self.send(memory, &packet, out),
+            Function::Write => self.write(memory, &packet, out),
+            Function::Read => self.read(&packet, out),
+            Function::Atomic => self.atomic(memory, &packet, out),
+            Function::Response | Function::Reserved => self.fail(Fault::Invalid, &packet, out),
         }
     }
 
     /// The header checks that need the queue pair.
     #[inline]
-    fn admits(&self, header: &Header) -> bool {
-        let ours = self.setup.pkey;
-        let low = header.opcode & 31;
-        header.dest == self.setup.ours
-            && (header.pkey ^ ours) & 0x7FFF == 0
+    fn admits(&self, packet: &Packet) -> bool {
+        let (bth, ours) = (packet.bth, self.setup.pkey);
+        bth.dest() == self.setup.ours
+            && (bth.pkey() ^ ours) & 0x7FFF == 0
             && ours & 0x7FFF != 0
-            && (header.pkey | ours) & 0x8000 != 0
-            && header.opcode >> 5 == self.setup.service
-            && !(13..=18).contains(&low)
-            && (self.setup.service == RC || low <= 11)
+            && (bth.pkey() | ours) & 0x8000 != 0
+            && bth.opcode() >> 5 == self.setup.service
+            && packet.class.function != Function::Response
+            && (self.setup.service == RC || packet.class.function != Function::Reserved)
             && self.state == State::Ready
     }
 
-    /// An expected packet on RC.
-    fn reliable(&mut self, memory: &mut [u8], packet: Packet, out: &mut [u8]) -> Inbound {
-        let psn = packet.header.psn;
-        let action = match self.check(packet, self.open) {
-            Ok(action) => action,
-            Err(NOT_READY) => {
-                self.marked = true;
-                return sending(
-                    NOT_READY,
-                    self.acknowledge(0x20 + self.setup.timer, psn, out),
-                );
-            }
-            Err(fault) => {
-                self.state = State::Error;
-                let syndrome = if fault == ACCESS { 0x62 } else { 0x61 };
-                return sending(fault, self.acknowledge(syndrome, psn, out));
-            }
+    /// A packet ahead on RC: one NAK until an expected packet is executed.
+    #[cold]
+    fn ahead(&mut self, out: &mut [u8; ANSWER]) -> Inbound {
+        if self.marked {
+            return quiet(DROPPED);
+        }
+        self.marked = true;
+        sending(SEQUENCE, self.acknowledge(0x60, self.expected, out))
+    }
+
+    /// A packet whose turn it was and that is not executed.
+    #[cold]
+    fn fail(&mut self, fault: Fault, packet: &Packet, out: &mut [u8; ANSWER]) -> Inbound {
+        if self.setup.service == UC {
+            return self.abandon();
+        }
+        let (number, syndrome) = match fault {
+            Fault::Invalid => (INVALID, 0x61),
+            Fault::Access => (ACCESS, 0x62),
+            Fault::NotReady => (NOT_READY, 0x20 + self.setup.timer),
         };
-        self.marked = false;
-        match action {
-            Action::Place {
-                at,
-                payload,
-                open,
-                completion,
-            } => {
-                self.place(memory, psn, at, payload, open, completion);
-                if packet.header.ackreq {
-                    let sent = self.acknowledge(ACK, psn, out);
-                    Inbound {
-                        number: EXECUTED_ACK,
-                        sent,
-                        completion,
-                    }
-                } else {
-                    Inbound {
-                        number: EXECUTED,
-                        sent: 0,
-                        completion,
-                    }
-                }
-            }
-            Action::Read { at, length } => {
-                let responses = packets(length, self.setup.pmtu);
-                self.expected = after(psn, responses as u32);
-                self.msn = after(self.msn, 1);
-                self.begin_answer(at, length, psn);
-                quiet(READ_ACCEPTED)
-            }
-            Action::CmpSwap { at, swap, compare } => {
-                let change = |old| if old == compare { swap } else { old };
-                self.atomic(memory, psn, at, change, out)
-            }
-            Action::FetchAdd { at, add } => {
-                self.atomic(memory, psn, at, |old: u64| old.wrapping_add(add), out)
-            }
+        match fault {
+            Fault::Invalid | Fault::Access => self.state = State::Error,
+            Fault::NotReady => self.marked = true,
+        }
+        sending(number, self.acknowledge(syndrome, packet.bth.psn(), out))
+    }
+
+    /// A packet on UC that is not executed closes what is open. An open SEND's
+    /// entry is at the head of the queue and stays there.
+    #[cold]
+    fn abandon(&mut self) -> Inbound {
+        match self.open.take() {
+            Some(_) => quiet(ABANDONED),
+            None => quiet(DROPPED),
         }
     }
 
-    /// A packet on UC. Closing a SEND leaves its entry at the head.
-    fn unreliable(&mut self, memory: &mut [u8], packet: Packet) -> Inbound {
-        let failure = if self.open.is_some() {
-            ABANDONED
+    /// The message that a packet meets: on UC a First or Only closes what was
+    /// open.
+    #[inline]
+    fn met(&self, packet: &Packet) -> Option<Open> {
+        if self.setup.service == UC && packet.begins() {
+            None
         } else {
-            DROPPED
-        };
-        let psn = packet.header.psn;
-        // First and Only close what is open and take any PSN.
-        let (open, in_order) = match packet.part {
-            Part::First | Part::Only => (None, true),
-            Part::Middle | Part::Last => (self.open, psn == self.expected),
-        };
-        self.open = None;
-        if !in_order {
-            return quiet(failure);
-        }
-        match self.check(packet, open) {
-            Ok(Action::Place {
-                at,
-                payload,
-                open,
-                completion,
-            }) => {
-                self.place(memory, psn, at, payload, open, completion);
-                Inbound {
-                    number: EXECUTED,
-                    sent: 0,
-                    completion,
-                }
-            }
-            _ => quiet(failure),
+            self.open
         }
     }
 
-    /// The checks of an expected packet, in the paper's order, towards the
-    /// message `open`. The error is the number of the answer.
-    #[inline]
-    fn check<'a>(&self, packet: Packet<'a>, open: Option<Open>) -> Result<Action<'a>, u8> {
-        let Packet {
-            header,
-            function,
-            part,
-            ..
-        } = packet;
-        let pmtu = self.setup.pmtu;
-
+    /// The checks of a SEND packet, in the paper's order: the entry it goes
+    /// to, the bytes placed there before, and its own.
+    fn check_send<'a>(&self, packet: &Packet<'a>) -> Result<(Entry, usize, &'a [u8]), Fault> {
         // Opcode sequence.
-        let in_sequence = match (part, open) {
-            (Part::First | Part::Only, open) => open.is_none(),
-            (_, Some(Open::Send { .. })) => function == Function::Send,
-            (_, Some(Open::Write { .. })) => function == Function::Write,
-            (_, None) => false,
+        let placed = match (packet.begins(), self.met(packet)) {
+            (true, None) => 0,
+            (false, Some(Open::Send { placed })) => placed,
+            _ => return Err(Fault::Invalid),
         };
-        if !in_sequence {
-            return Err(INVALID);
+        // Function not enabled; pad on First or Middle.
+        if !self.setup.send || packet.pads_early() {
+            return Err(Fault::Invalid);
         }
-        // Reserved, or function not enabled.
-        if !self.enabled(function) {
-            return Err(INVALID);
+        // No entry waiting. (The held one of an open SEND is at the front.)
+        let entry = self.entries.front().ok_or(Fault::NotReady)?;
+        // Lengths.
+        let payload = packet.payload(self.setup.pmtu).ok_or(Fault::Invalid)?;
+        if (placed + payload.len()) as u64 > entry.length {
+            return Err(Fault::Invalid);
         }
-        // Pad on First or Middle.
-        if header.pad != 0 && matches!(part, Part::First | Part::Middle) {
-            return Err(INVALID);
-        }
-        // DMA length over the limit.
-        if packet.reth().is_some_and(|(_, _, length)| length > LIMIT) {
-            return Err(INVALID);
-        }
-        // No entry waiting. (A held entry is only there with a SEND open.)
-        let front = self.entries.front();
-        let immediate = packet.immediate();
-        let takes_entry = match function {
-            Function::Send => matches!(part, Part::First | Part::Only),
-            Function::Write => immediate.is_some(),
-            _ => false,
-        };
-        if takes_entry && front.is_none() {
-            return Err(NOT_READY);
-        }
+        Ok((entry, placed, payload))
+    }
 
-        // R_Key, then lengths.
-        let ends = matches!(part, Part::Last | Part::Only);
-        match (function, header.extension) {
-            (Function::Send, _) => {
-                let entry = front.ok_or(NOT_READY)?;
-                let placed = match open {
-                    Some(Open::Send { placed }) => placed,
-                    _ => 0,
-                };
-                let payload = packet.payload(pmtu).ok_or(INVALID)?;
-                let total = placed + payload.len();
-                if total as u64 > entry.length {
-                    return Err(INVALID);
-                }
-                Ok(Action::Place {
-                    at: entry.offset as usize + placed,
-                    payload,
-                    open: (!ends).then_some(Open::Send { placed: total }),
-                    completion: ends.then_some(Completion {
-                        entry: entry.number,
-                        bytes: total as u64,
-                        immediate,
-                    }),
-                })
-            }
-            (Function::Write, _) => {
-                let (address, key, length, placed) = match (packet.reth(), open) {
-                    (Some((address, key, length)), _) => (address, key, length, 0),
-                    (
-                        _,
-                        Some(Open::Write {
-                            address,
-                            key,
-                            length,
-                            placed,
-                        }),
-                    ) => (address, key, length, placed),
-                    _ => return Err(INVALID),
-                };
-                let to_come = length - placed;
-                let next = address.wrapping_add(placed as u64);
-                let at = self
-                    .locate(key, next, to_come, |region| region.write)
-                    .ok_or(ACCESS)?;
-                let payload = packet.payload(pmtu).ok_or(INVALID)?;
-                let adds_up = if ends {
-                    payload.len() == to_come
-                } else {
-                    payload.len() < to_come
-                };
-                if !adds_up {
-                    return Err(INVALID);
-                }
-                let placed = placed + payload.len();
-                let entry = front.filter(|_| takes_entry);
-                Ok(Action::Place {
-                    at,
-                    payload,
-                    open: (!ends).then_some(Open::Write {
-                        address,
-                        key,
-                        length,
-                        placed,
-                    }),
-                    completion: entry.map(|entry| Completion {
-                        entry: entry.number,
-                        bytes: length as u64,
-                        immediate,
-                    }),
-                })
-            }
-            (
-                Function::Read,
-                Extension::Reth {
-                    address,
-                    key,
-                    length,
-                },
-            ) => {
-                let length = length as usize;
-                let at = self
-                    .locate(key, address, length, |region| region.read)
-                    .ok_or(ACCESS)?;
-                if !packet.is_bare() {
-                    return Err(INVALID);
-                }
-                Ok(Action::Read { at, length })
-            }
-            (
-                Function::Atomic,
-                Extension::Atomic {
-                    address,
-                    key,
-                    swap,
-                    compare,
-                },
-            ) => {
-                let at = self
-                    .locate(key, address, 8, |region| region.atomic)
-                    .ok_or(ACCESS)?;
-                if !packet.is_bare() || address % 8 != 0 {
-                    return Err(INVALID);
-                }
-                Ok(if header.opcode & 31 == opcode::CMP_SWAP {
-                    Action::CmpSwap { at, swap, compare }
-                } else {
-                    Action::FetchAdd { at, add: swap }
-                })
-            }
-            _ => Err(INVALID),
+    /// A SEND packet.
+    fn send(&mut self, memory: &mut [u8], packet: &Packet, out: &mut [u8; ANSWER]) -> Inbound {
+        let (entry, placed, payload) = match self.check_send(packet) {
+            Ok(checked) => checked,
+            Err(fault) => return self.fail(fault, packet, out),
+        };
+        let at = entry.offset as usize + placed;
+        let total = placed + payload.len();
+        memory[at..at + payload.len()].copy_from_slice(payload);
+        self.move_on(packet, Open::Send { placed: total });
+        let completion = if packet.ends() {
+            self.entries.pop();
+            Some(Completion {
+                entry: entry.number,
+                bytes: total as u64,
+                immediate: packet.immediate(),
+            })
+        } else {
+            None
+        };
+        let (number, sent) = self.acknowledge_if_asked(packet, out);
+        Inbound {
+            number,
+            sent,
+            completion,
         }
     }
 
-    #[inline]
-    fn enabled(&self, function: Function) -> bool {
-        match function {
-            Function::Send => self.setup.send,
-            Function::Write => self.setup.write,
-            Function::Read => self.setup.read,
-            Function::Atomic => self.setup.atomic,
-            Function::Reserved => false,
+    /// The checks of a WRITE packet, in the paper's order: its message, the
+    /// place of its bytes in memory, and the bytes.
+    fn check_write<'a>(&self, packet: &Packet<'a>) -> Result<(Write, usize, &'a [u8]), Fault> {
+        // Opcode sequence.
+        let write = match (packet.reth(), self.met(packet)) {
+            (Some(reth), None) => Write {
+                address: reth.address,
+                key: reth.key,
+                length: reth.length as usize,
+                placed: 0,
+            },
+            (None, Some(Open::Write(write))) => write,
+            _ => return Err(Fault::Invalid),
+        };
+        // Function not enabled; pad on First or Middle; DMA length.
+        if !self.setup.write || packet.pads_early() || write.length > LIMIT {
+            return Err(Fault::Invalid);
         }
+        // No entry waiting.
+        if packet.immediate().is_some() && self.entries.front().is_none() {
+            return Err(Fault::NotReady);
+        }
+        // R_Key.
+        let to_come = write.length - write.placed;
+        let next = write.address.wrapping_add(write.placed as u64);
+        let at = self
+            .locate(write.key, next, to_come, |region| region.write)
+            .ok_or(Fault::Access)?;
+        // Lengths.
+        let payload = packet.payload(self.setup.pmtu).ok_or(Fault::Invalid)?;
+        let adds_up = if packet.ends() {
+            payload.len() == to_come
+        } else {
+            payload.len() < to_come
+        };
+        if !adds_up {
+            return Err(Fault::Invalid);
+        }
+        Ok((write, at, payload))
+    }
+
+    /// A WRITE packet.
+    fn write(&mut self, memory: &mut [u8], packet: &Packet, out: &mut [u8; ANSWER]) -> Inbound {
+        let (write, at, payload) = match self.check_write(packet) {
+            Ok(checked) => checked,
+            Err(fault) => return self.fail(fault, packet, out),
+        };
+        memory[at..at + payload.len()].copy_from_slice(payload);
+        let placed = write.placed + payload.len();
+        self.move_on(packet, Open::Write(Write { placed, ..write }));
+        let completion = match (packet.immediate(), self.entries.front()) {
+            (Some(immediate), Some(entry)) => {
+                self.entries.pop();
+                Some(Completion {
+                    entry: entry.number,
+                    bytes: write.length as u64,
+                    immediate: Some(immediate),
+                })
+            }
+            _ => None,
+        };
+        let (number, sent) = self.acknowledge_if_asked(packet, out);
+        Inbound {
+            number,
+            sent,
+            completion,
+        }
+    }
+
+    /// Counts a SEND or WRITE packet; `open` is its message if that goes on.
+    #[inline]
+    fn move_on(&mut self, packet: &Packet, open: Open) {
+        self.expected = after(packet.bth.psn(), 1);
+        self.marked = false;
+        if packet.ends() {
+            self.open = None;
+            self.msn = after(self.msn, 1);
+        } else {
+            self.open = Some(open);
+        }
+    }
+
+    /// The number of the answer to a SEND or WRITE packet, and the bytes sent.
+    #[inline]
+    fn acknowledge_if_asked(&self, packet: &Packet, out: &mut [u8; ANSWER]) -> (u8, usize) {
+        if packet.bth.ackreq() && self.setup.service == RC {
+            (EXECUTED_ACK, self.acknowledge(ACK, packet.bth.psn(), out))
+        } else {
+            (EXECUTED, 0)
+        }
+    }
+
+    /// The checks of a READ, in the paper's order: its place in memory and its
+    /// length.
+    fn check_read(&self, packet: &Packet) -> Result<(usize, usize), Fault> {
+        let reth = packet.reth().ok_or(Fault::Invalid)?;
+        let length = reth.length as usize;
+        // Opcode sequence; function not enabled; DMA length.
+        if self.open.is_some() || !self.setup.read || length > LIMIT {
+            return Err(Fault::Invalid);
+        }
+        // R_Key.
+        let at = self
+            .locate(reth.key, reth.address, length, |region| region.read)
+            .ok_or(Fault::Access)?;
+        // Lengths.
+        if !packet.is_bare() {
+            return Err(Fault::Invalid);
+        }
+        Ok((at, length))
+    }
+
+    /// A READ.
+    fn read(&mut self, packet: &Packet, out: &mut [u8; ANSWER]) -> Inbound {
+        let (at, length) = match self.check_read(packet) {
+            Ok(checked) => checked,
+            Err(fault) => return self.fail(fault, packet, out),
+        };
+        let psn = packet.bth.psn();
+        let responses = packets(length, self.setup.pmtu);
+        self.expected = after(psn, responses as u32);
+        self.marked = false;
+        self.msn = after(self.msn, 1);
+        self.begin_answer(at, length, responses, psn);
+        quiet(READ_ACCEPTED)
+    }
+
+    /// The checks of an atomic, in the paper's order: its place in memory and
+    /// its header.
+    fn check_atomic(&self, packet: &Packet) -> Result<(usize, AtomicEth), Fault> {
+        let atomic = packet.atomic_eth().ok_or(Fault::Invalid)?;
+        // Opcode sequence; function not enabled.
+        if self.open.is_some() || !self.setup.atomic {
+            return Err(Fault::Invalid);
+        }
+        // R_Key.
+        let at = self
+            .locate(atomic.key, atomic.address, 8, |region| region.atomic)
+            .ok_or(Fault::Access)?;
+        // Lengths, and the address.
+        if !packet.is_bare() || atomic.address % 8 != 0 {
+            return Err(Fault::Invalid);
+        }
+        Ok((at, atomic))
+    }
+
+    /// An atomic: 8 bytes of memory, low byte first, are one number.
+    fn atomic(&mut self, memory: &mut [u8], packet: &Packet, out: &mut [u8; ANSWER]) -> Inbound {
+        let (at, atomic) = match self.check_atomic(packet) {
+            Ok(checked) => checked,
+            Err(fault) => return self.fail(fault, packet, out),
+        };
+        let place = &mut memory[at..at + 8];
+        let old = u64::from_le_bytes((&*place).try_into().expect("eight bytes"));
+        let new = if packet.bth.opcode() & 31 == opcode::FETCH_ADD {
+            old.wrapping_add(atomic.swap)
+        } else if old == atomic.compare {
+            atomic.swap
+        } else {
+            old
+        };
+        place.copy_from_slice(&new.to_le_bytes());
+        let psn = packet.bth.psn();
+        self.expected = after(psn, 1);
+        self.marked = false;
+        self.msn = after(self.msn, 1);
+        self.saved.push(Saved { psn, value: old });
+        sending(ATOMIC_EXECUTED, self.acknowledge_atomic(psn, old, out))
     }
 
     /// The R_Key rule: where in memory `length` bytes from `address` lie, if
@@ -494,58 +441,16 @@ impl QueuePair {
         (length as u64 <= room).then(|| (region.offset + into) as usize)
     }
 
-    /// Executes a SEND or WRITE packet.
-    #[inline]
-    fn place(
-        &mut self,
-        memory: &mut [u8],
-        psn: u32,
-        at: usize,
-        payload: &[u8],
-        open: Option<Open>,
-        completion: Option<Completion>,
-    ) {
-        memory[at..at + payload.len()].copy_from_slice(payload);
-        self.expected = after(psn, 1);
-        self.open = open;
-        if open.is_none() {
-            self.msn = after(self.msn, 1);
-        }
-        if completion.is_some() {
-            self.entries.pop();
-        }
-    }
-
-    /// Executes an atomic: 8 bytes of memory, low byte first, are one number.
-    fn atomic(
-        &mut self,
-        memory: &mut [u8],
-        psn: u32,
-        at: usize,
-        change: impl Fn(u64) -> u64,
-        out: &mut [u8],
-    ) -> Inbound {
-        let place = &mut memory[at..at + 8];
-        let mut bytes = [0; 8];
-        bytes.copy_from_slice(place);
-        let old = u64::from_le_bytes(bytes);
-        place.copy_from_slice(&change(old).to_le_bytes());
-        self.expected = after(psn, 1);
-        self.msn = after(self.msn, 1);
-        self.saved.push(Saved { psn, value: old });
-        sending(ATOMIC_EXECUTED, self.acknowledge_atomic(psn, old, out))
-    }
-
     /// A duplicate: clears no mark, places no byte, moves no count.
-    fn duplicate(&mut self, packet: Packet, out: &mut [u8]) -> Inbound {
-        let psn = packet.header.psn;
-        match packet.function {
+    fn duplicate(&mut self, packet: &Packet, out: &mut [u8; ANSWER]) -> Inbound {
+        let psn = packet.bth.psn();
+        match packet.class.function {
             Function::Send | Function::Write => {
                 sending(DUPLICATE, self.acknowledge(ACK, before(self.expected), out))
             }
             Function::Read => match self.repeated_read(packet) {
-                Some((at, length)) => {
-                    self.begin_answer(at, length, psn);
+                Some((at, length, responses)) => {
+                    self.begin_answer(at, length, responses, psn);
                     quiet(DUPLICATE)
                 }
                 None => quiet(DROPPED),
@@ -554,27 +459,31 @@ impl QueuePair {
                 Some(saved) => sending(DUPLICATE, self.acknowledge_atomic(psn, saved.value, out)),
                 None => quiet(DROPPED),
             },
-            Function::Reserved => quiet(DROPPED),
+            Function::Response | Function::Reserved => quiet(DROPPED),
         }
     }
 
-    /// Place and length of a duplicate READ that may be answered afresh.
-    fn repeated_read(&self, packet: Packet) -> Option<(usize, usize)> {
-        let (address, key, length) = packet.reth()?;
+    /// Place, length and responses of a duplicate READ that may be answered
+    /// afresh.
+    fn repeated_read(&self, packet: &Packet) -> Option<(usize, usize, usize)> {
+        let reth = packet.reth()?;
+        let length = reth.length as usize;
         if !self.setup.read || length > LIMIT || !packet.is_bare() {
             return None;
         }
-        let at = self.locate(key, address, length, |region| region.read)?;
+        let at = self.locate(reth.key, reth.address, length, |region| region.read)?;
         // Its responses end before the expected PSN.
-        let room = distance(packet.header.psn, self.expected) as usize;
-        (packets(length, self.setup.pmtu) <= room).then_some((at, length))
+        let responses = packets(length, self.setup.pmtu);
+        let room = distance(packet.bth.psn(), self.expected) as usize;
+        (responses <= room).then_some((at, length, responses))
     }
 
-    fn begin_answer(&mut self, at: usize, length: usize, psn: u32) {
+    #[inline]
+    fn begin_answer(&mut self, at: usize, length: usize, responses: usize, psn: u32) {
         self.answer = Some(Answer {
             at,
             left: length,
-            responses: packets(length, self.setup.pmtu),
+            responses,
             first: true,
             psn,
             msn: self.msn,
@@ -583,85 +492,74 @@ impl QueuePair {
 
     /// Sends the next response of the read answer. Refusals: 36, 35, 34.
     pub fn next_response(&mut self, memory: &[u8], out: &mut [u8]) -> (u8, usize) {
-        let pmtu = self.setup.pmtu;
-        let Some(answer) = self.answer else {
+        let Setup {
+            pmtu, pkey, theirs, ..
+        } = self.setup;
+        let Some(answer) = &mut self.answer else {
             return (STATE, 0);
         };
-        if out.len() < 16 + pmtu {
+        if out.len() < ACKNOWLEDGE + pmtu {
             return (SHORT, 0);
         }
         if memory.len() != self.setup.memory {
             return (RANGE, 0);
         }
-        let low = match (answer.first, answer.responses == 1) {
+        let last = answer.responses == 1;
+        let low = match (answer.first, last) {
             (true, true) => opcode::READ_ONLY,
             (true, false) => opcode::READ_FIRST,
             (false, false) => opcode::READ_MIDDLE,
             (false, true) => opcode::READ_LAST,
         };
-        let extension = match low {
-            opcode::READ_MIDDLE => Extension::None,
-            _ => Extension::Aeth {
-                syndrome: ACK,
-                msn: answer.msn,
-            },
-        };
         let length = answer.left.min(pmtu);
         let payload = &memory[answer.at..answer.at + length];
-        let header = Header {
-            pad: pad(length) as u8,
-            ..self.response(low, answer.psn, extension)
+        let pad = pad(length);
+
+        let bth = Bth::new(RC << 5 | low, pad as u8, pkey, theirs, answer.psn);
+        out[..BTH].copy_from_slice(&bth.to_bytes());
+        let start = if low == opcode::READ_MIDDLE {
+            BTH
+        } else {
+            out[BTH..ACKNOWLEDGE].copy_from_slice(&aeth(ACK, answer.msn));
+            ACKNOWLEDGE
         };
-        let sent = encode_packet(&header, payload, out);
-        self.answer = (answer.responses > 1).then(|| Answer {
-            at: answer.at + length,
-            left: answer.left - length,
-            responses: answer.responses - 1,
-            first: false,
-            psn: after(answer.psn, 1),
-            msn: answer.msn,
-        });
-        (0, sent)
+        let end = start + length;
+        out[start..end].copy_from_slice(payload);
+        out[end..end + pad].fill(0);
+
+        if last {
+            self.answer = None;
+        } else {
+            answer.at += length;
+            answer.left -= length;
+            answer.responses -= 1;
+            answer.first = false;
+            answer.psn = after(answer.psn, 1);
+        }
+        (0, end + pad)
     }
 
-    /// An answer's header: our P_Key, their queue pair number, all else 0.
+    /// The BTH of an answer without payload: our P_Key, their queue pair
+    /// number, all else 0.
     #[inline]
-    fn response(&self, low: u8, psn: u32, extension: Extension) -> Header {
-        Header {
-            opcode: RC << 5 | low,
-            se: false,
-            migreq: false,
-            pad: 0,
-            tver: 0,
-            pkey: self.setup.pkey,
-            reserved8: 0,
-            dest: self.setup.theirs,
-            ackreq: false,
-            reserved7: 0,
-            psn,
-            extension,
-        }
+    fn answer_bth(&self, low: u8, psn: u32) -> [u8; BTH] {
+        let Setup { pkey, theirs, .. } = self.setup;
+        Bth::new(RC << 5 | low, 0, pkey, theirs, psn).to_bytes()
     }
 
     /// Writes an ACK or NAK with the MSN as it is now.
     #[inline]
-    fn acknowledge(&self, syndrome: u8, psn: u32, out: &mut [u8]) -> usize {
-        let extension = Extension::Aeth {
-            syndrome,
-            msn: self.msn,
-        };
-        encode(&self.response(opcode::ACKNOWLEDGE, psn, extension), out)
+    fn acknowledge(&self, syndrome: u8, psn: u32, out: &mut [u8; ANSWER]) -> usize {
+        out[..BTH].copy_from_slice(&self.answer_bth(opcode::ACKNOWLEDGE, psn));
+        out[BTH..ACKNOWLEDGE].copy_from_slice(&aeth(syndrome, self.msn));
+        ACKNOWLEDGE
     }
 
-    fn acknowledge_atomic(&self, psn: u32, value: u64, out: &mut [u8]) -> usize {
-        let extension = Extension::AethValue {
-            syndrome: ACK,
-            msn: self.msn,
-            value,
-        };
-        encode(
-            &self.response(opcode::ATOMIC_ACKNOWLEDGE, psn, extension),
-            out,
-        )
+    #[inline]
+    fn acknowledge_atomic(&self, psn: u32, value: u64, out: &mut [u8; ANSWER]) -> usize {
+        out[..BTH].copy_from_slice(&self.answer_bth(opcode::ATOMIC_ACKNOWLEDGE, psn));
+        out[BTH..ACKNOWLEDGE].copy_from_slice(&aeth(ACK, self.msn));
+        out[ACKNOWLEDGE..].copy_from_slice(&value.to_be_bytes());
+        ANSWER
     }
 }

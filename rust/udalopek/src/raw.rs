@@ -1,5 +1,5 @@
 //! The calls of the library on bare words and tables, in the order of parameters of `include/udalopek.h`. Any words may
-//! be handed in: those that no call wrote are refused. For tests of just that; [`crate::QueuePair`] keeps its own.
+//! be handed in: those out of range are refused. For tests of just that; [`crate::QueuePair`] keeps its own.
 //!
 //! This is the only place with unsafe code. The header asks three things of a caller, and each is met in the same way
 //! everywhere: no pointer is null, since it comes from a slice or an array, empty or not; it points to as many elements

@@ -8,6 +8,7 @@ use Rattle.execute.specs.Fits.{Executable}
 use Rattle.execute.specs.Either.{either}
 use Rattle.execute.proofs.Places.{executable, whole, timed}
 use Rattle.execute.proofs.Steps.{loses, passed, current-at-check, refuses, executes}
+use borrow.Author.Tests.{eq-eqb, ne-eqb}
 use borrow.Author.Needs.{needs}
 use Rattle.execute.proofs.decision.Statement.{statement}
 use Rattle.execute.proofs.decision.Tie as tie
@@ -22,7 +23,7 @@ use Rattle.execute.proofs.unformed.Reads as unformed-reads
 use Rattle.pair.proofs.Status.is.Reads as is-reads
 use Rattle.reply.proofs.no_reply.Reads as no-reply-reads
 use Rattle.request_checks.proofs.current.Reads as current-reads
-use Rattle.request_checks.proofs.expected_status.Reads as expected-status-reads
+use Rattle.request_checks.proofs.expected_check.Reads as expected-check-reads
 use Rattle.table.proofs.entry_at.Reads as entry-at-reads
 
 unformed-requires : tie.Need-unformed-requires
@@ -52,24 +53,21 @@ key-region-requires c κs = search needs
 open-kind-requires : tie.Need-open-kind-requires
 open-kind-requires c κs = search needs
 
-expected-status-requires : tie.Need-expected-status-requires
-expected-status-requires c κs = search needs
-
-is-requires-2 : tie.Need-is-requires-2
-is-requires-2 c κs = search needs
+expected-check-requires : tie.Need-expected-check-requires
+expected-check-requires c κs = search needs
 
 execute-requires : tie.Need-execute-requires
 unfolding statusNumber
 execute-requires c κs =
-    let c3 = c .before .before in let c7 = c3 .before .before .before .before in let c10 = c7 .before .before .before in
+    let c3 = c .before in let c7 = c3 .before .before .before .before in let c10 = c7 .before .before .before in
     let c12 = c10 .before .before in let S = c12 .before .before .before in let A = S .args in let s = A .pair .setup in
     let opened = A .pair .message in let entry = c3 .before .before .before .entry-at in
     let region = c3 .before .before .key-region in let kind = c3 .before .open-kind in
     let found = sym (c7 .before .before .is .ensures) ∙ c7 .before .if2 .taken in
     let P =
     passed (A .p) s (A .pair .expected) opened (A .pair .entries .count) (entry .result) (region .result) (A .uc) (c10 .lost .result) (c10 .lost .ensures) found
-    (c7 .current .result) (c7 .current .ensures) (kind .result) (kind .ensures) (c3 .expected-status .result) (c3 .expected-status .ensures)
-    (sym (c .before .is2 .ensures) ∙ c .if3 .taken) in
+    (c7 .current .result) (c7 .current .ensures) (kind .result) (kind .ensures) (c3 .expected-check .result) (c3 .expected-check .ensures)
+    (eq-eqb _ _ (c .if3 .taken)) in
     let memory : s .memory < 2 ^ 64 = omega (arith, S .good .1 .0) in
     let stored : c7 .current .result .stored < 2 ^ 64 = omega (arith, c7 .current .ok) in
     let length : c7 .current .result .length < 2 ^ 64 = omega (arith, c7 .current .ok) in
@@ -82,44 +80,44 @@ execute-requires c κs =
 returns-2 : tie.Need-returns-2
 unfolding statusNumber
 returns-2 c =
-    let c1 = c .before in let c2 = c1 .before in let c3 = c2 .before in let c4 = c3 .before in let c5 = c4 .before in
+    let c1 = c .before in let c3 = c1 .before in let c4 = c3 .before in let c5 = c4 .before in
     let c6 = c5 .before in let c7 = c6 .before in let c8 = c7 .before in let c9 = c8 .before in let c10 = c9 .before in
     let c12 = c10 .before .before in let c13 = c12 .before in
-    let S = c .before .before .before .before .before .before .before .before .before .before .before .before .before .before .before in let A = S .args in let s = A .pair .setup in
+    let S = c .before .before .before .before .before .before .before .before .before .before .before .before .before .before in let A = S .args in let s = A .pair .setup in
     let opened = A .pair .message in let entry = c6 .entry-at in let region = c5 .key-region in let kind = c4 .open-kind in
     let found = sym (c9 .is .ensures) ∙ c8 .if2 .taken in
-    let passed = sym (c2 .is2 .ensures) ∙ c1 .if3 .taken in
+    let passed = eq-eqb _ _ (c1 .if3 .taken) in
     simp (← c13 .unformed .ensures, c12 .if1 .left)
     (c .execute .ensures
     ∙
     (executes (A .p) s (A .pair .expected) opened (A .pair .entries .count) (entry .result) (region .result) (A .uc) (c10 .lost .result) (c10 .lost .ensures) found
-    (c7 .current .result) (c7 .current .ensures) (kind .result) (kind .ensures) (c3 .expected-status .result) (c3 .expected-status .ensures) passed
+    (c7 .current .result) (c7 .current .ensures) (kind .result) (kind .ensures) (c3 .expected-check .result) (c3 .expected-check .ensures) passed
     ∙
     (λ i. either (A .uc) (A .p) s (A .pair .expected) opened (A .pair .entries .count) (entry .ensures i)
     ((region .ensures ∙ ap (λ x. regionFor (A .p .kind) (x .key) (A .regions .now)) (c7 .current .ensures)) i))))
 
 refused-requires : tie.Need-refused-requires
 refused-requires c κs =
-    let c11 = c .before .before .before .before .before .before .before .before .before .before .before in
+    let c11 = c .before .before .before .before .before .before .before .before .before .before in
     let c12 = c11 .before in
     let A = c12 .before .before .args in
-    timed (A .p) (A .pair .setup .timer) (c12 .unformed .result) (c12 .unformed .ensures) (c11 .if1 .left)
+    (c .if3 .left, timed (A .p) (A .pair .setup .timer) (c12 .unformed .result) (c12 .unformed .ensures) (c11 .if1 .left))
 
 returns-3 : tie.Need-returns-3
 unfolding statusNumber
 returns-3 c =
-    let c1 = c .before in let c2 = c1 .before in let c3 = c2 .before in let c4 = c3 .before in let c5 = c4 .before in
+    let c1 = c .before in let c3 = c1 .before in let c4 = c3 .before in let c5 = c4 .before in
     let c6 = c5 .before in let c7 = c6 .before in let c8 = c7 .before in let c9 = c8 .before in let c10 = c9 .before in
     let c12 = c10 .before .before in let c13 = c12 .before in
-    let S = c .before .before .before .before .before .before .before .before .before .before .before .before .before .before .before in let A = S .args in let s = A .pair .setup in
+    let S = c .before .before .before .before .before .before .before .before .before .before .before .before .before .before in let A = S .args in let s = A .pair .setup in
     let opened = A .pair .message in let entry = c6 .entry-at in let region = c5 .key-region in let kind = c4 .open-kind in
     let found = sym (c9 .is .ensures) ∙ c8 .if2 .taken in
-    let passed = sym (c2 .is2 .ensures) ∙ c1 .if3 .left in
+    let passed = ne-eqb _ _ (c1 .if3 .left) in
     simp (← c13 .unformed .ensures, c12 .if1 .left)
     (c .refused .ensures
     ∙
     (refuses (A .p) s (A .pair .expected) opened (A .pair .entries .count) (entry .result) (region .result) (A .uc) (c10 .lost .result) (c10 .lost .ensures) found
-    (c7 .current .result) (c7 .current .ensures) (kind .result) (kind .ensures) (c3 .expected-status .result) (c3 .expected-status .ensures) passed
+    (c7 .current .result) (c7 .current .ensures) (kind .result) (kind .ensures) (c3 .expected-check .result) (c3 .expected-check .ensures) passed
     ∙
     (λ i. either (A .uc) (A .p) s (A .pair .expected) opened (A .pair .entries .count) (entry .ensures i)
     ((region .ensures ∙ ap (λ x. regionFor (A .p .kind) (x .key) (A .regions .now)) (c7 .current .ensures)) i))))
@@ -151,8 +149,7 @@ decision-spec =
     entry-at-requires
     key-region-requires
     open-kind-requires
-    expected-status-requires
-    is-requires-2
+    expected-check-requires
     execute-requires
     returns-2
     refused-requires

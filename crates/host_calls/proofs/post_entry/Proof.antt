@@ -56,8 +56,8 @@ returns-4 c =
     let c6 = c5 .before in let c7 = c6 .before in
     simp (tested, c7 .before .if1 .left, halves, ← c6 .before .numbers-unsound .ensures, ← c6 .work-unsound .ensures, c5 .if2 .left, ← c4 .usize-to-u64 .ensures, ← c3 .outside .ensures, c2 .if3 .left, c1 .if4 .taken, ← c .outcome4 .ensures) (refl, refl)
 
-slot-requires : tie.Need-slot-requires
-slot-requires c κs = search needs
+entry-slot-requires : tie.Need-entry-slot-requires
+entry-slot-requires c κs = search needs
 
 entry-row-requires : tie.Need-entry-row-requires
 entry-row-requires c κs = search needs
@@ -79,7 +79,7 @@ unfolding posted postEntries postStatus executed statusNumber
 returns-5 c =
     let c1 = c .before in let c2 = c1 .before in let c3 = c2 .before in let c4 = c3 .before in let c5 = c4 .before in
     let c6 = c5 .before in let c7 = c6 .before in let c8 = c7 .before in let c9 = c8 .before in
-    simp (tested, c9 .before .if1 .left, halves, ← c8 .before .numbers-unsound .ensures, ← c8 .work-unsound .ensures, c7 .if2 .left, ← c6 .usize-to-u64 .ensures, ← c5 .outside .ensures, c4 .if3 .left, c3 .if4 .left, ← c2 .slot .ensures .0, ← c1 .entry-row .ensures, ← c .outcome5 .ensures) (refl, refl)
+    simp (tested, c9 .before .if1 .left, halves, ← c8 .before .numbers-unsound .ensures, ← c8 .work-unsound .ensures, c7 .if2 .left, ← c6 .usize-to-u64 .ensures, ← c5 .outside .ensures, c4 .if3 .left, c3 .if4 .left, ← c2 .entry-slot .ensures .0, ← c1 .entry-row .ensures, ← c .outcome5 .ensures) (refl, refl)
 
 pub post-entry-spec : {M : Type 1} → statement M
 post-entry-spec =
@@ -97,7 +97,7 @@ post-entry-spec =
     returns-3
     outcome-requires-4
     returns-4
-    slot-requires
+    entry-slot-requires
     entry-row-requires
     mul-row
     element-set-from-row

@@ -1,13 +1,14 @@
 use mathlib.Core.Path.{_≡_, refl, sym, _∙_}
 use native.Mathlib.Omega.{arith}
 use borrow.Author.Needs.{needs}
+use Rattle.table.specs.Table.{savedSlot}
 use Rattle.table.specs.View.{ringFrom, newest}
 use Rattle.table.proofs.Rings.{newest-here, newest-next, newest-none}
 use Rattle.table.proofs.newest_of.Statement.{statement}
 use Rattle.table.proofs.newest_of.Tie as tie
 
 abbrev Inv-loop : tie.InvT-loop
-Inv-loop saved head n psn rest₀ rest = newest psn (ringFrom saved head 0 n) ≡ newest psn (ringFrom saved head 0 rest)
+Inv-loop saved head n psn rest₀ rest = newest psn (ringFrom savedSlot saved head 0 n) ≡ newest psn (ringFrom savedSlot saved head 0 rest)
 
 abbrev μ-loop : tie.MeasureT-loop
 μ-loop saved head n psn rest₀ rest = rest
@@ -15,11 +16,11 @@ abbrev μ-loop : tie.MeasureT-loop
 loop-holds : tie.Need-loop-holds Inv-loop μ-loop
 loop-holds c = refl
 
-sub-slot : tie.Need-sub-slot Inv-loop μ-loop
-sub-slot c = search needs
+sub-saved-slot : tie.Need-sub-saved-slot Inv-loop μ-loop
+sub-saved-slot c = search needs
 
-slot-requires : tie.Need-slot-requires Inv-loop μ-loop
-slot-requires c κs = search needs
+saved-slot-requires : tie.Need-saved-slot-requires Inv-loop μ-loop
+saved-slot-requires c κs = search needs
 
 mul-row : tie.Need-mul-row Inv-loop μ-loop
 mul-row c = search needs
@@ -37,7 +38,7 @@ returns : tie.Need-returns Inv-loop μ-loop
 returns c =
     let C = c .before .before .before .before in
     let A = C .before .args in
-    sym (C .loop .inv ∙ newest-here (A .psn) (A .saved .now) (A .head) (C .loop .rest) (omega arith) (c .before .before .slot .result) (c .before .before .slot .ensures .0) (c .if1 .taken))
+    sym (C .loop .inv ∙ newest-here savedSlot (A .psn) (A .saved .now) (A .head) (C .loop .rest) (omega arith) (c .before .before .saved-slot .result) (c .before .before .saved-slot .ensures .0) (c .if1 .taken))
 
 sub-rest : tie.Need-sub-rest Inv-loop μ-loop
 sub-rest c = search needs
@@ -49,13 +50,13 @@ loop-again : tie.Need-loop-again Inv-loop μ-loop
 loop-again c =
     let C = c .before .before .before .before in
     let A = C .before .args in
-    C .loop .inv ∙ newest-next (A .psn) (A .saved .now) (A .head) (C .loop .rest) (omega arith) (c .before .before .slot .result) (c .before .before .slot .ensures .0) (c .if1 .left)
+    C .loop .inv ∙ newest-next savedSlot (A .psn) (A .saved .now) (A .head) (C .loop .rest) (omega arith) (c .before .before .saved-slot .result) (c .before .before .saved-slot .ensures .0) (c .if1 .left)
 
 returns-2 : tie.Need-returns-2 Inv-loop μ-loop
 returns-2 c =
     let C = c .before in
     let A = C .before .args in
-    sym (C .loop .inv ∙ newest-none (A .psn) (A .saved .now) (A .head) (C .loop .rest) (omega arith))
+    sym (C .loop .inv ∙ newest-none savedSlot (A .psn) (A .saved .now) (A .head) (C .loop .rest) (omega arith))
 
 pub newest-of-spec : {M : Type 1} → statement M
 newest-of-spec =
@@ -64,8 +65,8 @@ newest-of-spec =
     Inv-loop
     μ-loop
     loop-holds
-    sub-slot
-    slot-requires
+    sub-saved-slot
+    saved-slot-requires
     mul-row
     element-copy-out-row
     array-read-if1

@@ -3,8 +3,8 @@ use borrow.Author.Needs.{needs}
 use Rattle.table.proofs.save.Statement.{statement}
 use Rattle.table.proofs.save.Tie as tie
 
-slot-requires : tie.Need-slot-requires
-slot-requires c κs = search needs
+saved-slot-requires : tie.Need-saved-slot-requires
+saved-slot-requires c κs = search needs
 
 u32-to-u64-requires : tie.Need-u32-to-u64-requires
 u32-to-u64-requires c κs = search needs
@@ -17,7 +17,7 @@ element-set-from-row c = search needs
 
 returns : tie.Need-returns
 unfolding savedRows
-returns c = simp (← c .before .slot .ensures .0, ← c .u32-to-u64 .ensures .0)
+returns c = simp (← c .before .saved-slot .ensures .0, ← c .u32-to-u64 .ensures .0)
 
 pub save-spec : {M : Type 1} → statement M
-save-spec = tie.close (tie.spec slot-requires u32-to-u64-requires mul-row element-set-from-row returns)
+save-spec = tie.close (tie.spec saved-slot-requires u32-to-u64-requires mul-row element-set-from-row returns)

@@ -11,12 +11,12 @@ returns : tie.Need-returns
 unfolding savedRing
 returns c = simp (lt-ltb _ _ (c .if1 .taken))
 
-slot-requires : tie.Need-slot-requires
-slot-requires c κs = search needs
+saved-slot-requires : tie.Need-saved-slot-requires
+saved-slot-requires c κs = search needs
 
 returns-2 : tie.Need-returns-2
 unfolding savedRing
-returns-2 c = simp (le-ltb _ _ (c .before .if1 .left), ← c .slot .ensures .0)
+returns-2 c = simp (le-ltb _ _ (c .before .if1 .left), ← c .saved-slot .ensures .0)
 
 pub saved-ring-spec : {M : Type 1} → statement M
-saved-ring-spec = tie.close (tie.spec add-t5 returns slot-requires returns-2)
+saved-ring-spec = tie.close (tie.spec add-t5 returns saved-slot-requires returns-2)
