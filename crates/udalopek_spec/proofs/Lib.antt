@@ -3,3 +3,4 @@ pub mod Left
 pub mod Done
 pub mod Claims
 pub mod Keeps
+pub mod Stays

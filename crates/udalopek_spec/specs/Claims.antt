@@ -5,19 +5,20 @@ use mathlib.Core.Bool.{true, false}
 use mathlib.Core.List.{List, [], _∷_}
 use mathlib.Core.Logic.{_⊎_}
 use lib.ListN.{length, getD, replicate}
+use Rattle.header.specs.Bytes.{Bytes}
 use Rattle.responder_spec.specs.Arrival.{arriving}
 use Rattle.table.specs.declared.Region.{Region}
 use Rattle.table.specs.declared.Entry.{Entry}
 use Rattle.pair.specs.declared.Setup.{Setup}
 use Rattle.pair.specs.declared.Pair.{Pair}
 use Rattle.pair.specs.Answer.{statusNumber}
-use Rattle.pair.specs.Claims.{Sound}
+use Rattle.pair.specs.Claims.{Sound, WholeSound}
 use Rattle.pair.specs.Host.{resetTo, resetRegions, madeReady, addStatus, addRegions, removeStatus, removeRegions, posted, postEntries}
 use Rattle.responder_spec.specs.Inbound.{inbound}
 use Rattle.responder_spec.specs.Response.{nextResponse, nextOut}
 use Rattle.responder_spec.specs.declared.Completion.{Completion}
 use Rattle.cut_spec.specs.declared.Request.the-variants.{Send, SendImmediate, Write, WriteImmediate, Read, CmpSwap, FetchAdd}
-use Rattle.abi_spec.specs.Pair.{pairWords}
+use Rattle.abi_spec.specs.Pair.{pairOf, pairWords}
 use Rattle.abi_spec.specs.Claims.{InRange, PairFields}
 use Rattle.udalopek_spec.specs.Packets.{inboundNumber, inboundWords, inboundRows, inboundBytes, inboundOutput, inboundReport, reportWords, nextNumber, nextWords, nextOutput, nextReport}
 use Rattle.udalopek_spec.specs.Cutting.{requestOf, cutReport}
@@ -138,6 +139,25 @@ RemoveIs =
     (w : List ℕ) (rows : List (List ℕ)) (key : ℕ) → length w ≡ 30
     → (removeNumber w rows key ≡ statusNumber (removeStatus rows key))
     × (removeTable w rows key ≡ removeRegions rows key)
+
+-- What inbound and next response leave of words, tables and bytes that calls made are the words of the pair that is left,
+-- in range again: no call refuses them for that. The numbers that soundness leaves open have the widths of their types.
+abbrev pub TypeWidths : Pair → Type 0
+TypeWidths q = (q .setup .pkey < 65536) × (q .message .key < 4294967296) × (q .read .psn .0 < 4294967296) × (q .read .msn .0 < 4294967296)
+
+abbrev pub InboundStays : Type 0
+InboundStays =
+    (w : List ℕ) (regions entries saved : List (List ℕ)) (m p out : List ℕ) → length w ≡ 30 → Bytes m → Bytes p
+    → let a = arriving (pairOf w) regions entries saved m p out in
+    WholeSound (a .whole) → TypeWidths (inbound a .whole .pair)
+    → InRange (inboundWords w regions entries saved m p out) × (pairOf (inboundWords w regions entries saved m p out) ≡ inbound a .whole .pair)
+
+abbrev pub NextStays : Type 0
+NextStays =
+    (w : List ℕ) (regions entries saved : List (List ℕ)) (m out : List ℕ) → length w ≡ 30
+    → WholeSound (record { pair = pairOf w; regions = regions; entries = entries; saved = saved })
+    → TypeWidths (nextResponse (pairOf w) m out .pair)
+    → InRange (nextWords w m out) × (pairOf (nextWords w m out) ≡ nextResponse (pairOf w) m out .pair)
 
 -- The report to the host, word by word, listed here once more and not by the definition under test; so are the kinds of
 -- a cut and what a cut reports.
