@@ -7,6 +7,7 @@ use lib.ListN.{length}
 use Rattle.sequence.specs.Sequence.{space, msnSpace}
 use Rattle.header.specs.Bytes.{bit}
 use Rattle.header.specs.Write.{qpnSpace}
+use Rattle.table.specs.Table.{entryCapacity, savedCapacity}
 use Rattle.pair.specs.Pair.{blankPair}
 use Rattle.pair.specs.Sound.{timerLimit}
 use Rattle.pair.specs.declared.Setup.{Setup}
@@ -32,9 +33,9 @@ unfoldable pub flagsStray : ℕ → ℕ → ℕ → ℕ → ℕ → ℕ → Bool
 flagsStray service send write read atomic nakmark =
     ltb 1 service || (ltb 1 send || (ltb 1 write || (ltb 1 read || (ltb 1 atomic || ltb 1 nakmark))))
 
--- a ring begins in one of 16 rows
+-- a ring begins in one of its rows
 unfoldable pub headsStray : ℕ → ℕ → Bool
-headsStray entries saved = leb 16 entries || leb 16 saved
+headsStray entries saved = leb entryCapacity entries || leb savedCapacity saved
 
 -- P_Key, timer code, kind and R_Key of the open message, PSN and MSN of the READ being answered, and the state
 unfoldable pub fieldsStray : ℕ → ℕ → ℕ → ℕ → ℕ → ℕ → ℕ → Bool
@@ -95,9 +96,9 @@ narrowed stray w =
     record {
       setup = setupSaid stray w;
       message = messageOf w;
-      entries = record { head = low 4 w 17; count = word w 18 };
+      entries = record { head = word w 17 % entryCapacity; count = word w 18 };
       read = readOf w;
-      saved = record { head = low 4 w 24; count = word w 25 };
+      saved = record { head = word w 24 % savedCapacity; count = word w 25 };
       expected = record { 0 = low 24 w 26 };
       msn = record { 0 = low 24 w 27 };
       state = low 8 w 28;

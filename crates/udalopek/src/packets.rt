@@ -2,7 +2,7 @@
 use crate::left;
 use responder_spec::Completion;
 ghost use mathlib.Core.Path.{_≡_};
-ghost use Rattle.udalopek_spec.specs.Packets.{inboundNumber, inboundWords, inboundRows, inboundBytes, inboundOutput, inboundReport, reportWords, nextNumber, nextWords, nextOutput, nextReport};
+ghost use Rattle.udalopek_spec.specs.Packets.{lent, returned, inboundReturned, reportWords, nextNumber, nextWords, nextOutput, nextReport};
 
 // The report to the host: bytes to send, and the completion.
 fn report_words(outgoing: usize, c: Completion) -> [u64; 6]
@@ -29,12 +29,7 @@ pub extern "C" fn udalopek_inbound(
     out: &mut [u8],
     report: &mut [u64; 6],
 ) -> u8
-    ensures { λ r. ⌜ r ≡ inboundNumber (now (pair .entry)) (now (regions .entry)) (now (entries .entry)) (now (saved .entry)) (now (mem .entry)) (now (packet .entry)) (now (out .entry)) ⌝ }
-    ensures { λ r. ⌜ now (pair .exit) ≡ inboundWords (now (pair .entry)) (now (regions .entry)) (now (entries .entry)) (now (saved .entry)) (now (mem .entry)) (now (packet .entry)) (now (out .entry)) ⌝ }
-    ensures { λ r. ⌜ now (saved .exit) ≡ inboundRows (now (pair .entry)) (now (regions .entry)) (now (entries .entry)) (now (saved .entry)) (now (mem .entry)) (now (packet .entry)) (now (out .entry)) ⌝ }
-    ensures { λ r. ⌜ now (mem .exit) ≡ inboundBytes (now (pair .entry)) (now (regions .entry)) (now (entries .entry)) (now (saved .entry)) (now (mem .entry)) (now (packet .entry)) (now (out .entry)) ⌝ }
-    ensures { λ r. ⌜ now (out .exit) ≡ inboundOutput (now (pair .entry)) (now (regions .entry)) (now (entries .entry)) (now (saved .entry)) (now (mem .entry)) (now (packet .entry)) (now (out .entry)) ⌝ }
-    ensures { λ r. ⌜ now (report .exit) ≡ inboundReport (now (pair .entry)) (now (regions .entry)) (now (entries .entry)) (now (saved .entry)) (now (mem .entry)) (now (packet .entry)) (now (out .entry)) ⌝ }
+    ensures { λ r. ⌜ returned r (now (pair .exit)) (now (saved .exit)) (now (mem .exit)) (now (out .exit)) (now (report .exit)) ≡ inboundReturned (lent (now (pair .entry)) (now (regions .entry)) (now (entries .entry)) (now (saved .entry)) (now (mem .entry)) (now (packet .entry)) (now (out .entry))) ⌝ }
 {
     if pair.len() != abi::PAIR {
         *report = [0; 6];

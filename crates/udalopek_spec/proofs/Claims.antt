@@ -1,13 +1,13 @@
 -- The proofs of the claims.
 use Prim.Native.Nat.{ℕ, _+_, _≤_}
 use mathlib.Core.Path.{_≡_, refl, sym, ap, subst, _∙_}
-use mathlib.Core.Bool.{Bool, true, false, cond, not}
+use mathlib.Core.Bool.{Bool, true, false, cond, not, true≢false}
 use mathlib.Core.List.{List, [], _∷_}
 use mathlib.Core.Logic.{_⊎_, inl, inr}
 use lib.Dec.{eqb, ltb}
 use lib.ListN.{length, getD, replicate}
 use borrow.Author.Tests.{lt-ltb, le-ltb, ne-eqb}
-use Rattle.responder_spec.specs.Arrival.{arriving}
+use Rattle.responder_spec.specs.Arrival.{Left}
 use Rattle.pair.specs.declared.Pair.{Pair}
 use Rattle.pair.specs.declared.Status.the-variants as status
 use Rattle.pair.specs.Answer.{statusNumber}
@@ -28,8 +28,8 @@ use Rattle.effect_laws.proofs.Effects.{inbound-table}
 use Rattle.abi_spec.specs.Pair.{otherLength, strays, setupSaid, readOf, narrowed, saidBy, pairOf, pairWords}
 use Rattle.abi_spec.specs.Claims.{InRange, PairFields}
 use Rattle.abi_spec.proofs.Laws.{ranges-tested, stray-tested, stray-unsound, pair-back}
-use Rattle.udalopek_spec.specs.Packets.{inboundOf, inboundNumber, inboundWords, inboundRows}
-use Rattle.udalopek_spec.specs.Packets.{inboundBytes, inboundOutput, inboundReport, reportWords, nextNumber}
+use Rattle.udalopek_spec.specs.Packets.{Lent, arrivalWith, inboundOf, refusedWith, returning, wordsLeft, inboundReturned}
+use Rattle.udalopek_spec.specs.Packets.{reportWords, nextNumber}
 use Rattle.udalopek_spec.specs.Packets.{nextWords, nextOutput, nextReport}
 use Rattle.udalopek_spec.specs.Cutting.{requestOf, cutReport}
 use Rattle.udalopek_spec.specs.Host.{unmade, setUpNumber, resetNumber, resetWords, resetTable, readyNumber}
@@ -60,36 +60,62 @@ behind-words w n q f h = go (strays w) refl
     go true e = refl
     go false e = ap pairWords (f (subst (λ b. (cond b 34 n ≡ 5) ⊎ (32 ≤ cond b 34 n)) (as-many w e) h)) ∙ sym (own-words w e)
 
+-- what is returned, field by field
+by-fields : (b : Bool) (number : ℕ) (l : Lent) (w : List ℕ) (x : Left)
+    → cond b (refusedWith number l) (returning w x)
+    ≡ (record {
+      number = cond b number (x .number);
+      words = cond b (l .words) w;
+      saved = cond b (l .saved) (x .whole .saved);
+      memory = cond b (l .memory) (x .memory);
+      out = cond b (l .out) (x .out);
+      report = cond b (replicate 6 0) (reportWords (x .outgoing) (x .completion));
+    })
+by-fields true number l w x = refl
+by-fields false number l w x = refl
+
+-- words that stray are kept in any case
+words-kept : (b c : Bool) (w v : List ℕ) → (c ≡ false → b ≡ false) → cond b w (cond c w v) ≡ cond c w v
+words-kept true true w v f = refl
+words-kept true false w v f = absurd (true≢false (f refl))
+words-kept false c w v f = refl
+
 pub inbound-keeps : InboundKeeps
-unfolding inboundNumber inboundWords inboundRows inboundBytes inboundOutput inboundReport
-inbound-keeps w regions entries saved m p out h =
+unfolding inboundReturned wordsLeft
+inbound-keeps l h =
+    let w = l .words in
     let b = otherLength w in
-    let t = inbound-table (arriving (pairOf w) regions entries saved m p out) in (
-      behind-words w _ _ (λ g. t .quiet g .pair) h,
-      behind b _ saved _ (λ g. t .quiet g .unexecuted .saved) h,
-      behind b _ m _ (λ g. t .quiet g .unexecuted .memory) h,
-      behind b _ out _ (λ g. t .quiet g .out) h,
-      behind b _ (replicate 6 0) _
-          (λ g. ap (λ n. reportWords n (inboundOf w regions entries saved m p out .completion)) (t .quiet g .outgoing) ∙ silent _ (t .quiet g .unexecuted .completion))
-          h,
-    )
+    let x = inboundOf l in
+    let r = by-fields b 34 l (wordsLeft l) x in
+    let t = inbound-table (arrivalWith l (pairOf w)) in
+    let k = subst (λ y. (y .number ≡ 5) ⊎ (32 ≤ y .number)) r h in
+    record {
+      words =
+          ap (λ y. y .words) r ∙ words-kept b (strays w) w (pairWords (x .whole .pair)) (as-many w)
+          ∙ behind-words w _ _ (λ g. t .quiet g .pair) k;
+      saved = ap (λ y. y .saved) r ∙ behind b _ (l .saved) _ (λ g. t .quiet g .unexecuted .saved) k;
+      memory = ap (λ y. y .memory) r ∙ behind b _ (l .memory) _ (λ g. t .quiet g .unexecuted .memory) k;
+      out = ap (λ y. y .out) r ∙ behind b _ (l .out) _ (λ g. t .quiet g .out) k;
+      report =
+          ap (λ y. y .report) r
+          ∙ behind b _ (replicate 6 0) _
+          (λ g. ap (λ n. reportWords n (x .completion)) (t .quiet g .outgoing) ∙ silent _ (t .quiet g .unexecuted .completion)) k;
+    }
 
 -- the words of a pair are as many as they should be
 of-pair : (q : Pair) → PairFields q → otherLength (pairWords q) ≡ false
 of-pair q f = as-many (pairWords q) (pair-back q f .1)
 
 pub inbound-is : InboundIs
-unfolding inboundNumber inboundWords inboundRows inboundBytes inboundOutput inboundReport
-inbound-is q regions entries saved m p out f =
+unfolding inboundReturned wordsLeft
+inbound-is q l f e =
     let b = pair-back q f in
-    let n = of-pair q f in (
-      sym (second _ 34 _ n) ∙ ap (λ x. inbound (arriving x regions entries saved m p out) .number) (b .0),
-      sym (second _ _ _ (b .1)) ∙ ap (λ x. pairWords (inbound (arriving x regions entries saved m p out) .whole .pair)) (b .0),
-      sym (second _ _ _ n) ∙ ap (λ x. inbound (arriving x regions entries saved m p out) .whole .saved) (b .0),
-      sym (second _ _ _ n) ∙ ap (λ x. inbound (arriving x regions entries saved m p out) .memory) (b .0),
-      sym (second _ _ _ n) ∙ ap (λ x. inbound (arriving x regions entries saved m p out) .out) (b .0),
-      sym (second _ _ _ n) ∙ ap (λ x. reportWords (inbound (arriving x regions entries saved m p out) .outgoing) (inbound (arriving x regions entries saved m p out) .completion)) (b .0),
-    )
+    let n : otherLength (l .words) ≡ false = ap otherLength e ∙ of-pair q f in
+    let s : strays (l .words) ≡ false = ap strays e ∙ b .1 in
+    let p : pairOf (l .words) ≡ q = ap pairOf e ∙ b .0 in
+    sym (second _ (refusedWith 34 l) _ n)
+    ∙ (ap (λ w. returning w (inboundOf l)) (sym (second _ (l .words) _ s))
+    ∙ ap (λ x. returning (pairWords (inbound (arrivalWith l x) .whole .pair)) (inbound (arrivalWith l x))) p)
 
 pub next-is : NextIs
 unfolding nextNumber nextWords nextOutput nextReport
@@ -150,10 +176,10 @@ unfolding removeNumber removeTable
 remove-is w rows key h = (sym (second _ 34 _ (many w h)), sym (second _ _ _ (many w h)))
 
 pub length-refused : LengthRefused
-unfolding inboundNumber nextNumber setUpNumber resetNumber readyNumber addNumber removeNumber postNumber
-length-refused w m p out rows entries saved s r key e n =
-    let f = few w n in (
-      sym (first _ 34 _ f),
+unfolding inboundReturned nextNumber setUpNumber resetNumber readyNumber addNumber removeNumber postNumber
+length-refused l m out rows s r key e n =
+    let f = few (l .words) n in (
+      ap (λ y. y .number) (sym (first _ (refusedWith 34 l) (returning (wordsLeft l) (inboundOf l)) f)),
       sym (first _ 34 _ f),
       sym (first _ 34 _ f),
       sym (first _ 34 _ f),
@@ -175,12 +201,12 @@ unsound w h n = stray-tested w h (stray w n)
         go false e = absurd (k (ranges-tested v .0 e))
 
 pub words-refused : WordsRefused
-unfolding inboundNumber inbound leftBy noReply statusNumber
-words-refused w regions entries saved m p out h n =
-    let a = arriving (pairOf w) regions entries saved m p out in
-    let l = many w h in (
-      λ o. sym (second _ 34 _ l) ∙ ap (λ d. statusNumber (d .status)) (refused-unsound a (le-ltb (length out) 24 o) (unsound w h n)),
-      λ o. sym (second _ 34 _ l) ∙ ap (λ d. statusNumber (d .status)) (refused-short a (lt-ltb (length out) 24 o)),
+unfolding inboundReturned inbound leftBy noReply statusNumber
+words-refused l h n =
+    let a = arrivalWith l (pairOf (l .words)) in
+    let y = ap (λ y. y .number) (sym (second _ (refusedWith 34 l) (returning (wordsLeft l) (inboundOf l)) (many (l .words) h))) in (
+      λ o. y ∙ ap (λ d. statusNumber (d .status)) (refused-unsound a (le-ltb (length (l .out)) 24 o) (unsound (l .words) h n)),
+      λ o. y ∙ ap (λ d. statusNumber (d .status)) (refused-short a (lt-ltb (length (l .out)) 24 o)),
     )
 
 -- the numbers that words say, in range or not

@@ -20,14 +20,14 @@ use Rattle.pair.specs.declared.ReadAnswer.{ReadAnswer}
 use Rattle.pair.specs.declared.Pair.{Pair}
 use Rattle.pair.specs.declared.Status.{Status}
 use Rattle.pair.specs.declared.Status.the-variants as status
-use Rattle.responder_spec.specs.Arrival.{Arrival, arriving}
+use Rattle.responder_spec.specs.Arrival.{Arrival}
 use Rattle.responder_spec.specs.Apply.{actsAtomic, savedRingBy, ringTaken, entriesBy, msnBy, readAnswerBy, executedPair, pairByNumber, pairBy}
 use Rattle.responder_spec.specs.Decide.{noReply, inboundRefusal, readsFull, decision}
 use Rattle.responder_spec.specs.Inbound.{inbound, leftBy}
 use Rattle.responder_spec.specs.declared.Decision.{Decision}
 use Rattle.abi_spec.specs.Pair.{otherLength, strays, pairOf, pairWords}
 use Rattle.abi_spec.proofs.Laws.{stray-tested}
-use Rattle.udalopek_spec.specs.Packets.{inboundWords}
+use Rattle.udalopek_spec.specs.Packets.{Lent, arrivalWith, inboundOf, wordsLeft}
 use Rattle.udalopek_spec.specs.Left.{countersPut, messagePut, entriesPut, readPut, savedPut, statePut, entriesPutIf, readPutIf, savedPutIf, executedPut, putByNumber}
 use Rattle.udalopek_spec.proofs.Steps.{own-words, counted, first, second}
 
@@ -166,32 +166,30 @@ put-pair : (q : Pair) (d : Decision) → putByNumber (pairWords q) (pairBy q d) 
 unfolding pairBy
 put-pair q d = by-status q d (d .status)
 
-left-pair : (q : Pair) (regions entries saved : List (List ℕ)) (m p out : List ℕ)
-    → pairWords (pairBy q (decision (arriving q regions entries saved m p out))) ≡ pairWords (inbound (arriving q regions entries saved m p out) .whole .pair)
+left-pair : (l : Lent) (q : Pair) → pairWords (pairBy q (decision (arrivalWith l q))) ≡ pairWords (inbound (arrivalWith l q) .whole .pair)
 unfolding inbound leftBy
-left-pair q regions entries saved m p out = refl
+left-pair l q = refl
 
-pub left-words : (w : List ℕ) (regions entries saved : List (List ℕ)) (m p out : List ℕ) → otherLength w ≡ false
-    → (q : Pair) → q ≡ pairOf w → (d : Decision) → d ≡ decision (arriving q regions entries saved m p out)
-    → (next : Pair) → next ≡ pairBy q d → (w' : List ℕ) → w' ≡ putByNumber w next d (statusNumber (d .status))
-    → w' ≡ inboundWords w regions entries saved m p out
-unfolding inboundWords
-left-words w regions entries saved m p out l q o d i next j w' c = c ∙ go (strays w) refl
+pub left-words : (l : Lent) → otherLength (l .words) ≡ false
+    → (q : Pair) → q ≡ pairOf (l .words) → (d : Decision) → d ≡ decision (arrivalWith l q)
+    → (next : Pair) → next ≡ pairBy q d → (w' : List ℕ) → w' ≡ putByNumber (l .words) next d (statusNumber (d .status))
+    → w' ≡ wordsLeft l
+unfolding wordsLeft
+left-words l n q o d i next j w' c = c ∙ go (strays (l .words)) refl
   where
-    unsound : strays w ≡ true → pairUnsound q ≡ true
-    unsound e = ap pairUnsound o ∙ stray-tested w (counted w l) e
+    unsound : strays (l .words) ≡ true → pairUnsound q ≡ true
+    unsound e = ap pairUnsound o ∙ stray-tested (l .words) (counted (l .words) n) e
 
-    go : (b : Bool) → strays w ≡ b
-        → putByNumber w next d (statusNumber (d .status)) ≡ cond b w (pairWords (inbound (arriving (pairOf w) regions entries saved m p out) .whole .pair))
-    go true e =
-        put-nothing w next d (by-decision (unsound-decision (arriving q regions entries saved m p out) (unsound e)))
+    go : (b : Bool) → strays (l .words) ≡ b
+        → putByNumber (l .words) next d (statusNumber (d .status)) ≡ cond b (l .words) (pairWords (inboundOf l .whole .pair))
+    go true e = put-nothing (l .words) next d (by-decision (unsound-decision (arrivalWith l q) (unsound e)))
       where
-        by-decision : (decision (arriving q regions entries saved m p out) ≡ noReply status.OutputShort) ⊎ (decision (arriving q regions entries saved m p out) ≡ noReply status.OutOfRange)
+        by-decision : (decision (arrivalWith l q) ≡ noReply status.OutputShort) ⊎ (decision (arrivalWith l q) ≡ noReply status.OutOfRange)
             → (d ≡ noReply status.OutputShort) ⊎ (d ≡ noReply status.OutOfRange)
         by-decision (inl f) = inl (i ∙ f)
         by-decision (inr f) = inr (i ∙ f)
     go false e =
-        ap (λ v. putByNumber v next d (statusNumber (d .status))) (own-words w e ∙ ap pairWords (sym o))
+        ap (λ v. putByNumber v next d (statusNumber (d .status))) (own-words (l .words) e ∙ ap pairWords (sym o))
         ∙ (ap (λ x. putByNumber (pairWords q) x d (statusNumber (d .status))) j
         ∙ (put-pair q d
-        ∙ (ap (λ x. pairWords (pairBy q x)) i ∙ left-pair q regions entries saved m p out ∙ ap (λ x. pairWords (inbound (arriving x regions entries saved m p out) .whole .pair)) o)))
+        ∙ (ap (λ x. pairWords (pairBy q x)) i ∙ left-pair l q ∙ ap (λ x. pairWords (inbound (arrivalWith l x) .whole .pair)) o)))

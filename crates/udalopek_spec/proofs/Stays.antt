@@ -7,15 +7,14 @@ use lib.ListN.{length}
 use Rattle.pair.specs.Claims.{Sound}
 use Rattle.pair.specs.declared.Pair.{Pair}
 use Rattle.pair.proofs.Tests.{tested}
-use Rattle.responder_spec.specs.Arrival.{arriving}
 use Rattle.responder_spec.specs.Calls.{drained}
 use Rattle.sound_laws.proofs.Kept.{inbound-sound, next-sound}
 use Rattle.abi_spec.specs.Pair.{strays, pairOf, pairWords}
 use Rattle.abi_spec.specs.Claims.{InRange}
 use Rattle.abi_spec.proofs.Laws.{ranges-tested, sound-words, pair-back, sound-fits}
-use Rattle.udalopek_spec.specs.Packets.{inboundWords, nextWords}
+use Rattle.udalopek_spec.specs.Packets.{arrivalWith, inboundOf, refusedWith, returning, wordsLeft, inboundReturned, nextWords}
 use Rattle.udalopek_spec.specs.Claims.{TypeWidths, InboundStays, NextStays}
-use Rattle.udalopek_spec.proofs.Steps.{second}
+use Rattle.udalopek_spec.proofs.Steps.{second, many}
 
 own : (w v : List ℕ) (q : Pair) → v ≡ pairWords q → Sound q → TypeWidths q → InRange v × (pairOf v ≡ q)
 own w v q e s t =
@@ -26,9 +25,12 @@ in-range : (w : List ℕ) → length w ≡ 30 → Sound (pairOf w) → strays w 
 in-range w h s = sound-words w h (tested (pairOf w) .1 s)
 
 pub inbound-stays : InboundStays
-unfolding inboundWords
-inbound-stays w regions entries saved m p out h bm bp s t =
-    own w _ _ (sym (second (strays w) w _ (in-range w h (s .pair)))) (inbound-sound (arriving (pairOf w) regions entries saved m p out) bm bp s .pair) t
+unfolding inboundReturned wordsLeft
+inbound-stays l h bm bp s t =
+    let w = l .words in
+    own w _ _
+    (ap (λ y. y .words) (sym (second _ (refusedWith 34 l) (returning (wordsLeft l) (inboundOf l)) (many w h)))
+    ∙ sym (second (strays w) w _ (in-range w h (s .pair)))) (inbound-sound (arrivalWith l (pairOf w)) bm bp s .pair) t
 
 pub next-stays : NextStays
 unfolding nextWords drained

@@ -20,21 +20,21 @@ use Rattle.responder_spec.specs.declared.Completion.{Completion}
 use Rattle.cut_spec.specs.declared.Request.the-variants.{Send, SendImmediate, Write, WriteImmediate, Read, CmpSwap, FetchAdd}
 use Rattle.abi_spec.specs.Pair.{pairOf, pairWords}
 use Rattle.abi_spec.specs.Claims.{InRange, PairFields}
-use Rattle.udalopek_spec.specs.Packets.{inboundNumber, inboundWords, inboundRows, inboundBytes, inboundOutput, inboundReport, reportWords, nextNumber, nextWords, nextOutput, nextReport}
+use Rattle.udalopek_spec.specs.Packets.{Lent, Returned, arrivalWith, inboundOf, returning, inboundReturned, reportWords, nextNumber, nextWords, nextOutput, nextReport}
 use Rattle.udalopek_spec.specs.Cutting.{requestOf, cutReport}
 use Rattle.udalopek_spec.specs.Host.{setUpNumber, setUpWords, setUpTable, resetNumber, resetWords, resetTable, readyNumber}
 use Rattle.udalopek_spec.specs.Host.{readyWords, addNumber, addTable, removeNumber, removeTable, postNumber, postWords, postTable}
 
 -- A packet dropped or a call refused leaves all words, rows and bytes as they were, and reports nothing.
+pub record Keeps (l : Lent) (r : Returned) : Type 0 where
+  pub words : r .words ≡ l .words
+  pub saved : r .saved ≡ l .saved
+  pub memory : r .memory ≡ l .memory
+  pub out : r .out ≡ l .out
+  pub report : r .report ≡ replicate 6 0
+
 abbrev pub InboundKeeps : Type 0
-InboundKeeps =
-    (w : List ℕ) (regions entries saved : List (List ℕ)) (m p out : List ℕ)
-    → (inboundNumber w regions entries saved m p out ≡ 5) ⊎ (32 ≤ inboundNumber w regions entries saved m p out)
-    → (inboundWords w regions entries saved m p out ≡ w)
-    × (inboundRows w regions entries saved m p out ≡ saved)
-    × (inboundBytes w regions entries saved m p out ≡ m)
-    × (inboundOutput w regions entries saved m p out ≡ out)
-    × (inboundReport w regions entries saved m p out ≡ replicate 6 0)
+InboundKeeps = (l : Lent) → (inboundReturned l .number ≡ 5) ⊎ (32 ≤ inboundReturned l .number) → Keeps l (inboundReturned l)
 
 -- So does every other call that is refused. Numbers from 32 on are the refusals.
 abbrev pub NextKeeps : Type 0
@@ -65,16 +65,17 @@ PostKeeps =
 -- Another number of words than 30 is refused by every call, before all else.
 abbrev pub LengthRefused : Type 0
 LengthRefused =
-    (w m p out : List ℕ) (rows entries saved : List (List ℕ)) (s : Setup) (r : Region) (key : ℕ) (e : Entry) → (length w ≡ 30 → ⊥)
-    → (inboundNumber w rows entries saved m p out ≡ 34) × (nextNumber w m out ≡ 34) × (setUpNumber w s ≡ 34) × (resetNumber w ≡ 34)
+    (l : Lent) (m out : List ℕ) (rows : List (List ℕ)) (s : Setup) (r : Region) (key : ℕ) (e : Entry) → (length (l .words) ≡ 30 → ⊥)
+    → let w = l .words in
+    (inboundReturned l .number ≡ 34) × (nextNumber w m out ≡ 34) × (setUpNumber w s ≡ 34) × (resetNumber w ≡ 34)
     × (readyNumber w ≡ 34) × (addNumber w rows r ≡ 34) × (removeNumber w rows key ≡ 34) × (postNumber w e ≡ 34)
 
 -- A word out of its range is refused where the order of checks has 34: inbound after 35,
 abbrev pub WordsRefused : Type 0
 WordsRefused =
-    (w : List ℕ) (regions entries saved : List (List ℕ)) (m p out : List ℕ) → length w ≡ 30 → (InRange w → ⊥)
-    → (24 ≤ length out → inboundNumber w regions entries saved m p out ≡ 34)
-    × (length out < 24 → inboundNumber w regions entries saved m p out ≡ 35)
+    (l : Lent) → length (l .words) ≡ 30 → (InRange (l .words) → ⊥)
+    → (24 ≤ length (l .out) → inboundReturned l .number ≡ 34)
+    × (length (l .out) < 24 → inboundReturned l .number ≡ 35)
 
 -- next response after 36 and 35, make ready, add region and post entry after 36, by the numbers that the words say, and
 -- reset at once. Remove region does not look at the words.
@@ -90,15 +91,9 @@ OthersRefused =
 -- On the words of a pair the calls are those of the pair: whatever is proved of these holds of the exported ones.
 abbrev pub InboundIs : Type 0
 InboundIs =
-    (q : Pair) (regions entries saved : List (List ℕ)) (m p out : List ℕ) → PairFields q
-    → let a = arriving q regions entries saved m p out in
-    (inboundNumber (pairWords q) regions entries saved m p out ≡ inbound a .number)
-    × (inboundWords (pairWords q) regions entries saved m p out ≡ pairWords (inbound a .whole .pair))
-    × (inboundRows (pairWords q) regions entries saved m p out ≡ inbound a .whole .saved)
-    × (inboundBytes (pairWords q) regions entries saved m p out ≡ inbound a .memory)
-    × (inboundOutput (pairWords q) regions entries saved m p out ≡ inbound a .out)
-    × (inboundReport (pairWords q) regions entries saved m p out
-    ≡ reportWords (inbound a .outgoing) (inbound a .completion))
+    (q : Pair) (l : Lent) → PairFields q → l .words ≡ pairWords q
+    → inboundReturned l
+    ≡ returning (pairWords (inbound (arrivalWith l q) .whole .pair)) (inbound (arrivalWith l q))
 
 abbrev pub NextIs : Type 0
 NextIs =
@@ -147,10 +142,10 @@ TypeWidths q = (q .setup .pkey < 65536) × (q .message .key < 4294967296) × (q 
 
 abbrev pub InboundStays : Type 0
 InboundStays =
-    (w : List ℕ) (regions entries saved : List (List ℕ)) (m p out : List ℕ) → length w ≡ 30 → Bytes m → Bytes p
-    → let a = arriving (pairOf w) regions entries saved m p out in
-    WholeSound (a .whole) → TypeWidths (inbound a .whole .pair)
-    → InRange (inboundWords w regions entries saved m p out) × (pairOf (inboundWords w regions entries saved m p out) ≡ inbound a .whole .pair)
+    (l : Lent) → length (l .words) ≡ 30 → Bytes (l .memory) → Bytes (l .packet)
+    → WholeSound (arrivalWith l (pairOf (l .words)) .whole)
+    → TypeWidths (inboundOf l .whole .pair)
+    → InRange (inboundReturned l .words) × (pairOf (inboundReturned l .words) ≡ inboundOf l .whole .pair)
 
 abbrev pub NextStays : Type 0
 NextStays =

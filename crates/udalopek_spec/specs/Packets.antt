@@ -5,7 +5,8 @@ use Prim.Native.Nat.{ℕ}
 use mathlib.Core.Bool.{cond}
 use mathlib.Core.List.{List, [], _∷_}
 use lib.ListN.{replicate}
-use Rattle.responder_spec.specs.Arrival.{Left, arriving}
+use Rattle.pair.specs.declared.Pair.{Pair}
+use Rattle.responder_spec.specs.Arrival.{Arrival, Left, arriving}
 use Rattle.header.specs.Refusal as Refusal
 use Rattle.pair.specs.Answer.{statusNumber}
 use Rattle.responder_spec.specs.declared.Completion.{Completion}
@@ -22,30 +23,55 @@ reportLength = 6
 unfoldable pub reportWords : ℕ → Completion → List ℕ
 reportWords outgoing c = outgoing ∷ cond (c .some) 1 0 ∷ c .number ∷ c .length ∷ cond (c .immediate) 1 0 ∷ c .value ∷ []
 
-module _ (w : List ℕ) (regions entries saved : List (List ℕ)) (m p out : List ℕ) where
-  -- what the call of the pair leaves
-  abbrev pub inboundOf : Left
-  inboundOf = inbound (arriving (pairOf w) regions entries saved m p out)
+-- What inbound is lent: the words of a pair in the place of the pair; and what it returns and leaves.
+pub record Lent : Type 0 where
+  pub words : List ℕ
+  pub regions : List (List ℕ)
+  pub entries : List (List ℕ)
+  pub saved : List (List ℕ)
+  pub memory : List ℕ
+  pub packet : List ℕ
+  pub out : List ℕ
 
-  unfoldable pub inboundNumber : ℕ
-  inboundNumber = cond (otherLength w) Refusal.outOfRange (inboundOf .number)
+pub record Returned : Type 0 where
+  pub number : ℕ
+  pub words : List ℕ
+  pub saved : List (List ℕ)
+  pub memory : List ℕ
+  pub out : List ℕ
+  pub report : List ℕ
 
-  unfoldable pub inboundWords : List ℕ
-  inboundWords = cond (strays w) w (pairWords (inboundOf .whole .pair))
+-- each by its parts
+abbrev pub lent : List ℕ → List (List ℕ) → List (List ℕ) → List (List ℕ) → List ℕ → List ℕ → List ℕ → Lent
+lent words regions entries saved memory packet out =
+    record { words = words; regions = regions; entries = entries; saved = saved; memory = memory; packet = packet; out = out }
 
-  unfoldable pub inboundRows : List (List ℕ)
-  inboundRows = cond (otherLength w) saved (inboundOf .whole .saved)
+abbrev pub returned : ℕ → List ℕ → List (List ℕ) → List ℕ → List ℕ → List ℕ → Returned
+returned number words saved memory out report =
+    record { number = number; words = words; saved = saved; memory = memory; out = out; report = report }
 
-  unfoldable pub inboundBytes : List ℕ
-  inboundBytes = cond (otherLength w) m (inboundOf .memory)
+-- what arrives, with this pair
+abbrev pub arrivalWith : Lent → Pair → Arrival
+arrivalWith l q = arriving q (l .regions) (l .entries) (l .saved) (l .memory) (l .packet) (l .out)
 
-  unfoldable pub inboundOutput : List ℕ
-  inboundOutput = cond (otherLength w) out (inboundOf .out)
+-- what the call of the pair that the words say leaves
+abbrev pub inboundOf : Lent → Left
+inboundOf l = inbound (arrivalWith l (pairOf (l .words)))
 
-  unfoldable pub inboundReport : List ℕ
-  inboundReport =
-      cond (otherLength w) (replicate reportLength 0)
-      (reportWords (inboundOf .outgoing) (inboundOf .completion))
+-- what is lent, as it was, with this number and nothing reported
+abbrev pub refusedWith : ℕ → Lent → Returned
+refusedWith number l = returned number (l .words) (l .saved) (l .memory) (l .out) (replicate reportLength 0)
+
+-- what a call of the pair leaves, with these words for those of its pair
+abbrev pub returning : List ℕ → Left → Returned
+returning words x = returned (x .number) words (x .whole .saved) (x .memory) (x .out) (reportWords (x .outgoing) (x .completion))
+
+unfoldable pub wordsLeft : Lent → List ℕ
+wordsLeft l = cond (strays (l .words)) (l .words) (pairWords (inboundOf l .whole .pair))
+
+unfoldable pub inboundReturned : Lent → Returned
+inboundReturned l =
+    cond (otherLength (l .words)) (refusedWith Refusal.outOfRange l) (returning (wordsLeft l) (inboundOf l))
 
 module _ (w : List ℕ) (m out : List ℕ) where
   unfoldable pub nextNumber : ℕ

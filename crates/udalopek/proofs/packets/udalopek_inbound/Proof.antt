@@ -1,20 +1,17 @@
 use mathlib.Core.Path.{_≡_, refl, sym, ap, _∙_}
-use Rattle.udalopek_spec.proofs.Steps.{second, first, many, few, few-stray, said}
-use Rattle.responder_spec.specs.Arrival.{arriving}
+use Rattle.udalopek_spec.proofs.Steps.{second, first, many, few, said}
 use Rattle.responder_spec.specs.Inbound.{inbound}
 use Rattle.responder.specs.Unchanged.{outcomeWith}
 use Rattle.responder.proofs.Steps.{whole}
 use Rattle.udalopek_spec.proofs.Left.{left-words}
-use Rattle.udalopek_spec.specs.Packets.{inboundNumber, inboundWords, inboundRows, inboundBytes, inboundOutput, inboundReport, reportWords}
+use Rattle.udalopek_spec.specs.Packets.{lent, arrivalWith, returned, refusedWith, returning, wordsLeft, inboundOf, inboundReturned, reportWords}
 use borrow.Author.Needs.{needs}
 use Rattle.udalopek.proofs.packets.udalopek_inbound.Statement.{statement}
 use Rattle.udalopek.proofs.packets.udalopek_inbound.Tie as tie
 
 returns : tie.Need-returns
-unfolding inboundNumber inboundWords inboundRows inboundBytes inboundOutput inboundReport
-returns c =
-    let f = few _ (c .before .if1 .taken) in
-    (first _ 34 _ f, (first _ _ _ (few-stray _ f), (first _ _ _ f, (first _ _ _ f, (first _ _ _ f, first _ _ _ f)))))
+unfolding inboundReturned
+returns c = first _ _ _ (few _ (c .before .if1 .taken))
 
 strays-requires : tie.Need-strays-requires
 strays-requires c κs = search needs
@@ -56,34 +53,30 @@ same-length-3 : tie.Need-same-length-3
 same-length-3 c = search needs
 
 returns-2 : tie.Need-returns-2
-unfolding inboundNumber inboundRows inboundBytes inboundOutput inboundReport
+unfolding inboundReturned
 returns-2 c =
-    let A = c .before .before .before .before .before .before .before .before .before .before .before .before .before .before .before .before .before .before .before .before .before .before .before .before .before .before .before .before .before .before .before .args in
-    let l = many (A .pair .now) (c .before .before .before .before .before .before .before .before .before .before .before .before .before .before .before .before .before .before .before .before .before .before .before .before .before .before .if1 .left) in
-    let s = c .before .before .before .before .before .before .before .before .before .before .before .before .before .before .before .before .before .before .before .before .before .before in
-    let q = s .pair-said .result in
-    let o = said (A .pair .now) _ q (c .before .before .before .before .before .before .before .before .before .before .before .before .before .before .before .before .before .before .before .before .before .before .before .before .strays .ensures) (s .pair-said .ensures) in
-    let a = arriving q (A .regions .now) (A .entries .now) (A .saved .now) (A .mem .now) (A .packet .now) (A .out .now) in
-    let i = c .before .before .before .before .before .before .before .before .before .before .before .before .before .before .before .before .before .before .decided .ensures in
-    let d = c .before .before .before .before .before .before .before .before .before .before .before .before .before .before .before .before .before .before .decided .result in
-    let g = c .before .before .before .before .before .before .before .before .before .before .before .before .before .before .before .before in
-    let h = c .before .before .before .before .before .before .before .before .before .before .before in
+    let c3 = c .before .before .before in let c5 = c3 .before .before in let c9 = c5 .before .before .before .before in
+    let c11 = c9 .before .before in let c12 = c11 .before in let c16 = c12 .before .before .before .before in
+    let c18 = c16 .before .before in let c22 = c18 .before .before .before .before in let c24 = c22 .before .before in
+    let c26 = c24 .before .before in
+    let A = c26 .before .before .before .before .before .args in
+    let n = many (A .pair .now) (c26 .if1 .left) in
+    let q = c22 .pair-said .result in
+    let o = said (A .pair .now) _ q (c24 .strays .ensures) (c22 .pair-said .ensures) in
+    let l = lent (A .pair .now) (A .regions .now) (A .entries .now) (A .saved .now) (A .mem .now) (A .packet .now) (A .out .now) in
+    let d = c18 .decided .result in
+    let i = c18 .decided .ensures in
+    let next = c11 .pair-after .result in
     let r =
-    whole a d i (g .change .result) (g .change .ensures .0) _ (g .change .ensures .1) _ (c .before .before .before .before .before .before .before .before .before .before .before .before .keep .ensures)
-    (h .pair-after .result) (h .pair-after .ensures) _ (c .before .before .before .before .before .before .before .before .before .write .ensures) (outcomeWith (h .pair-after .result) d) refl
-    ∙ ap (λ x. inbound (arriving x (A .regions .now) (A .entries .now) (A .saved .now) (A .mem .now) (A .packet .now) (A .out .now))) o in (
-      c .number .ensures ∙ ap (λ x. x .number) r ∙ second _ 34 _ l,
-      (
-        left-words (A .pair .now) (A .regions .now) (A .entries .now) (A .saved .now) (A .mem .now) (A .packet .now) (A .out .now) l q o d i (h .pair-after .result) (h .pair-after .ensures) _ (c .before .before .before .put-left .ensures),
-        (
-          ap (λ x. x .whole .saved) r ∙ second _ _ _ l,
-          (
-            ap (λ x. x .memory) r ∙ second _ _ _ l,
-            (ap (λ x. x .out) r ∙ second _ _ _ l, c .before .before .before .before .before .report-words .ensures ∙ ap (λ x. reportWords (x .outgoing) (x .completion)) r ∙ second _ _ _ l),
-          ),
-        ),
-      ),
-    )
+    whole (arrivalWith l q) d i (c16 .change .result) (c16 .change .ensures .0) _ (c16 .change .ensures .1) _ (c12 .keep .ensures)
+    next (c11 .pair-after .ensures) _ (c9 .write .ensures) (outcomeWith next d) refl
+    ∙ ap (λ x. inbound (arrivalWith l x)) o in
+    (λ k. returned
+    ((c .number .ensures ∙ ap (λ x. x .number) r) k)
+    (left-words l n q o d i next (c11 .pair-after .ensures) _ (c3 .put-left .ensures) k)
+    (r k .whole .saved) (r k .memory) (r k .out)
+    ((c5 .report-words .ensures ∙ ap (λ x. reportWords (x .outgoing) (x .completion)) r) k))
+    ∙ second _ (refusedWith 34 l) (returning (wordsLeft l) (inboundOf l)) n
 
 pub udalopek-inbound-spec : {M : Type 1} → statement M
 udalopek-inbound-spec =
