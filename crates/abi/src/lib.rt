@@ -23,6 +23,24 @@ ghost use Rattle.abi_spec.specs.Pair.{pairLength, numbersStray, flagsStray, hea
 // How many words a pair has.
 pub const PAIR: usize = 30;
 
+// Ranges of words: numbers of 24 bits, R_Keys and numbers of 32, P_Keys of 16, bytes, rows of the rings, timer codes.
+const SPACE: u64 = 16777216;
+
+const KEYS: u64 = 4294967296;
+
+const PKEYS: u64 = 65536;
+
+const BYTE: u64 = 256;
+
+const ENTRIES: u64 = table::ENTRIES as u64;
+
+const SAVED: u64 = table::SAVED as u64;
+
+const TIMER_LIMIT: u64 = pair::TIMER_LIMIT as u64;
+
+// A timer code that no set-up accepts.
+const NO_TIMER: u8 = 255;
+
 pub(crate) fn low8(x: u64) -> u8
     ensures { λ r. ⌜ r ≡ x % 2 ^ 8 ⌝ }
 {
@@ -110,19 +128,19 @@ pub fn overwrite_words(words: &mut [u64], new: &[u64])
 fn numbers_stray(ours: u64, theirs: u64, start: u64, expected: u64, msn: u64) -> bool
     ensures { λ r. ⌜ r ≡ numbersStray ours theirs start expected msn ⌝ }
 {
-    if 16777216 <= ours {
+    if SPACE <= ours {
         return true;
     }
-    if 16777216 <= theirs {
+    if SPACE <= theirs {
         return true;
     }
-    if 16777216 <= start {
+    if SPACE <= start {
         return true;
     }
-    if 16777216 <= expected {
+    if SPACE <= expected {
         return true;
     }
-    16777216 <= msn
+    SPACE <= msn
 }
 
 // Whether the service or a flag is neither 0 nor 1.
@@ -147,39 +165,39 @@ fn flags_stray(service: u64, send: u64, write: u64, read: u64, atomic: u64, nakm
     1 < nakmark
 }
 
-// Whether a ring does not begin in one of 16 rows.
+// Whether a ring does not begin in one of its rows.
 fn heads_stray(entries: u64, saved: u64) -> bool
     ensures { λ r. ⌜ r ≡ headsStray entries saved ⌝ }
 {
-    if 16 <= entries {
+    if ENTRIES <= entries {
         return true;
     }
-    16 <= saved
+    SAVED <= saved
 }
 
 // Whether one of the others is over its range.
 fn fields_stray(pkey: u64, timer: u64, kind: u64, key: u64, psn: u64, msn: u64, state: u64) -> bool
     ensures { λ r. ⌜ r ≡ fieldsStray pkey timer kind key psn msn state ⌝ }
 {
-    if 65536 <= pkey {
+    if PKEYS <= pkey {
         return true;
     }
-    if 31 < timer {
+    if TIMER_LIMIT < timer {
         return true;
     }
-    if 256 <= kind {
+    if BYTE <= kind {
         return true;
     }
-    if 4294967296 <= key {
+    if KEYS <= key {
         return true;
     }
-    if 4294967296 <= psn {
+    if KEYS <= psn {
         return true;
     }
-    if 4294967296 <= msn {
+    if KEYS <= msn {
         return true;
     }
-    256 <= state
+    BYTE <= state
 }
 
 // Whether words are out of range. The functions above take numbers that are read already: the compiler makes one OR of
@@ -211,7 +229,7 @@ fn timer_said(stray: bool, timer: u64) -> u8
     ensures { λ r. ⌜ r ≡ timerSaid stray timer ⌝ }
 {
     if stray {
-        return 255;
+        return NO_TIMER;
     }
     (timer % 32) as u8
 }

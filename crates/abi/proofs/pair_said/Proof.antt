@@ -64,7 +64,11 @@ flag-requires c κs = search needs
 
 returns-2 : tie.Need-returns-2
 unfolding saidBy
-returns-2 c = simp (le-ltb _ _ (c .before .before .before .before .before .before .before .before .before .before .before .before .before .before .before .before .before .if1 .left), le-leb _ _ (c .before .before .before .before .before .before .before .before .before .before .before .before .before .before .before .before .before .if1 .left), ← c .before .before .before .before .before .before .before .before .before .before .before .before .before .before .before .before .setup-said .ensures, ← c .before .before .before .before .before .before .before .before .before .before .before .before .before .before .before .message-of .ensures, ← c .before .before .before .before .before .before .before .before .before .before .before .before .before .low4 .ensures, ← c .before .before .before .before .before .before .before .before .before .before .before .read-of .ensures, ← c .before .before .before .before .before .before .before .before .before .low42 .ensures, ← c .before .before .before .before .before .before .low24 .ensures, ← c .before .before .before .before .low242 .ensures, ← c .before .before .low8 .ensures, ← c .flag .ensures)
+returns-2 c =
+    let c4 = c .before .before .before .before in let c6 = c4 .before .before in
+    let c9 = c6 .before .before .before in let c11 = c9 .before .before in let c13 = c11 .before .before in
+    let c15 = c13 .before .before in let c16 = c15 .before in let c17 = c16 .before in
+    simp (le-ltb _ _ (c17 .if1 .left), le-leb _ _ (c17 .if1 .left), ← c16 .setup-said .ensures, ← c15 .message-of .ensures, ← c13 .low4 .ensures, ← c11 .read-of .ensures, ← c9 .low42 .ensures, ← c6 .low24 .ensures, ← c4 .low242 .ensures, ← c .before .before .low8 .ensures, ← c .flag .ensures)
 
 pub pair-said-spec : {M : Type 1} → statement M
 pair-said-spec =

@@ -71,7 +71,11 @@ flag-requires-4 c κs = search needs
 
 returns : tie.Need-returns
 unfolding setupSaid
-returns c = simp (← c .before .before .before .before .before .before .before .before .before .before .before .before .before .before .before .before .before .before .before .before .low24 .ensures, ← c .before .before .before .before .before .before .before .before .before .before .before .before .before .before .before .before .low242 .ensures, ← c .before .before .before .before .before .before .before .before .before .before .before .before .before .before .low243 .ensures, ← c .before .before .before .before .before .before .before .before .before .before .before .before .low16 .ensures, ← c .before .before .before .before .before .before .before .before .before .before .low1 .ensures, ← c .before .before .before .before .before .before .before .before .timer-said .ensures, ← c .before .before .before .before .before .before .flag .ensures, ← c .before .before .before .before .flag2 .ensures, ← c .before .before .flag3 .ensures, ← c .flag4 .ensures)
+returns c =
+    let c4 = c .before .before .before .before in let c6 = c4 .before .before in let c8 = c6 .before .before in
+    let c10 = c8 .before .before in let c12 = c10 .before .before in let c14 = c12 .before .before in
+    let c16 = c14 .before .before in let c20 = c16 .before .before .before .before in
+    simp (← c20 .low24 .ensures, ← c16 .low242 .ensures, ← c14 .low243 .ensures, ← c12 .low16 .ensures, ← c10 .low1 .ensures, ← c8 .timer-said .ensures, ← c6 .flag .ensures, ← c4 .flag2 .ensures, ← c .before .before .flag3 .ensures, ← c .flag4 .ensures)
 
 pub setup-said-spec : {M : Type 1} → statement M
 setup-said-spec =

@@ -84,24 +84,44 @@ fields-stray-requires c κs = search needs
 
 returns-2 : tie.Need-returns-2
 unfolding strays otherLength
-returns-2 c = simp (eq-eqb _ _ (c .before .before .before .before .before .before .before .before .before .before .before .before .before .before .before .before .before .before .before .before .before .before .before .before .before .if1 .left), ← c .before .before .before .before .before .before .before .before .before .before .before .before .before .before .before .before .before .before .before .numbers-stray .ensures, ← c .before .before .before .before .before .before .before .before .before .before .before .before .flags-stray .ensures, ← c .before .before .before .before .before .before .before .before .before .heads-stray .ensures, ← c .before .fields-stray .ensures, c .if2 .taken)
+returns-2 c =
+    let c9 = c .before .before .before .before .before .before .before .before .before in
+    let c12 = c9 .before .before .before in let c19 = c12 .before .before .before .before .before .before .before in
+    let c25 = c19 .before .before .before .before .before .before in
+    simp (eq-eqb _ _ (c25 .if1 .left), ← c19 .numbers-stray .ensures, ← c12 .flags-stray .ensures, ← c9 .heads-stray .ensures, ← c .before .fields-stray .ensures, c .if2 .taken)
 
 returns-3 : tie.Need-returns-3
 unfolding strays otherLength
-returns-3 c = simp (eq-eqb _ _ (c .before .before .before .before .before .before .before .before .before .before .before .before .before .before .before .before .before .before .before .before .before .before .before .before .before .before .if1 .left), ← c .before .before .before .before .before .before .before .before .before .before .before .before .before .before .before .before .before .before .before .before .numbers-stray .ensures, ← c .before .before .before .before .before .before .before .before .before .before .before .before .before .flags-stray .ensures, ← c .before .before .before .before .before .before .before .before .before .before .heads-stray .ensures, ← c .before .before .fields-stray .ensures, c .before .if2 .left, c .if3 .taken)
+returns-3 c =
+    let c10 = c .before .before .before .before .before .before .before .before .before .before in
+    let c13 = c10 .before .before .before in
+    let c20 = c13 .before .before .before .before .before .before .before in
+    let c26 = c20 .before .before .before .before .before .before in
+    simp (eq-eqb _ _ (c26 .if1 .left), ← c20 .numbers-stray .ensures, ← c13 .flags-stray .ensures, ← c10 .heads-stray .ensures, ← c .before .before .fields-stray .ensures, c .before .if2 .left, c .if3 .taken)
 
 returns-4 : tie.Need-returns-4
 unfolding strays otherLength
-returns-4 c = simp (eq-eqb _ _ (c .before .before .before .before .before .before .before .before .before .before .before .before .before .before .before .before .before .before .before .before .before .before .before .before .before .before .before .if1 .left), ← c .before .before .before .before .before .before .before .before .before .before .before .before .before .before .before .before .before .before .before .before .before .numbers-stray .ensures, ← c .before .before .before .before .before .before .before .before .before .before .before .before .before .before .flags-stray .ensures, ← c .before .before .before .before .before .before .before .before .before .before .before .heads-stray .ensures, ← c .before .before .before .fields-stray .ensures, c .before .before .if2 .left, c .before .if3 .left, c .if4 .taken)
+returns-4 c =
+    let c3 = c .before .before .before in
+    let c11 = c3 .before .before .before .before .before .before .before .before in
+    let c14 = c11 .before .before .before in
+    let c21 = c14 .before .before .before .before .before .before .before in
+    let c27 = c21 .before .before .before .before .before .before in
+    simp (eq-eqb _ _ (c27 .if1 .left), ← c21 .numbers-stray .ensures, ← c14 .flags-stray .ensures, ← c11 .heads-stray .ensures, ← c3 .fields-stray .ensures, c .before .before .if2 .left, c .before .if3 .left, c .if4 .taken)
 
 returns-5 : tie.Need-returns-5
 unfolding strays otherLength
 returns-5 c =
-    let o = ap not (eq-eqb _ _ (c .before .before .before .before .before .before .before .before .before .before .before .before .before .before .before .before .before .before .before .before .before .before .before .before .before .before .before .if1 .left)) in
-    let n = sym (c .before .before .before .before .before .before .before .before .before .before .before .before .before .before .before .before .before .before .before .before .before .numbers-stray .ensures) ∙ c .before .before .if2 .left in
-    let f = sym (c .before .before .before .before .before .before .before .before .before .before .before .before .before .before .flags-stray .ensures) ∙ c .before .if3 .left in
-    let h = sym (c .before .before .before .before .before .before .before .before .before .before .before .heads-stray .ensures) ∙ c .if4 .left in
-    sym (λ i. o i || (n i || (f i || (h i || sym (c .before .before .before .fields-stray .ensures) i))))
+    let c3 = c .before .before .before in
+    let c11 = c3 .before .before .before .before .before .before .before .before in
+    let c14 = c11 .before .before .before in
+    let c21 = c14 .before .before .before .before .before .before .before in
+    let c27 = c21 .before .before .before .before .before .before in
+    let o = ap not (eq-eqb _ _ (c27 .if1 .left)) in
+    let n = sym (c21 .numbers-stray .ensures) ∙ c .before .before .if2 .left in
+    let f = sym (c14 .flags-stray .ensures) ∙ c .before .if3 .left in
+    let h = sym (c11 .heads-stray .ensures) ∙ c .if4 .left in
+    sym (λ i. o i || (n i || (f i || (h i || sym (c3 .fields-stray .ensures) i))))
 
 pub strays-spec : {M : Type 1} → statement M
 strays-spec =

@@ -23,7 +23,8 @@ low-class-requires c κs = search needs
 returns : tie.Need-returns
 unfolding classOf
 returns c =
-    let n = c .before .before .before .args .opcode in
+    let c3 = c .before .before .before in
+    let n = c3 .args .opcode in
     c .low-class .ensures
     ∙ (ap (λ t. cond t (lowClass (lowOf n)) reservedClass) (sym (sym (c .before .before .served .ensures) ∙ c .before .if1 .taken))
     ∙ once (eqb (serviceOf n) Service.rc) (eqb (serviceOf n) Service.uc) (ucHas (lowOf n)) (lowClass (lowOf n)) reservedClass)
@@ -34,7 +35,8 @@ reserved-class-requires c κs = search needs
 returns-2 : tie.Need-returns-2
 unfolding classOf
 returns-2 c =
-    let n = c .before .before .before .args .opcode in
+    let c3 = c .before .before .before in
+    let n = c3 .args .opcode in
     c .reserved-class .ensures
     ∙ (ap (λ t. cond t (lowClass (lowOf n)) reservedClass) (sym (sym (c .before .before .served .ensures) ∙ c .before .if1 .left))
     ∙ once (eqb (serviceOf n) Service.rc) (eqb (serviceOf n) Service.uc) (ucHas (lowOf n)) (lowClass (lowOf n)) reservedClass)

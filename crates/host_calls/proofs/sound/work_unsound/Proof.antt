@@ -19,7 +19,9 @@ read-unsound-requires c κs = search needs
 
 returns-3 : tie.Need-returns-3
 unfolding workUnsound
-returns-3 c = simp (c .before .before .before .if1 .left, ← c .before .before .message-unsound .ensures, c .before .if2 .left, ← c .read-unsound .ensures)
+returns-3 c =
+    let c3 = c .before .before .before in
+    simp (c3 .if1 .left, ← c .before .before .message-unsound .ensures, c .before .if2 .left, ← c .read-unsound .ensures)
 
 pub work-unsound-spec : {M : Type 1} → statement M
 work-unsound-spec =

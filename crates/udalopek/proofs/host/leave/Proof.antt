@@ -21,8 +21,9 @@ same-length c = search needs
 
 returns : tie.Need-returns
 returns c =
-    let A = c .before .before .before .before .before .before .before .before .args in
-    (c .number .ensures, c .before .before .before .overwrite-words .ensures ∙ ap (overwriteWords (A .pair .now)) (c .before .before .before .before .before .before .pair-words .ensures))
+    let c3 = c .before .before .before in let c6 = c3 .before .before .before in let c8 = c6 .before .before in
+    let A = c8 .args in
+    (c .number .ensures, c3 .overwrite-words .ensures ∙ ap (overwriteWords (A .pair .now)) (c6 .pair-words .ensures))
 
 pub leave-spec : {M : Type 1} → statement M
 leave-spec =

@@ -28,9 +28,11 @@ number-requires c κs = search needs
 returns-2 : tie.Need-returns-2
 unfolding addNumber addTable
 returns-2 c =
-    let A = c .before .before .before .before .before .before .before .args in
-    let l = many _ (c .before .before .before .before .before .if1 .left) in
-    let q = said (A .pair .now) _ _ (c .before .before .before .before .strays .ensures) (c .before .before .before .pair-said .ensures) in (
+    let c3 = c .before .before .before in let c4 = c3 .before in let c5 = c4 .before in
+    let c7 = c5 .before .before in
+    let A = c7 .args in
+    let l = many _ (c5 .if1 .left) in
+    let q = said (A .pair .now) _ _ (c4 .strays .ensures) (c3 .pair-said .ensures) in (
       c .number .ensures ∙ ap statusNumber (c .before .add-region .ensures .0 ∙ ap (λ x. addStatus x (A .regions .now) (record { key = A .key; address = A .address; length = A .length; offset = A .offset; write = A .write; read = A .read; atomic = A .atomic })) q) ∙ second _ 34 _ l,
       c .before .add-region .ensures .1 ∙ ap (λ x. addRegions x (A .regions .now) (record { key = A .key; address = A .address; length = A .length; offset = A .offset; write = A .write; read = A .read; atomic = A .atomic })) q ∙ second _ _ _ l,
     )

@@ -34,9 +34,11 @@ same-length c = search needs
 returns-2 : tie.Need-returns-2
 unfolding readyNumber madeReady
 returns-2 c =
-    let A = c .before .before .before .before .before .before .before .before .before .args in
-    let l = many (A .pair .now) (c .before .before .before .before .before .before .before .if1 .left) in
-    let q = said (A .pair .now) _ _ (c .before .before .before .before .before .strays .ensures) (c .before .before .before .pair-said .ensures) in
+    let c3 = c .before .before .before in let c5 = c3 .before .before in let c7 = c5 .before .before in
+    let c9 = c7 .before .before in
+    let A = c9 .args in
+    let l = many (A .pair .now) (c7 .if1 .left) in
+    let q = said (A .pair .now) _ _ (c5 .strays .ensures) (c3 .pair-said .ensures) in
     let e = c .before .before .make-ready .ensures ∙ ap madeReady q in
     let n = c .before .number .ensures ∙ ap (λ o. statusNumber (o .status)) e in
     (n ∙ second _ 34 _ l, unready-words (A .pair .now) l (undone _ _ n (c .if2 .taken)))
@@ -50,13 +52,16 @@ same-length-2 c = search needs
 returns-3 : tie.Need-returns-3
 unfolding readyNumber madeReady
 returns-3 c =
-    let A = c .before .before .before .before .before .before .before .before .before .before .before .before .before .before .args in
-    let l = many (A .pair .now) (c .before .before .before .before .before .before .before .before .before .before .before .before .if1 .left) in
-    let q = said (A .pair .now) _ _ (c .before .before .before .before .before .before .before .before .before .before .strays .ensures) (c .before .before .before .before .before .before .before .before .pair-said .ensures) in
-    let e = c .before .before .before .before .before .before .before .make-ready .ensures ∙ ap madeReady q in
-    let n = c .before .before .before .before .before .before .number .ensures ∙ ap (λ o. statusNumber (o .status)) e in
-    let w = c .before .before .leave .ensures .1 ∙ overwrite-many (A .pair .now) _ (c .before .before .before .before .before .before .before .before .before .before .before .before .if1 .left) ∙ ap (λ o. pairWords (o .pair)) e in
-    (c .before .before .leave .ensures .0 ∙ ap (λ o. statusNumber (o .status)) e ∙ second _ 34 _ l, ready-words (A .pair .now) l (done _ _ n (c .before .before .before .before .before .if2 .left)) _ w)
+    let c5 = c .before .before .before .before .before in let c6 = c5 .before in let c7 = c6 .before in
+    let c8 = c7 .before in let c10 = c8 .before .before in let c12 = c10 .before .before in
+    let c14 = c12 .before .before in
+    let A = c14 .args in
+    let l = many (A .pair .now) (c12 .if1 .left) in
+    let q = said (A .pair .now) _ _ (c10 .strays .ensures) (c8 .pair-said .ensures) in
+    let e = c7 .make-ready .ensures ∙ ap madeReady q in
+    let n = c6 .number .ensures ∙ ap (λ o. statusNumber (o .status)) e in
+    let w = c .before .before .leave .ensures .1 ∙ overwrite-many (A .pair .now) _ (c12 .if1 .left) ∙ ap (λ o. pairWords (o .pair)) e in
+    (c .before .before .leave .ensures .0 ∙ ap (λ o. statusNumber (o .status)) e ∙ second _ 34 _ l, ready-words (A .pair .now) l (done _ _ n (c5 .if2 .left)) _ w)
 
 pub udalopek-make-ready-spec : {M : Type 1} → statement M
 udalopek-make-ready-spec =

@@ -33,9 +33,11 @@ same-length c = search needs
 returns-2 : tie.Need-returns-2
 unfolding postNumber postTable posted
 returns-2 c =
-    let A = c .before .before .before .before .before .before .before .before .before .before .args in
-    let l = many (A .pair .now) (c .before .before .before .before .before .before .before .before .if1 .left) in
-    let q = said (A .pair .now) _ _ (c .before .before .before .before .before .before .strays .ensures) (c .before .before .before .before .pair-said .ensures) in
+    let c4 = c .before .before .before .before in let c6 = c4 .before .before in let c8 = c6 .before .before in
+    let c10 = c8 .before .before in
+    let A = c10 .args in
+    let l = many (A .pair .now) (c8 .if1 .left) in
+    let q = said (A .pair .now) _ _ (c6 .strays .ensures) (c4 .pair-said .ensures) in
     let e = c .before .before .post-entry .ensures .0 ∙ ap (λ x. posted x (record { number = A .number; offset = A .offset; length = A .length })) q in
     let n = c .before .number .ensures ∙ ap (λ o. statusNumber (o .status)) e in
     let rows = c .before .before .post-entry .ensures .1 ∙ ap (λ x. postEntries x (A .entries .now) (record { number = A .number; offset = A .offset; length = A .length })) q ∙ second _ _ _ l in
@@ -50,14 +52,17 @@ same-length-2 c = search needs
 returns-3 : tie.Need-returns-3
 unfolding postNumber postTable posted
 returns-3 c =
-    let A = c .before .before .before .before .before .before .before .before .before .before .before .before .before .before .before .before .args in
-    let l = many (A .pair .now) (c .before .before .before .before .before .before .before .before .before .before .before .before .before .before .if1 .left) in
-    let q = said (A .pair .now) _ _ (c .before .before .before .before .before .before .before .before .before .before .before .before .strays .ensures) (c .before .before .before .before .before .before .before .before .before .before .pair-said .ensures) in
-    let e = c .before .before .before .before .before .before .before .before .post-entry .ensures .0 ∙ ap (λ x. posted x (record { number = A .number; offset = A .offset; length = A .length })) q in
-    let n = c .before .before .before .before .before .before .before .number .ensures ∙ ap (λ o. statusNumber (o .status)) e in
-    let rows = c .before .before .before .before .before .before .before .before .post-entry .ensures .1 ∙ ap (λ x. postEntries x (A .entries .now) (record { number = A .number; offset = A .offset; length = A .length })) q ∙ second _ _ _ l in
+    let c6 = c .before .before .before .before .before .before in let c7 = c6 .before in let c8 = c7 .before in
+    let c10 = c8 .before .before in let c12 = c10 .before .before in let c14 = c12 .before .before in
+    let c16 = c14 .before .before in
+    let A = c16 .args in
+    let l = many (A .pair .now) (c14 .if1 .left) in
+    let q = said (A .pair .now) _ _ (c12 .strays .ensures) (c10 .pair-said .ensures) in
+    let e = c8 .post-entry .ensures .0 ∙ ap (λ x. posted x (record { number = A .number; offset = A .offset; length = A .length })) q in
+    let n = c7 .number .ensures ∙ ap (λ o. statusNumber (o .status)) e in
+    let rows = c8 .post-entry .ensures .1 ∙ ap (λ x. postEntries x (A .entries .now) (record { number = A .number; offset = A .offset; length = A .length })) q ∙ second _ _ _ l in
     let w = c .before .before .put-entries .ensures ∙ ap (λ o. entriesPut (A .pair .now) (o .pair .entries)) e in
-    (n ∙ second _ 34 _ l, (posted-words (A .pair .now) l _ (done _ _ n (c .before .before .before .before .before .before .if2 .left)) _ w, rows))
+    (n ∙ second _ 34 _ l, (posted-words (A .pair .now) l _ (done _ _ n (c6 .if2 .left)) _ w, rows))
 
 pub udalopek-post-entry-spec : {M : Type 1} → statement M
 udalopek-post-entry-spec =

@@ -21,7 +21,8 @@ number-requires c κs = search needs
 returns-2 : tie.Need-returns-2
 unfolding removeNumber removeTable
 returns-2 c =
-    let l = many _ (c .before .before .before .if1 .left) in
+    let c3 = c .before .before .before in
+    let l = many _ (c3 .if1 .left) in
     (c .number .ensures ∙ ap statusNumber (c .before .remove-region .ensures .0) ∙ second _ 34 _ l, c .before .remove-region .ensures .1 ∙ second _ _ _ l)
 
 pub udalopek-remove-region-spec : {M : Type 1} → statement M

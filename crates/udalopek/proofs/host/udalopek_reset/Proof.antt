@@ -33,9 +33,10 @@ same-length c = search needs
 returns-2 : tie.Need-returns-2
 unfolding resetNumber resetWords resetTable unmade
 returns-2 c =
-    let A = c .before .before .before .before .before .before .before .before .args in
-    let l = many (A .pair .now) (c .before .before .before .before .before .before .if1 .left) in
-    let q = said (A .pair .now) _ _ (c .before .before .before .before .strays .ensures) (c .before .before .pair-said .ensures) in
+    let c4 = c .before .before .before .before in let c6 = c4 .before .before in let c8 = c6 .before .before in
+    let A = c8 .args in
+    let l = many (A .pair .now) (c6 .if1 .left) in
+    let q = said (A .pair .now) _ _ (c4 .strays .ensures) (c .before .before .pair-said .ensures) in
     let u : unmade (A .pair .now) ≡ true = ap pairUnsound (sym q) ∙ sym (c .before .unsound .ensures) ∙ c .if2 .taken in
     (first _ 34 _ u ∙ second _ 34 _ l, (first _ _ _ u ∙ second _ _ _ l, first _ _ _ u ∙ second _ _ _ l))
 
@@ -51,10 +52,12 @@ same-length-2 c = search needs
 returns-3 : tie.Need-returns-3
 unfolding resetNumber resetTable unmade resetTo
 returns-3 c =
-    let A = c .before .before .before .before .before .before .before .before .before .before .before .before .args in
-    let l = many (A .pair .now) (c .before .before .before .before .before .before .before .before .before .before .if1 .left) in
-    let q = said (A .pair .now) _ _ (c .before .before .before .before .before .before .before .before .strays .ensures) (c .before .before .before .before .before .before .pair-said .ensures) in
-    let u : unmade (A .pair .now) ≡ false = ap pairUnsound (sym q) ∙ sym (c .before .before .before .before .before .unsound .ensures) ∙ c .before .before .before .before .if2 .left in
+    let c4 = c .before .before .before .before in let c5 = c4 .before in let c6 = c5 .before in
+    let c8 = c6 .before .before in let c10 = c8 .before .before in let c12 = c10 .before .before in
+    let A = c12 .args in
+    let l = many (A .pair .now) (c10 .if1 .left) in
+    let q = said (A .pair .now) _ _ (c8 .strays .ensures) (c6 .pair-said .ensures) in
+    let u : unmade (A .pair .now) ≡ false = ap pairUnsound (sym q) ∙ sym (c5 .unsound .ensures) ∙ c4 .if2 .left in
     let e = c .before .before .reset .ensures .0 ∙ ap resetTo q in
     let n = c .before .number .ensures ∙ ap (λ o. statusNumber (o .status)) e in
     let rows = c .before .before .reset .ensures .1 ∙ ap (λ x. resetRegions x (A .regions .now)) q ∙ second _ _ _ u ∙ second _ _ _ l in
@@ -69,14 +72,17 @@ same-length-3 c = search needs
 returns-4 : tie.Need-returns-4
 unfolding resetNumber resetWords resetTable unmade
 returns-4 c =
-    let A = c .before .before .before .before .before .before .before .before .before .before .before .before .before .before .before .before .before .args in
-    let l = many (A .pair .now) (c .before .before .before .before .before .before .before .before .before .before .before .before .before .before .before .if1 .left) in
-    let q = said (A .pair .now) _ _ (c .before .before .before .before .before .before .before .before .before .before .before .before .before .strays .ensures) (c .before .before .before .before .before .before .before .before .before .before .before .pair-said .ensures) in
-    let u : unmade (A .pair .now) ≡ false = ap pairUnsound (sym q) ∙ sym (c .before .before .before .before .before .before .before .before .before .before .unsound .ensures) ∙ c .before .before .before .before .before .before .before .before .before .if2 .left in
-    let e = c .before .before .before .before .before .before .before .reset .ensures .0 ∙ ap resetTo q in
-    let n = c .before .before .before .before .before .before .number .ensures ∙ ap (λ o. statusNumber (o .status)) e in
-    let rows = c .before .before .before .before .before .before .before .reset .ensures .1 ∙ ap (λ x. resetRegions x (A .regions .now)) q ∙ second _ _ _ u ∙ second _ _ _ l in
-    let w = c .before .before .leave .ensures .1 ∙ overwrite-many (A .pair .now) _ (c .before .before .before .before .before .before .before .before .before .before .before .before .before .before .before .if1 .left) ∙ ap (λ o. pairWords (o .pair)) e in
+    let c6 = c .before .before .before .before .before .before in let c7 = c6 .before in
+    let c9 = c7 .before .before in let c10 = c9 .before in let c11 = c10 .before in let c13 = c11 .before .before in
+    let c15 = c13 .before .before in let c17 = c15 .before .before in
+    let A = c17 .args in
+    let l = many (A .pair .now) (c15 .if1 .left) in
+    let q = said (A .pair .now) _ _ (c13 .strays .ensures) (c11 .pair-said .ensures) in
+    let u : unmade (A .pair .now) ≡ false = ap pairUnsound (sym q) ∙ sym (c10 .unsound .ensures) ∙ c9 .if2 .left in
+    let e = c7 .reset .ensures .0 ∙ ap resetTo q in
+    let n = c6 .number .ensures ∙ ap (λ o. statusNumber (o .status)) e in
+    let rows = c7 .reset .ensures .1 ∙ ap (λ x. resetRegions x (A .regions .now)) q ∙ second _ _ _ u ∙ second _ _ _ l in
+    let w = c .before .before .leave .ensures .1 ∙ overwrite-many (A .pair .now) _ (c15 .if1 .left) ∙ ap (λ o. pairWords (o .pair)) e in
     (c .before .before .leave .ensures .0 ∙ ap (λ o. statusNumber (o .status)) e ∙ second _ 34 _ u ∙ second _ 34 _ l, (w ∙ second _ _ _ u ∙ second _ _ _ l, rows))
 
 pub udalopek-reset-spec : {M : Type 1} → statement M

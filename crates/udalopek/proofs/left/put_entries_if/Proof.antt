@@ -11,7 +11,9 @@ same-length c = search needs
 
 returns : tie.Need-returns
 unfolding entriesPutIf
-returns c = simp (c .before .before .before .before .if1 .taken, ← c .before .before .put-entries .ensures)
+returns c =
+    let c4 = c .before .before .before .before in
+    simp (c4 .if1 .taken, ← c .before .before .put-entries .ensures)
 
 returns-2 : tie.Need-returns-2
 unfolding entriesPutIf

@@ -25,12 +25,15 @@ same-length c = search needs
 returns : tie.Need-returns
 unfolding executedPut
 returns c =
-    let A = c .before .before .before .before .before .before .before .before .before .before .before .before .before .before .before .before .before .before .before .before .before .before .before .before .before .args in
+    let c7 = c .before .before .before .before .before .before .before in
+    let c12 = c7 .before .before .before .before .before in let c17 = c12 .before .before .before .before .before in
+    let c22 = c17 .before .before .before .before .before in let c25 = c22 .before .before .before in
+    let A = c25 .args in
     let d = A .d in
     let n = A .next in
-    let m = c .before .before .before .before .before .before .before .before .before .before .before .before .before .before .before .before .before .put-message .ensures ∙ ap (λ v. messagePut v (n .message)) (c .before .before .before .before .before .before .before .before .before .before .before .before .before .before .before .before .before .before .before .before .before .before .put-counters .ensures) in
-    let e = c .before .before .before .before .before .before .before .before .before .before .before .before .put-entries-if .ensures ∙ ap (λ v. entriesPutIf v (d .completion .some) (n .entries)) m in
-    let r = c .before .before .before .before .before .before .before .put-read-if .ensures ∙ ap (λ v. readPutIf v (d .responses) (n .read)) e in
+    let m = c17 .put-message .ensures ∙ ap (λ v. messagePut v (n .message)) (c22 .put-counters .ensures) in
+    let e = c12 .put-entries-if .ensures ∙ ap (λ v. entriesPutIf v (d .completion .some) (n .entries)) m in
+    let r = c7 .put-read-if .ensures ∙ ap (λ v. readPutIf v (d .responses) (n .read)) e in
     c .before .before .put-saved-if .ensures ∙ ap (λ v. savedPutIf v (d .act) (n .saved)) r
 
 pub put-executed-spec : {M : Type 1} → statement M

@@ -37,7 +37,9 @@ same-length c = search needs
 
 returns-2 : tie.Need-returns-2
 unfolding readPut otherLength
-returns-2 c = simp (eq-eqb _ _ (c .before .before .before .before .if1 .left))
+returns-2 c =
+    let c4 = c .before .before .before .before in
+    simp (eq-eqb _ _ (c4 .if1 .left))
 
 pub put-read-spec : {M : Type 1} → statement M
 put-read-spec =

@@ -16,7 +16,9 @@ same-length c = search needs
 
 returns-2 : tie.Need-returns-2
 unfolding readPutIf
-returns-2 c = simp (ne-eqb _ _ (c .before .before .before .before .if1 .left), ← c .before .before .put-read .ensures)
+returns-2 c =
+    let c4 = c .before .before .before .before in
+    simp (ne-eqb _ _ (c4 .if1 .left), ← c .before .before .put-read .ensures)
 
 pub put-read-if-spec : {M : Type 1} → statement M
 put-read-if-spec = tie.close (tie.spec returns put-read-requires same-length returns-2)

@@ -14,7 +14,9 @@ same-length c = search needs
 
 returns : tie.Need-returns
 unfolding savedPutIf
-returns c = simp (← c .before .before .before .before .before .acts-atomic .ensures, c .before .before .before .before .if1 .taken, ← c .before .before .put-saved .ensures)
+returns c =
+    let c4 = c .before .before .before .before in let c5 = c4 .before in
+    simp (← c5 .acts-atomic .ensures, c4 .if1 .taken, ← c .before .before .put-saved .ensures)
 
 returns-2 : tie.Need-returns-2
 unfolding savedPutIf

@@ -40,13 +40,16 @@ same-length-2 c = search needs
 returns-2 : tie.Need-returns-2
 unfolding nextNumber nextOutput nextReport nextResponse
 returns-2 c =
-    let A = c .before .before .before .before .before .before .before .before .before .before .before .before .before .before .before .before .args in
-    let l = many (A .pair .now) (c .before .before .before .before .before .before .before .before .before .before .before .before .if1 .left) in
-    let q = said (A .pair .now) _ _ (c .before .before .before .before .before .before .before .before .before .before .strays .ensures) (c .before .before .before .before .before .before .before .before .pair-said .ensures) in
-    let e = c .before .before .before .before .before .before .next-response .ensures .0 ∙ ap (λ x. nextResponse x (A .mem .now) (A .out .now)) q in
+    let c3 = c .before .before .before in let c6 = c3 .before .before .before in let c8 = c6 .before .before in
+    let c10 = c8 .before .before in let c12 = c10 .before .before in
+    let c16 = c12 .before .before .before .before in
+    let A = c16 .args in
+    let l = many (A .pair .now) (c12 .if1 .left) in
+    let q = said (A .pair .now) _ _ (c10 .strays .ensures) (c8 .pair-said .ensures) in
+    let e = c6 .next-response .ensures .0 ∙ ap (λ x. nextResponse x (A .mem .now) (A .out .now)) q in
     let n = c .before .number .ensures ∙ ap (λ o. statusNumber (o .status)) e in
-    let out = c .before .before .before .before .before .before .next-response .ensures .1 ∙ ap (λ x. nextOut x (A .mem .now) (A .out .now)) q ∙ second _ _ _ l in
-    let report = ap (λ k. k ∷ []) (c .before .before .before .usize-to-u64 .ensures ∙ ap (λ x. x .outgoing) e) ∙ second _ _ _ l in
+    let out = c6 .next-response .ensures .1 ∙ ap (λ x. nextOut x (A .mem .now) (A .out .now)) q ∙ second _ _ _ l in
+    let report = ap (λ k. k ∷ []) (c3 .usize-to-u64 .ensures ∙ ap (λ x. x .outgoing) e) ∙ second _ _ _ l in
     (n ∙ second _ 34 _ l, (undrained-words (A .pair .now) l _ _ (undone _ _ n (c .if2 .taken)), (out, report)))
 
 put-read-requires : tie.Need-put-read-requires
@@ -61,15 +64,19 @@ same-length-4 c = search needs
 returns-3 : tie.Need-returns-3
 unfolding nextNumber nextOutput nextReport nextResponse
 returns-3 c =
-    let A = c .before .before .before .before .before .before .before .before .before .before .before .before .before .before .before .before .before .before .before .before .before .before .args in
-    let l = many (A .pair .now) (c .before .before .before .before .before .before .before .before .before .before .before .before .before .before .before .before .before .before .if1 .left) in
-    let q = said (A .pair .now) _ _ (c .before .before .before .before .before .before .before .before .before .before .before .before .before .before .before .before .strays .ensures) (c .before .before .before .before .before .before .before .before .before .before .before .before .before .before .pair-said .ensures) in
-    let e = c .before .before .before .before .before .before .before .before .before .before .before .before .next-response .ensures .0 ∙ ap (λ x. nextResponse x (A .mem .now) (A .out .now)) q in
-    let n = c .before .before .before .before .before .before .before .number .ensures ∙ ap (λ o. statusNumber (o .status)) e in
-    let out = c .before .before .before .before .before .before .before .before .before .before .before .before .next-response .ensures .1 ∙ ap (λ x. nextOut x (A .mem .now) (A .out .now)) q ∙ second _ _ _ l in
-    let report = ap (λ k. k ∷ []) (c .before .before .before .before .before .before .before .before .before .usize-to-u64 .ensures ∙ ap (λ x. x .outgoing) e) ∙ second _ _ _ l in
+    let c6 = c .before .before .before .before .before .before in let c7 = c6 .before in
+    let c9 = c7 .before .before in let c12 = c9 .before .before .before in let c14 = c12 .before .before in
+    let c16 = c14 .before .before in let c18 = c16 .before .before in
+    let c22 = c18 .before .before .before .before in
+    let A = c22 .args in
+    let l = many (A .pair .now) (c18 .if1 .left) in
+    let q = said (A .pair .now) _ _ (c16 .strays .ensures) (c14 .pair-said .ensures) in
+    let e = c12 .next-response .ensures .0 ∙ ap (λ x. nextResponse x (A .mem .now) (A .out .now)) q in
+    let n = c7 .number .ensures ∙ ap (λ o. statusNumber (o .status)) e in
+    let out = c12 .next-response .ensures .1 ∙ ap (λ x. nextOut x (A .mem .now) (A .out .now)) q ∙ second _ _ _ l in
+    let report = ap (λ k. k ∷ []) (c9 .usize-to-u64 .ensures ∙ ap (λ x. x .outgoing) e) ∙ second _ _ _ l in
     let w = c .before .before .put-read .ensures ∙ ap (λ o. readPut (A .pair .now) (o .pair .read)) e in
-    (n ∙ second _ 34 _ l, (drained-words (A .pair .now) l (A .mem .now) (A .out .now) (done _ _ n (c .before .before .before .before .before .before .if2 .left)) _ w, (out, report)))
+    (n ∙ second _ 34 _ l, (drained-words (A .pair .now) l (A .mem .now) (A .out .now) (done _ _ n (c6 .if2 .left)) _ w, (out, report)))
 
 pub udalopek-next-response-spec : {M : Type 1} → statement M
 udalopek-next-response-spec =
