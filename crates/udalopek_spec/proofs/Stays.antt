@@ -1,25 +1,58 @@
 -- What calls leave of words that calls made is in range again.
-use Prim.Native.Nat.{ℕ}
-use mathlib.Core.Path.{_≡_, sym, ap, _∙_}
-use mathlib.Core.Bool.{false}
-use mathlib.Core.List.{List}
-use lib.ListN.{length}
-use Rattle.pair.specs.Claims.{Sound}
+use Prim.Native.Nat.{ℕ, _<_}
+use mathlib.Core.Path.{_≡_, refl, sym, ap, subst, _∙_}
+use mathlib.Core.Bool.{Bool, true, false, cond}
+use mathlib.Core.List.{List, [], _∷_}
+use lib.Dec.{ltb}
+use lib.ListN.{length, replicate}
+use native.Mathlib.Nat.{mod-lt}
+use native.Mathlib.Omega.{arith}
+use Rattle.pair.specs.Answer.{executed, statusNumber}
+use Rattle.pair.specs.Calls.{Whole, HostCall, called, calledAll, begun}
+use Rattle.pair.specs.Calls.HostCall.{MakeReady, PostEntry}
+use Rattle.pair.specs.Claims.{SetupSound, Sound, WholeSound, Accepted}
+use Rattle.pair.specs.Host.{setUp, madeReady, posted, readyStatus, postStatus}
+use Rattle.pair.specs.Pair.{freshPair, blankPair}
+use Rattle.pair.specs.Sound.{pairUnsound}
+use Rattle.pair.specs.declared.Setup.{Setup}
 use Rattle.pair.specs.declared.Pair.{Pair}
+use Rattle.pair.proofs.Begin.{done-status, set-up-pair, reset-pair}
+use Rattle.pair.proofs.Kept.{begun-sound, calls-sound}
 use Rattle.pair.proofs.Tests.{tested}
 use Rattle.responder_spec.specs.Calls.{drained}
+use Rattle.responder_spec.specs.Response.{nextStatus, nextResponse}
 use Rattle.sound_laws.proofs.Kept.{inbound-sound, next-sound}
-use Rattle.abi_spec.specs.Pair.{strays, pairOf, pairWords}
-use Rattle.abi_spec.specs.Claims.{InRange}
+use Rattle.abi_spec.specs.Words.{word}
+use Rattle.abi_spec.specs.Pair.{otherLength, strays, setupSaid, messageOf, readOf, narrowed, saidBy, pairOf, pairWords}
 use Rattle.abi_spec.proofs.Laws.{ranges-tested, sound-words, pair-back, sound-fits}
 use Rattle.udalopek_spec.specs.Packets.{arrivalWith, inboundOf, refusedWith, returning, wordsLeft, inboundReturned, nextWords}
-use Rattle.udalopek_spec.specs.Claims.{TypeWidths, InboundStays, NextStays}
+use Rattle.udalopek_spec.specs.Host.{setUpWords, unmade, resetWords, readyWords, postWords}
+use Rattle.udalopek_spec.specs.Claims.{Say, TypeWidths, SetUpStays, HostStays, InboundStays, NextStays}
 use Rattle.udalopek_spec.proofs.Steps.{second, many}
 
-own : (w v : List ℕ) (q : Pair) → v ≡ pairWords q → Sound q → TypeWidths q → InRange v × (pairOf v ≡ q)
-own w v q e s t =
+own : (v : List ℕ) (q : Pair) → v ≡ pairWords q → Sound q → TypeWidths q → Say v q
+own v q e s t =
     let b = pair-back q (sound-fits q s (t .0) (t .1) (t .2) (t .3)) in
     (ranges-tested v .0 (ap strays e ∙ b .1), ap pairOf e ∙ b .0)
+
+-- one of two pairs that have the widths has them; so have fresh pairs, and those that words say
+either-widths : (b : Bool) (x y : Pair) → TypeWidths x → TypeWidths y → TypeWidths (cond b x y)
+either-widths true x y f g = f
+either-widths false x y f g = g
+
+fresh-widths : (s : Setup) → s .pkey < 65536 → TypeWidths (freshPair s)
+unfolding freshPair
+fresh-widths s h =
+    let z : 0 < 4294967296 = omega arith in
+    (h, z, z, z)
+
+said-widths : (w : List ℕ) → TypeWidths (pairOf w)
+unfolding pairOf saidBy setupSaid messageOf readOf blankPair
+said-widths w =
+    let s : 0 < 65536 = omega arith in
+    let z : 0 < 4294967296 = omega arith in
+    either-widths (ltb (length w) 30) blankPair (narrowed (strays w) w) (s, z, z, z)
+    (mod-lt (word w 5) s, mod-lt (word w 15) z, mod-lt (word w 22) z, mod-lt (word w 23) z)
 
 in-range : (w : List ℕ) → length w ≡ 30 → Sound (pairOf w) → strays w ≡ false
 in-range w h s = sound-words w h (tested (pairOf w) .1 s)
@@ -28,11 +61,47 @@ pub inbound-stays : InboundStays
 unfolding inboundReturned wordsLeft
 inbound-stays l h bm bp s t =
     let w = l .words in
-    own w _ _
+    own _ _
     (ap (λ y. y .words) (sym (second _ (refusedWith 34 l) (returning (wordsLeft l) (inboundOf l)) (many w h)))
     ∙ sym (second (strays w) w _ (in-range w h (s .pair)))) (inbound-sound (arrivalWith l (pairOf w)) bm bp s .pair) t
 
 pub next-stays : NextStays
-unfolding nextWords drained
-next-stays w regions entries saved m out h s t =
-    own w _ _ (sym (second (strays w) w _ (in-range w h (s .pair)))) (next-sound (record { pair = pairOf w; regions = regions; entries = entries; saved = saved }) m out s .pair) t
+unfolding nextWords drained nextResponse
+next-stays w regions entries saved m out h s =
+    let q = pairOf w in
+    own _ _ (sym (second (strays w) w _ (in-range w h (s .pair))))
+    (next-sound (record { pair = q; regions = regions; entries = entries; saved = saved }) m out s .pair)
+    (either-widths (executed (nextStatus q (length m) (length out))) _ q (said-widths w) (said-widths w))
+
+fresh-sound : (s : Setup) → SetupSound s → Sound (freshPair s)
+unfolding begun
+fresh-sound s f = subst Sound (set-up-pair s f) (begun-sound s [] (replicate 16 []) (replicate 16 []) f refl refl .pair)
+
+pub set-up-stays : SetUpStays
+unfolding setUpWords setUp executed statusNumber
+set-up-stays w s h f k =
+    own _ (freshPair s)
+    (sym (second (otherLength w) w _ (many w h))
+    ∙ ap (λ t. cond (executed t) (pairWords (setUp s .pair)) w) (done-status s f)
+    ∙ ap pairWords (set-up-pair s f))
+    (fresh-sound s f) (fresh-widths s k)
+
+by-call : (x : Whole) → WholeSound x → (c : HostCall) → Accepted c → Sound (called x c .pair)
+unfolding calledAll
+by-call x s c a = calls-sound x (c ∷ []) (a, tt) s .pair
+
+pub host-stays : HostStays
+unfolding resetWords unmade readyWords postWords called madeReady posted
+host-stays w regions entries saved h s =
+    let q = pairOf w in
+    let x : Whole = record { pair = q; regions = regions; entries = entries; saved = saved } in
+    let f = in-range w h (s .pair) in
+    let k = said-widths w in (
+      own _ (freshPair (q .setup))
+          (sym (second (otherLength w) w _ (many w h))
+          ∙ sym (second (pairUnsound q) w _ (tested q .1 (s .pair)))
+          ∙ ap pairWords (reset-pair q (s .pair .setup)))
+          (fresh-sound (q .setup) (s .pair .setup)) (fresh-widths (q .setup) (k .0)),
+      own _ _ (sym (second (strays w) w _ f)) (by-call x s MakeReady tt) (either-widths (executed (readyStatus q)) _ q k k),
+      λ e. own _ _ (sym (second (strays w) w _ f)) (by-call x s (PostEntry e) tt) (either-widths (executed (postStatus q e)) _ q k k),
+    )

@@ -12,7 +12,8 @@ use Rattle.table.specs.declared.Entry.{Entry}
 use Rattle.pair.specs.declared.Setup.{Setup}
 use Rattle.pair.specs.declared.Pair.{Pair}
 use Rattle.pair.specs.Answer.{statusNumber}
-use Rattle.pair.specs.Claims.{Sound, WholeSound}
+use Rattle.pair.specs.Pair.{freshPair}
+use Rattle.pair.specs.Claims.{SetupSound, Sound, WholeSound}
 use Rattle.pair.specs.Host.{resetTo, resetRegions, madeReady, addStatus, addRegions, removeStatus, removeRegions, posted, postEntries}
 use Rattle.responder_spec.specs.Inbound.{inbound}
 use Rattle.responder_spec.specs.Response.{nextResponse, nextOut}
@@ -135,8 +136,30 @@ RemoveIs =
     → (removeNumber w rows key ≡ statusNumber (removeStatus rows key))
     × (removeTable w rows key ≡ removeRegions rows key)
 
--- What inbound and next response leave of words, tables and bytes that calls made are the words of the pair that is left,
--- in range again: no call refuses them for that. The numbers that soundness leaves open have the widths of their types.
+-- Words that say a pair, in range.
+abbrev pub Say : List ℕ → Pair → Type 0
+Say v q = InRange v × (pairOf v ≡ q)
+
+-- What each call leaves of words, tables and bytes that calls made says the pair that is left, in range again: no call
+-- refuses it for that. A set-up may be lent any words.
+abbrev pub SetUpStays : Type 0
+SetUpStays = (w : List ℕ) (s : Setup) → length w ≡ 30 → SetupSound s → s .pkey < 65536 → Say (setUpWords w s) (freshPair s)
+
+abbrev pub HostStays : Type 0
+HostStays =
+    (w : List ℕ) (regions entries saved : List (List ℕ)) → length w ≡ 30
+    → WholeSound (record { pair = pairOf w; regions = regions; entries = entries; saved = saved })
+    → Say (resetWords w) (freshPair (pairOf w .setup))
+    × Say (readyWords w) (madeReady (pairOf w) .pair)
+    × ((e : Entry) → Say (postWords w e) (posted (pairOf w) e .pair))
+
+abbrev pub NextStays : Type 0
+NextStays =
+    (w : List ℕ) (regions entries saved : List (List ℕ)) (m out : List ℕ) → length w ≡ 30
+    → WholeSound (record { pair = pairOf w; regions = regions; entries = entries; saved = saved })
+    → Say (nextWords w m out) (nextResponse (pairOf w) m out .pair)
+
+-- Of inbound: the numbers that soundness leaves open have the widths of their types.
 abbrev pub TypeWidths : Pair → Type 0
 TypeWidths q = (q .setup .pkey < 65536) × (q .message .key < 4294967296) × (q .read .psn .0 < 4294967296) × (q .read .msn .0 < 4294967296)
 
@@ -145,14 +168,7 @@ InboundStays =
     (l : Lent) → length (l .words) ≡ 30 → Bytes (l .memory) → Bytes (l .packet)
     → WholeSound (arrivalWith l (pairOf (l .words)) .whole)
     → TypeWidths (inboundOf l .whole .pair)
-    → InRange (inboundReturned l .words) × (pairOf (inboundReturned l .words) ≡ inboundOf l .whole .pair)
-
-abbrev pub NextStays : Type 0
-NextStays =
-    (w : List ℕ) (regions entries saved : List (List ℕ)) (m out : List ℕ) → length w ≡ 30
-    → WholeSound (record { pair = pairOf w; regions = regions; entries = entries; saved = saved })
-    → TypeWidths (nextResponse (pairOf w) m out .pair)
-    → InRange (nextWords w m out) × (pairOf (nextWords w m out) ≡ nextResponse (pairOf w) m out .pair)
+    → Say (inboundReturned l .words) (inboundOf l .whole .pair)
 
 -- The report to the host, word by word, listed here once more and not by the definition under test; so are the kinds of
 -- a cut and what a cut reports.
