@@ -1,12 +1,12 @@
 -- The proofs of the claims about lists and pairs.
 use Prim.Native.Nat.{ℕ, zero, suc, _%_, _^_, _≤_, _<_}
-use mathlib.Core.Path.{_≡_, refl, sym, ap, _∙_}
+use mathlib.Core.Path.{_≡_, refl, sym, ap, subst, _∙_}
 use mathlib.Core.Bool.{Bool, true, false, cond, not, _||_, true≢false}
 use mathlib.Core.List.{List, [], _∷_}
 use mathlib.Core.Logic.{⊎-elim}
 use lib.Dec.{eqb, ltb, leb}
 use lib.ListN.{length}
-use native.Mathlib.Nat.{mod-eq-of-lt}
+use native.Mathlib.Nat.{mod-eq-of-lt, mod-lt}
 use native.Mathlib.Omega.{arith}
 use borrow.Author.Tests.{eqb-true, eqb-false, eq-eqb, leb-false, ltb-false, lt-leb, le-ltb}
 use Rattle.lemmas.proofs.Tests.{not-false, neither}
@@ -18,7 +18,7 @@ use Rattle.pair.specs.declared.Pair.{Pair}
 use Rattle.pair.proofs.Tests.{tested}
 use Rattle.abi_spec.specs.Words.{word, low, eqWords, overwriteWords, flag}
 use Rattle.abi_spec.specs.Pair.{otherLength, numbersStray, flagsStray, headsStray, fieldsStray, strays, timerSaid, setupSaid, messageOf, readOf, narrowed, saidBy, pairOf, pairWords}
-use Rattle.abi_spec.specs.Claims.{SameIs, InRange, RangesTested, WordsSaid, StrayUnsound, SetupFields, PairFields, PairBack, SoundFits}
+use Rattle.abi_spec.specs.Claims.{SameIs, InRange, RangesTested, WordsSaid, StrayUnsound, SetupFields, PairFields, PairBack, SaidFits, WordsAt, SoundFits}
 
 pub same-self : (a : List ℕ) → eqWords a a ≡ true
 unfolding eqWords
@@ -322,6 +322,73 @@ unfolding pairWords
 pair-back q f =
     let n = no-stray (pairWords q) (words-in-range q f) in
     (said-by (pairWords q) refl false n ∙ back q f, n)
+
+-- words in range say numbers in range
+narrow : (w : List ℕ) → PairFields (narrowed false w)
+unfolding setupSaid timerSaid messageOf readOf
+narrow w = record {
+  setup = record {
+    ours = mod-lt (word w 2) (omega arith);
+    theirs = mod-lt (word w 3) (omega arith);
+    start = mod-lt (word w 4) (omega arith);
+    pkey = mod-lt (word w 5) (omega arith);
+    service = mod-lt (word w 6) (omega arith);
+    timer = mod-lt (word w 7) (omega arith);
+  };
+  kind = mod-lt (word w 12) (omega arith);
+  key = mod-lt (word w 15) (omega arith);
+  entries = mod-lt (word w 17) (omega arith);
+  psn = mod-lt (word w 22) (omega arith);
+  answered = mod-lt (word w 23) (omega arith);
+  saved = mod-lt (word w 24) (omega arith);
+  expected = mod-lt (word w 26) (omega arith);
+  msn = mod-lt (word w 27) (omega arith);
+  state = mod-lt (word w 28) (omega arith);
+}
+
+pub said-fits : SaidFits
+unfolding saidBy
+said-fits w r =
+    subst PairFields
+    (sym (said-by w (r .words) false (no-stray w r) ∙ ap (λ n. cond (ltb n 30) blankPair (narrowed false w)) (r .words))) (narrow w)
+
+flag-at : (b : Bool) → (b ≡ true → bit b ≡ 1) × (b ≡ false → bit b ≡ 0)
+flag-at b = (λ e. ap bit e, λ e. ap bit e)
+
+pub words-at : WordsAt
+unfolding pairWords
+words-at q = record {
+  setup = record {
+    pmtu = refl;
+    memory = refl;
+    ours = refl;
+    theirs = refl;
+    start = refl;
+    pkey = refl;
+    service = refl;
+    timer = refl;
+    send = flag-at (q .setup .send);
+    write = flag-at (q .setup .write);
+    read = flag-at (q .setup .read);
+    atomic = flag-at (q .setup .atomic);
+  };
+  kind = refl;
+  stored = refl;
+  address = refl;
+  key = refl;
+  length = refl;
+  entries = (refl, refl);
+  remaining = refl;
+  offset = refl;
+  bytes = refl;
+  psn = refl;
+  answered = refl;
+  saved = (refl, refl);
+  expected = refl;
+  msn = refl;
+  state = refl;
+  nakmark = flag-at (q .nakmark);
+}
 
 pub sound-fits : SoundFits
 sound-fits q s pkey key psn msn = record {

@@ -1,7 +1,7 @@
 -- What is proved of words; the proofs stand in proofs/.
 use Prim.Native.Nat.{ℕ, _≤_, _<_, _^_}
 use mathlib.Core.Path.{_≡_}
-use mathlib.Core.Bool.{true, false}
+use mathlib.Core.Bool.{Bool, true, false}
 use mathlib.Core.List.{List}
 use lib.ListN.{length, getD}
 use Rattle.header.specs.declared.Bth.{Bth}
@@ -80,6 +80,50 @@ pub record PairFields (q : Pair) : Type 0 where
 -- The words of a pair say that pair, and are in range.
 abbrev pub PairBack : Type 0
 PairBack = (q : Pair) → PairFields q → (pairOf (pairWords q) ≡ q) × (strays (pairWords q) ≡ false)
+
+-- So have the numbers of a pair that words in range say.
+abbrev pub SaidFits : Type 0
+SaidFits = (w : List ℕ) → InRange w → PairFields (pairOf w)
+
+-- Where each number of a pair stands, listed here once more and not by the definition under test.
+abbrev pub FlagAt : List ℕ → ℕ → Bool → Type 0
+FlagAt w i b = (b ≡ true → getD w i 0 ≡ 1) × (b ≡ false → getD w i 0 ≡ 0)
+
+pub record SetupAt (w : List ℕ) (s : Setup) : Type 0 where
+  pub pmtu : getD w 0 0 ≡ s .pmtu
+  pub memory : getD w 1 0 ≡ s .memory
+  pub ours : getD w 2 0 ≡ s .ours
+  pub theirs : getD w 3 0 ≡ s .theirs
+  pub start : getD w 4 0 ≡ s .start .0
+  pub pkey : getD w 5 0 ≡ s .pkey
+  pub service : getD w 6 0 ≡ s .service
+  pub timer : getD w 7 0 ≡ s .timer
+  pub send : FlagAt w 8 (s .send)
+  pub write : FlagAt w 9 (s .write)
+  pub read : FlagAt w 10 (s .read)
+  pub atomic : FlagAt w 11 (s .atomic)
+
+pub record PairAt (w : List ℕ) (q : Pair) : Type 0 where
+  pub setup : SetupAt w (q .setup)
+  pub kind : getD w 12 0 ≡ q .message .kind
+  pub stored : getD w 13 0 ≡ q .message .stored
+  pub address : getD w 14 0 ≡ q .message .address
+  pub key : getD w 15 0 ≡ q .message .key
+  pub length : getD w 16 0 ≡ q .message .length
+  pub entries : (getD w 17 0 ≡ q .entries .head) × (getD w 18 0 ≡ q .entries .count)
+  pub remaining : getD w 19 0 ≡ q .read .remaining
+  pub offset : getD w 20 0 ≡ q .read .offset
+  pub bytes : getD w 21 0 ≡ q .read .length
+  pub psn : getD w 22 0 ≡ q .read .psn .0
+  pub answered : getD w 23 0 ≡ q .read .msn .0
+  pub saved : (getD w 24 0 ≡ q .saved .head) × (getD w 25 0 ≡ q .saved .count)
+  pub expected : getD w 26 0 ≡ q .expected .0
+  pub msn : getD w 27 0 ≡ q .msn .0
+  pub state : getD w 28 0 ≡ q .state
+  pub nakmark : FlagAt w 29 (q .nakmark)
+
+abbrev pub WordsAt : Type 0
+WordsAt = (q : Pair) → PairAt (pairWords q) q
 
 -- Every sound pair has such numbers, if those that soundness leaves open fit their types.
 abbrev pub SoundFits : Type 0

@@ -45,7 +45,7 @@ use Rattle.responder_spec.specs.Reply.{answerBytes, valueBy, over, outBy}
 use Rattle.responder_spec.specs.Inbound.{leftBy, inbound}
 use Rattle.effect_laws.specs.Effects.{Silent, OnlyRead, InboundReads, Unexecuted, Unchanged, Fixed, NakMarkAlone}
 use Rattle.effect_laws.specs.Effects.{ErrorAlone, Begun, DuplicateLeaves, Abandons, Executes, StoresPacket, Accepts}
-use Rattle.effect_laws.specs.Effects.{OnWord, Swaps, Table, InboundTable}
+use Rattle.effect_laws.specs.Effects.{OnWord, Swaps, Table, InboundTable, LeavesEach}
 use Rattle.decision_laws.proofs.Codes.Bare.{reads, swaps, adds}
 use Rattle.decision_laws.proofs.Codes.{Bare, class-is}
 use Rattle.decision_laws.proofs.Rows.Quiet.{dropped, short, range, unfinished}
@@ -499,6 +499,17 @@ module _ (arrival : Arrival) where
       err : (l .number ≡ 17) ⊎ (l .number ≡ 18) → ErrorAlone arrival l
       err (inl h) = is a l 17 (sym e ∙ h) x
       err (inr h) = is a l 18 (sym e ∙ h) x
+
+pub leaves-each : LeavesEach
+leaves-each q regions entries saved m p out o saved' m' out' e = (
+  ap (λ y. y .number) e,
+  ap (λ y. y .whole .pair) e,
+  ap (λ y. y .completion) e,
+  ap (λ y. y .outgoing) e,
+  ap (λ y. y .whole .saved) e,
+  ap (λ y. y .memory) e,
+  ap (λ y. y .out) e,
+)
 
 pub inbound-reads : InboundReads
 unfolding inbound

@@ -23,8 +23,9 @@ use Rattle.pair.specs.declared.Setup.{Setup}
 use Rattle.pair.specs.declared.Pair.{Pair}
 use Rattle.pair.specs.declared.ReadAnswer.{ReadAnswer}
 use Rattle.responder_spec.specs.declared.Completion.{Completion}
-use Rattle.responder_spec.specs.Arrival.{Arrival, Left}
-use Rattle.responder_spec.specs.Inbound.{inbound}
+use Rattle.responder_spec.specs.declared.Outcome.{Outcome}
+use Rattle.responder_spec.specs.Arrival.{Arrival, Left, arriving}
+use Rattle.responder_spec.specs.Inbound.{inbound, Leaves}
 use Rattle.responder_spec.specs.Calls.{drained}
 use Rattle.pair.specs.Calls.{Whole}
 use Rattle.responder_spec.specs.Response.{nextResponse, nextBytes, nextOut}
@@ -50,6 +51,16 @@ pub record OnlyRead (a : Arrival) (l : Left) : Type 0 where
 
 abbrev pub InboundReads : Type 0
 InboundReads = (a : Arrival) → OnlyRead a (inbound a)
+
+-- The promise of inbound is one equation between records: it is of the very things that the call was given, and gives
+-- each thing that it leaves.
+abbrev pub LeavesEach : Type 0
+LeavesEach =
+    (q : Pair) (regions entries saved : List (List ℕ)) (m p out : List ℕ) (o : Outcome) (saved' : List (List ℕ)) (m' out' : List ℕ)
+    → Leaves (arriving q regions entries saved m p out) o saved' m' out'
+    → let x = inbound (record { whole = record { pair = q; regions = regions; entries = entries; saved = saved }; memory = m; packet = p; out = out }) in
+    (statusNumber (o .status) ≡ x .number) × (o .pair ≡ x .whole .pair) × (o .completion ≡ x .completion) × (o .outgoing ≡ x .outgoing)
+    × (saved' ≡ x .whole .saved) × (m' ≡ x .memory) × (out' ≡ x .out)
 
 -- Nothing at all is changed.
 pub record Unchanged (a : Arrival) (l : Left) : Type 0 where

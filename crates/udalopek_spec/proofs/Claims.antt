@@ -1,42 +1,43 @@
 -- The proofs of the claims.
-use Prim.Native.Nat.{ℕ, _+_, _≤_}
+use Prim.Native.Nat.{ℕ, _+_, _≤_, _<_}
 use mathlib.Core.Path.{_≡_, refl, sym, ap, subst, _∙_}
 use mathlib.Core.Bool.{Bool, true, false, cond, not, true≢false}
 use mathlib.Core.List.{List, [], _∷_}
 use mathlib.Core.Logic.{_⊎_, inl, inr}
 use lib.Dec.{eqb, ltb}
 use lib.ListN.{length, getD, replicate}
-use borrow.Author.Tests.{lt-ltb, le-ltb, ne-eqb}
+use borrow.Author.Tests.{lt-ltb, le-ltb, eq-eqb, ne-eqb}
 use Rattle.responder_spec.specs.Arrival.{Left}
 use Rattle.pair.specs.declared.Pair.{Pair}
-use Rattle.pair.specs.declared.Status.the-variants as status
-use Rattle.pair.specs.Answer.{statusNumber}
+use Rattle.pair.specs.Answer.{statusNumber, executed}
 use Rattle.pair.specs.Claims.{Sound}
 use Rattle.pair.specs.Pair.{blankPair}
 use Rattle.pair.specs.Sound.{pairUnsound}
-use Rattle.pair.specs.Host.{resetTo, resetRegions, madeReady, addStatus, addRegions, posted, postEntries}
-use Rattle.pair.proofs.Adding.{add-range}
-use Rattle.pair.proofs.Begin.{ready-unsound}
-use Rattle.pair.proofs.Posting.{post-range}
+use Rattle.pair.specs.Host.{setUp, resetTo, resetRegions, madeReady, addStatus, addRegions, posted, postEntries}
+use Rattle.pair.proofs.Adding.{add-error, add-range}
+use Rattle.pair.proofs.Begin.{ready-wrong, ready-unsound}
+use Rattle.pair.proofs.Known.{unsound as not-sound}
+use Rattle.pair.proofs.Posting.{post-error, post-range}
 use Rattle.pair.proofs.Tests.{tested}
 use Rattle.responder_spec.specs.declared.Completion.{Completion}
 use Rattle.responder_spec.specs.Decide.{noReply}
 use Rattle.responder_spec.specs.Inbound.{inbound, leftBy}
-use Rattle.responder_spec.specs.Response.{nextStatus, nextResponse, nextOut}
+use Rattle.responder_spec.specs.Response.{nextResponse, nextOut}
 use Rattle.effect_laws.specs.Effects.{Silent}
 use Rattle.effect_laws.proofs.Effects.{inbound-table}
+use Rattle.effect_laws.proofs.Refusals.{next-none, next-short, next-range}
 use Rattle.abi_spec.specs.Pair.{otherLength, strays, setupSaid, readOf, narrowed, saidBy, pairOf, pairWords}
 use Rattle.abi_spec.specs.Claims.{InRange, PairFields}
 use Rattle.abi_spec.proofs.Laws.{ranges-tested, stray-tested, stray-unsound, pair-back}
-use Rattle.udalopek_spec.specs.Packets.{Lent, arrivalWith, inboundOf, refusedWith, returning, wordsLeft, inboundReturned}
+use Rattle.udalopek_spec.specs.Packets.{Lent, lent, arrivalWith, inboundOf, refusedWith, returning, wordsLeft, inboundReturned}
 use Rattle.udalopek_spec.specs.Packets.{reportWords, nextNumber}
 use Rattle.udalopek_spec.specs.Packets.{nextWords, nextOutput, nextReport}
 use Rattle.udalopek_spec.specs.Cutting.{requestOf, cutReport}
-use Rattle.udalopek_spec.specs.Host.{unmade, setUpNumber, resetNumber, resetWords, resetTable, readyNumber}
+use Rattle.udalopek_spec.specs.Host.{unmade, setUpNumber, setUpWords, setUpTable, resetNumber, resetWords, resetTable, readyNumber}
 use Rattle.udalopek_spec.specs.Host.{readyWords, addNumber, addTable, removeNumber, removeTable, postNumber}
 use Rattle.udalopek_spec.specs.Host.{postWords, postTable}
 use Rattle.udalopek_spec.specs.Claims.{ReportSays, KindsAre, CutReports, InboundKeeps, LengthRefused, WordsRefused}
-use Rattle.udalopek_spec.specs.Claims.{OthersRefused, InboundIs, NextIs, PostIs, ReadyIs, ResetIs}
+use Rattle.udalopek_spec.specs.Claims.{OthersRefused, ResetRefused, InboundIs, ReturnedEach, SetUpIs, NextIs, PostIs, ReadyIs, ResetIs}
 use Rattle.udalopek_spec.specs.Claims.{AddIs, RemoveIs}
 use Rattle.udalopek_spec.proofs.Steps.{second, first, many, few, as-many, own-words}
 use Rattle.udalopek_spec.proofs.Left.{refused-short, refused-unsound}
@@ -108,14 +109,25 @@ of-pair q f = as-many (pairWords q) (pair-back q f .1)
 
 pub inbound-is : InboundIs
 unfolding inboundReturned wordsLeft
-inbound-is q l f e =
+inbound-is q regions entries saved m p out f =
+    let l = lent (pairWords q) regions entries saved m p out in
     let b = pair-back q f in
-    let n : otherLength (l .words) ≡ false = ap otherLength e ∙ of-pair q f in
-    let s : strays (l .words) ≡ false = ap strays e ∙ b .1 in
-    let p : pairOf (l .words) ≡ q = ap pairOf e ∙ b .0 in
-    sym (second _ (refusedWith 34 l) _ n)
-    ∙ (ap (λ w. returning w (inboundOf l)) (sym (second _ (l .words) _ s))
-    ∙ ap (λ x. returning (pairWords (inbound (arrivalWith l x) .whole .pair)) (inbound (arrivalWith l x))) p)
+    sym (second _ (refusedWith 34 l) _ (of-pair q f))
+    ∙ (ap (λ w. returning w (inboundOf l)) (sym (second _ (l .words) _ (b .1)))
+    ∙ ap (λ x. returning (pairWords (inbound (arrivalWith l x) .whole .pair)) (inbound (arrivalWith l x))) (b .0))
+
+pub returned-each : ReturnedEach
+returned-each number words saved m out report x e =
+    (ap (λ y. y .number) e, ap (λ y. y .words) e, ap (λ y. y .saved) e, ap (λ y. y .memory) e, ap (λ y. y .out) e, ap (λ y. y .report) e)
+
+pub set-up-is : SetUpIs
+unfolding setUpNumber setUpTable setUpWords executed
+set-up-is w rows s h =
+    let n = many w h in (
+      sym (second _ 34 _ n),
+      sym (second _ rows _ n),
+      λ e. sym (second _ w _ n) ∙ ap (λ t. cond t (pairWords (setUp s .pair)) w) (eq-eqb (statusNumber (setUp s .status)) 0 e),
+    )
 
 pub next-is : NextIs
 unfolding nextNumber nextWords nextOutput nextReport
@@ -214,28 +226,31 @@ said-pair : (w : List ℕ) → length w ≡ 30 → pairOf w ≡ narrowed (strays
 unfolding pairOf saidBy
 said-pair w h = ap (λ n. cond (ltb n 30) blankPair (narrowed (strays w) w)) h
 
-next-refused : (q : Pair) (memory room : ℕ) → eqb (q .read .remaining) 0 ≡ false → ltb room (16 + q .setup .pmtu) ≡ false → pairUnsound q ≡ true
-    → statusNumber (nextStatus q memory room) ≡ 34
-unfolding nextStatus statusNumber
-next-refused q memory room a b c = rw (a, b, c) (go (not (eqb memory (q .setup .memory))))
-  where
-    go : (x : Bool) → statusNumber (cond x status.OutOfRange status.OutOfRange) ≡ 34
-    go true = refl
-    go false = refl
-
 pub others-refused : OthersRefused
 unfolding nextNumber nextResponse resetNumber unmade readyNumber addNumber postNumber setupSaid readOf
 others-refused w m out rows r e h n =
+    let q = pairOf w in
     let l = many w h in
-    let u = unsound w h n in
-    let s : Sound (pairOf w) → ⊥ = stray-unsound w h n in
-    let f = said-pair w h in (
-      λ a b. sym (second _ 34 _ l) ∙ next-refused (pairOf w) (length m) (length out) (ap (λ q. eqb (q .read .remaining) 0) f ∙ ne-eqb (getD w 19 0) 0 a) (ap (λ q. ltb (length out) (16 + q .setup .pmtu)) f ∙ le-ltb (length out) (16 + getD w 0 0) b) u,
-      sym (first _ 34 _ u ∙ second _ 34 _ l),
-      λ a. sym (second _ 34 _ l) ∙ ready-unsound (pairOf w) (ap (λ q. q .state) f ∙ a) s .0,
-      λ a. sym (second _ 34 _ l) ∙ add-range (pairOf w) rows r (λ z. a (sym (ap (λ q. q .state) f) ∙ z)) (inl s) .0,
-      λ a. sym (second _ 34 _ l) ∙ post-range (pairOf w) rows e (λ z. a (sym (ap (λ q. q .state) f) ∙ z)) (inl s) .0 .0,
+    let s : Sound q → ⊥ = stray-unsound w h n in
+    let f = said-pair w h in
+    let left = ap (λ x. x .read .remaining) f in
+    let room = ap (λ x. 16 + x .setup .pmtu) f in
+    let state = ap (λ x. x .state) f in (
+      λ a. sym (second _ 34 _ l) ∙ next-none q m out (left ∙ a) .number,
+      λ a b. sym (second _ 34 _ l) ∙ next-short q m out (λ z. a (sym left ∙ z)) (subst (λ x. length out < x) (sym room) b) .number,
+      λ a b. sym (second _ 34 _ l) ∙ next-range q m out (λ z. a (sym left ∙ z)) (subst (λ x. x ≤ length out) (sym room) b) (inr s) .number,
+      sym (first _ 34 _ (unsound w h n) ∙ second _ 34 _ l),
+      λ a. sym (second _ 34 _ l) ∙ ready-wrong q (λ z. a (sym state ∙ z)) .0,
+      λ a. sym (second _ 34 _ l) ∙ ready-unsound q (state ∙ a) s .0,
+      λ a. (sym (second _ 34 _ l) ∙ add-error q rows r (state ∙ a) .0, sym (second _ 34 _ l) ∙ post-error q rows e (state ∙ a) .0 .0),
+      λ a.
+          let k : q .state ≡ 2 → ⊥ = λ z. a (sym state ∙ z) in
+          (sym (second _ 34 _ l) ∙ add-range q rows r k (inl s) .0, sym (second _ 34 _ l) ∙ post-range q rows e k (inl s) .0 .0),
     )
+
+pub reset-refused : ResetRefused
+unfolding resetNumber unmade
+reset-refused w h n = sym (first _ 34 _ (not-sound (pairOf w) n) ∙ second _ 34 _ (many w h))
 
 pub report-says : ReportSays
 unfolding reportWords

@@ -3,16 +3,14 @@ use Prim.Native.Nat.{ℕ, _<_}
 use mathlib.Core.Path.{_≡_, refl, sym, ap, subst, _∙_}
 use mathlib.Core.Bool.{Bool, true, false, cond}
 use mathlib.Core.List.{List, [], _∷_}
-use lib.Dec.{ltb}
 use lib.ListN.{length, replicate}
-use native.Mathlib.Nat.{mod-lt}
 use native.Mathlib.Omega.{arith}
 use Rattle.pair.specs.Answer.{executed, statusNumber}
 use Rattle.pair.specs.Calls.{Whole, HostCall, called, calledAll, begun}
 use Rattle.pair.specs.Calls.HostCall.{MakeReady, PostEntry}
 use Rattle.pair.specs.Claims.{SetupSound, Sound, WholeSound, Accepted}
 use Rattle.pair.specs.Host.{setUp, madeReady, posted, readyStatus, postStatus}
-use Rattle.pair.specs.Pair.{freshPair, blankPair}
+use Rattle.pair.specs.Pair.{freshPair}
 use Rattle.pair.specs.Sound.{pairUnsound}
 use Rattle.pair.specs.declared.Setup.{Setup}
 use Rattle.pair.specs.declared.Pair.{Pair}
@@ -22,9 +20,8 @@ use Rattle.pair.proofs.Tests.{tested}
 use Rattle.responder_spec.specs.Calls.{drained}
 use Rattle.responder_spec.specs.Response.{nextStatus, nextResponse}
 use Rattle.sound_laws.proofs.Kept.{inbound-sound, next-sound}
-use Rattle.abi_spec.specs.Words.{word}
-use Rattle.abi_spec.specs.Pair.{otherLength, strays, setupSaid, messageOf, readOf, narrowed, saidBy, pairOf, pairWords}
-use Rattle.abi_spec.proofs.Laws.{ranges-tested, sound-words, pair-back, sound-fits}
+use Rattle.abi_spec.specs.Pair.{otherLength, strays, pairOf, pairWords}
+use Rattle.abi_spec.proofs.Laws.{ranges-tested, sound-words, pair-back, said-fits, sound-fits}
 use Rattle.udalopek_spec.specs.Packets.{arrivalWith, inboundOf, refusedWith, returning, wordsLeft, inboundReturned, nextWords}
 use Rattle.udalopek_spec.specs.Host.{setUpWords, unmade, resetWords, readyWords, postWords}
 use Rattle.udalopek_spec.specs.Claims.{Say, TypeWidths, SetUpStays, HostStays, InboundStays, NextStays}
@@ -35,7 +32,7 @@ own v q e s t =
     let b = pair-back q (sound-fits q s (t .0) (t .1) (t .2) (t .3)) in
     (ranges-tested v .0 (ap strays e ∙ b .1), ap pairOf e ∙ b .0)
 
--- one of two pairs that have the widths has them; so have fresh pairs, and those that words say
+-- one of two pairs that have the widths has them; so have fresh pairs, and those that words in range say
 either-widths : (b : Bool) (x y : Pair) → TypeWidths x → TypeWidths y → TypeWidths (cond b x y)
 either-widths true x y f g = f
 either-widths false x y f g = g
@@ -46,16 +43,13 @@ fresh-widths s h =
     let z : 0 < 4294967296 = omega arith in
     (h, z, z, z)
 
-said-widths : (w : List ℕ) → TypeWidths (pairOf w)
-unfolding pairOf saidBy setupSaid messageOf readOf blankPair
-said-widths w =
-    let s : 0 < 65536 = omega arith in
-    let z : 0 < 4294967296 = omega arith in
-    either-widths (ltb (length w) 30) blankPair (narrowed (strays w) w) (s, z, z, z)
-    (mod-lt (word w 5) s, mod-lt (word w 15) z, mod-lt (word w 22) z, mod-lt (word w 23) z)
-
 in-range : (w : List ℕ) → length w ≡ 30 → Sound (pairOf w) → strays w ≡ false
 in-range w h s = sound-words w h (tested (pairOf w) .1 s)
+
+said-widths : (w : List ℕ) → strays w ≡ false → TypeWidths (pairOf w)
+said-widths w e =
+    let f = said-fits w (ranges-tested w .0 e) in
+    (f .setup .pkey, f .key, f .psn, f .answered)
 
 pub inbound-stays : InboundStays
 unfolding inboundReturned wordsLeft
@@ -69,9 +63,10 @@ pub next-stays : NextStays
 unfolding nextWords drained nextResponse
 next-stays w regions entries saved m out h s =
     let q = pairOf w in
-    own _ _ (sym (second (strays w) w _ (in-range w h (s .pair))))
+    let f = in-range w h (s .pair) in
+    own _ _ (sym (second (strays w) w _ f))
     (next-sound (record { pair = q; regions = regions; entries = entries; saved = saved }) m out s .pair)
-    (either-widths (executed (nextStatus q (length m) (length out))) _ q (said-widths w) (said-widths w))
+    (either-widths (executed (nextStatus q (length m) (length out))) _ q (said-widths w f) (said-widths w f))
 
 fresh-sound : (s : Setup) → SetupSound s → Sound (freshPair s)
 unfolding begun
@@ -96,7 +91,7 @@ host-stays w regions entries saved h s =
     let q = pairOf w in
     let x : Whole = record { pair = q; regions = regions; entries = entries; saved = saved } in
     let f = in-range w h (s .pair) in
-    let k = said-widths w in (
+    let k = said-widths w f in (
       own _ (freshPair (q .setup))
           (sym (second (otherLength w) w _ (many w h))
           ∙ sym (second (pairUnsound q) w _ (tested q .1 (s .pair)))

@@ -6,7 +6,6 @@ use mathlib.Core.List.{List, [], _∷_}
 use mathlib.Core.Logic.{_⊎_}
 use lib.ListN.{length, getD, replicate}
 use Rattle.header.specs.Bytes.{Bytes}
-use Rattle.responder_spec.specs.Arrival.{arriving}
 use Rattle.table.specs.declared.Region.{Region}
 use Rattle.table.specs.declared.Entry.{Entry}
 use Rattle.pair.specs.declared.Setup.{Setup}
@@ -14,14 +13,14 @@ use Rattle.pair.specs.declared.Pair.{Pair}
 use Rattle.pair.specs.Answer.{statusNumber}
 use Rattle.pair.specs.Pair.{freshPair}
 use Rattle.pair.specs.Claims.{SetupSound, Sound, WholeSound}
-use Rattle.pair.specs.Host.{resetTo, resetRegions, madeReady, addStatus, addRegions, removeStatus, removeRegions, posted, postEntries}
+use Rattle.pair.specs.Host.{setUp, setUpRegions, resetTo, resetRegions, madeReady, addStatus, addRegions, removeStatus, removeRegions, posted, postEntries}
 use Rattle.responder_spec.specs.Inbound.{inbound}
 use Rattle.responder_spec.specs.Response.{nextResponse, nextOut}
 use Rattle.responder_spec.specs.declared.Completion.{Completion}
 use Rattle.cut_spec.specs.declared.Request.the-variants.{Send, SendImmediate, Write, WriteImmediate, Read, CmpSwap, FetchAdd}
 use Rattle.abi_spec.specs.Pair.{pairOf, pairWords}
 use Rattle.abi_spec.specs.Claims.{InRange, PairFields}
-use Rattle.udalopek_spec.specs.Packets.{Lent, Returned, arrivalWith, inboundOf, returning, inboundReturned, reportWords, nextNumber, nextWords, nextOutput, nextReport}
+use Rattle.udalopek_spec.specs.Packets.{Lent, Returned, lent, returned, arrivalWith, inboundOf, inboundReturned, reportWords, nextNumber, nextWords, nextOutput, nextReport}
 use Rattle.udalopek_spec.specs.Cutting.{requestOf, cutReport}
 use Rattle.udalopek_spec.specs.Host.{setUpNumber, setUpWords, setUpTable, resetNumber, resetWords, resetTable, readyNumber}
 use Rattle.udalopek_spec.specs.Host.{readyWords, addNumber, addTable, removeNumber, removeTable, postNumber, postWords, postTable}
@@ -83,18 +82,33 @@ WordsRefused =
 abbrev pub OthersRefused : Type 0
 OthersRefused =
     (w m out : List ℕ) (rows : List (List ℕ)) (r : Region) (e : Entry) → length w ≡ 30 → (InRange w → ⊥)
-    → ((getD w 19 0 ≡ 0 → ⊥) → 16 + getD w 0 0 ≤ length out → nextNumber w m out ≡ 34)
+    → (getD w 19 0 ≡ 0 → nextNumber w m out ≡ 36)
+    × ((getD w 19 0 ≡ 0 → ⊥) → length out < 16 + getD w 0 0 → nextNumber w m out ≡ 35)
+    × ((getD w 19 0 ≡ 0 → ⊥) → 16 + getD w 0 0 ≤ length out → nextNumber w m out ≡ 34)
     × (resetNumber w ≡ 34)
+    × ((getD w 28 0 % 256 ≡ 0 → ⊥) → readyNumber w ≡ 36)
     × (getD w 28 0 % 256 ≡ 0 → readyNumber w ≡ 34)
-    × ((getD w 28 0 % 256 ≡ 2 → ⊥) → addNumber w rows r ≡ 34)
-    × ((getD w 28 0 % 256 ≡ 2 → ⊥) → postNumber w e ≡ 34)
+    × (getD w 28 0 % 256 ≡ 2 → (addNumber w rows r ≡ 36) × (postNumber w e ≡ 36))
+    × ((getD w 28 0 % 256 ≡ 2 → ⊥) → (addNumber w rows r ≡ 34) × (postNumber w e ≡ 34))
+
+-- Reset refuses also the words of a pair that is not sound, which as a call of the pair it need not.
+abbrev pub ResetRefused : Type 0
+ResetRefused = (w : List ℕ) → length w ≡ 30 → (Sound (pairOf w) → ⊥) → resetNumber w ≡ 34
 
 -- On the words of a pair the calls are those of the pair: whatever is proved of these holds of the exported ones.
 abbrev pub InboundIs : Type 0
 InboundIs =
-    (q : Pair) (l : Lent) → PairFields q → l .words ≡ pairWords q
-    → inboundReturned l
-    ≡ returning (pairWords (inbound (arrivalWith l q) .whole .pair)) (inbound (arrivalWith l q))
+    (q : Pair) (regions entries saved : List (List ℕ)) (m p out : List ℕ) → PairFields q
+    → let x = inbound (record { whole = record { pair = q; regions = regions; entries = entries; saved = saved }; memory = m; packet = p; out = out }) in
+    inboundReturned (lent (pairWords q) regions entries saved m p out)
+    ≡ (record { number = x .number; words = pairWords (x .whole .pair); saved = x .whole .saved; memory = x .memory; out = x .out; report = reportWords (x .outgoing) (x .completion) })
+
+-- What the promise of the exported inbound gathers in one equation is each thing that the call returns.
+abbrev pub ReturnedEach : Type 0
+ReturnedEach =
+    (number : ℕ) (words : List ℕ) (saved : List (List ℕ)) (m out report : List ℕ) (x : Returned)
+    → returned number words saved m out report ≡ x
+    → (number ≡ x .number) × (words ≡ x .words) × (saved ≡ x .saved) × (m ≡ x .memory) × (out ≡ x .out) × (report ≡ x .report)
 
 abbrev pub NextIs : Type 0
 NextIs =
@@ -110,6 +124,14 @@ PostIs =
     → (postNumber (pairWords q) e ≡ statusNumber (posted q e .status))
     × (postWords (pairWords q) e ≡ pairWords (posted q e .pair))
     × (postTable (pairWords q) rows e ≡ postEntries q rows e)
+
+-- set-up is lent any 30 words
+abbrev pub SetUpIs : Type 0
+SetUpIs =
+    (w : List ℕ) (rows : List (List ℕ)) (s : Setup) → length w ≡ 30
+    → (setUpNumber w s ≡ statusNumber (setUp s .status))
+    × (setUpTable w rows s ≡ setUpRegions s rows)
+    × (statusNumber (setUp s .status) ≡ 0 → setUpWords w s ≡ pairWords (setUp s .pair))
 
 abbrev pub ReadyIs : Type 0
 ReadyIs =
