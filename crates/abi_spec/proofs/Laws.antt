@@ -16,7 +16,7 @@ use Rattle.pair.specs.Pair.{blankPair}
 use Rattle.pair.specs.Sound.{pairUnsound}
 use Rattle.pair.specs.declared.Pair.{Pair}
 use Rattle.pair.proofs.Tests.{tested}
-use Rattle.abi_spec.specs.Words.{word, low, eqWords, overwriteWords, flag}
+use Rattle.abi_spec.specs.Words.{word, eqWords, overwriteWords, flag}
 use Rattle.abi_spec.specs.Pair.{otherLength, numbersStray, flagsStray, headsStray, fieldsStray, strays, timerSaid, setupSaid, messageOf, readOf, narrowed, saidBy, pairOf, pairWords}
 use Rattle.abi_spec.specs.Claims.{SameIs, InRange, RangesTested, WordsSaid, StrayUnsound, SetupFields, PairFields, PairBack, SaidFits, WordsAt, SoundFits}
 

@@ -3,4 +3,5 @@ pub mod Left
 pub mod Done
 pub mod Claims
 pub mod Keeps
+pub mod Widths
 pub mod Stays

@@ -24,8 +24,9 @@ use Rattle.abi_spec.specs.Pair.{otherLength, strays, pairOf, pairWords}
 use Rattle.abi_spec.proofs.Laws.{ranges-tested, sound-words, pair-back, said-fits, sound-fits}
 use Rattle.udalopek_spec.specs.Packets.{arrivalWith, inboundOf, refusedWith, returning, wordsLeft, inboundReturned, nextWords}
 use Rattle.udalopek_spec.specs.Host.{setUpWords, unmade, resetWords, readyWords, postWords}
-use Rattle.udalopek_spec.specs.Claims.{Say, TypeWidths, SetUpStays, HostStays, InboundStays, NextStays}
+use Rattle.udalopek_spec.specs.Claims.{Say, SetUpStays, HostStays, InboundStays, NextStays}
 use Rattle.udalopek_spec.proofs.Steps.{second, many}
+use Rattle.udalopek_spec.proofs.Widths.{TypeWidths, inbound-widths}
 
 own : (v : List ℕ) (q : Pair) → v ≡ pairWords q → Sound q → TypeWidths q → Say v q
 own v q e s t =
@@ -53,11 +54,13 @@ said-widths w e =
 
 pub inbound-stays : InboundStays
 unfolding inboundReturned wordsLeft
-inbound-stays l h bm bp s t =
+inbound-stays l h bm bp s =
     let w = l .words in
+    let f = in-range w h (s .pair) in
+    let a = arrivalWith l (pairOf w) in
     own _ _
     (ap (λ y. y .words) (sym (second _ (refusedWith 34 l) (returning (wordsLeft l) (inboundOf l)) (many w h)))
-    ∙ sym (second (strays w) w _ (in-range w h (s .pair)))) (inbound-sound (arrivalWith l (pairOf w)) bm bp s .pair) t
+    ∙ sym (second (strays w) w _ f)) (inbound-sound a bm bp s .pair) (inbound-widths a bp (s .pair) (said-widths w f))
 
 pub next-stays : NextStays
 unfolding nextWords drained nextResponse

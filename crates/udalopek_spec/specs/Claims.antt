@@ -181,15 +181,10 @@ NextStays =
     → WholeSound (record { pair = pairOf w; regions = regions; entries = entries; saved = saved })
     → Say (nextWords w m out) (nextResponse (pairOf w) m out .pair)
 
--- Of inbound: the numbers that soundness leaves open have the widths of their types.
-abbrev pub TypeWidths : Pair → Type 0
-TypeWidths q = (q .setup .pkey < 65536) × (q .message .key < 4294967296) × (q .read .psn .0 < 4294967296) × (q .read .msn .0 < 4294967296)
-
 abbrev pub InboundStays : Type 0
 InboundStays =
     (l : Lent) → length (l .words) ≡ 30 → Bytes (l .memory) → Bytes (l .packet)
     → WholeSound (arrivalWith l (pairOf (l .words)) .whole)
-    → TypeWidths (inboundOf l .whole .pair)
     → Say (inboundReturned l .words) (inboundOf l .whole .pair)
 
 -- The report to the host, word by word, listed here once more and not by the definition under test; so are the kinds of
