@@ -9,8 +9,8 @@
  * - not 30 words: 34, before all else, in every call that is lent the words;
  * - a word out of its range, or words that are no sound pair: 34, at its turn in the call's order of checks, and in reset
  *   at once; what is tested before that turn is read modulo its range. Remove region looks at no word;
- * - a row of the regions whose range is not in memory holds nothing: 18 to the packet that names it, as for a key that
- *   no row has; no call looks at rows that nothing names;
+ * - a row of the regions whose range is not in memory, or ends at 2^64 or above, holds nothing, so that a packet which
+ *   names its key is answered as for a key that no row has; rows are not tested otherwise;
  * - an entry's row whose range is not in memory: 34 by the packet that would take it.
  * What is in range and yet no call would have left so is not distinguished: a key that stands twice (the first row
  * counts), a right other than 0 and 1 (it counts as 1), a count of bytes stored that is not what came, a READ pending on

@@ -1,4 +1,4 @@
--- A pair as words: its numbers in the order of its fields, each in the range that it has in a sound pair.
+-- A pair as words: its numbers in the order of its fields, each in the range of its field.
 use Prim.Native.Nat.{ℕ, _%_, _^_}
 use mathlib.Core.Bool.{Bool, cond, not, _||_}
 use mathlib.Core.List.{List, [], _∷_}
@@ -52,8 +52,8 @@ strays w =
     || (headsStray (word w 17) (word w 24)
     || fieldsStray (word w 5) (word w 7) (word w 12) (word w 15) (word w 22) (word w 23) (word w 28))))
 
--- Words out of range say a timer code that no set-up accepts: so every call refuses them where it refuses a pair that is
--- not sound
+-- Words out of range say a timer code that no set-up accepts: so a call refuses them where it refuses a pair that is not
+-- sound
 abbrev pub noTimer : ℕ
 noTimer = 255
 
