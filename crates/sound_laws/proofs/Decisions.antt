@@ -22,7 +22,7 @@ use Rattle.table.specs.View.{newestSaved}
 use Rattle.table.specs.declared.Saved.{Saved}
 use Rattle.table.specs.declared.Saved.the-variants.{Value, Nothing}
 use Rattle.pair.specs.Answer.{statusNumber, executed}
-use Rattle.pair.specs.Calls.{Whole}
+use Rattle.pair.specs.Calls.{Whole, withPair}
 use Rattle.pair.specs.Sound.{pairUnsound}
 use Rattle.pair.specs.Pair.{noMessage}
 use Rattle.pair.specs.declared.OpenMessage.{OpenMessage}
@@ -39,7 +39,7 @@ use Rattle.responder_spec.specs.Decide.{ucExecute, ucCheckedDecision, ucDecisio
 use Rattle.responder_spec.specs.Decide.{readsFull, inboundRefusal, decision}
 use Rattle.responder_spec.specs.Steady.{Steady}
 use Rattle.decision_laws.proofs.Checked.{Checked, checked, begins}
-use Rattle.sound_laws.proofs.Leads.{beside, Leads, branch, Does, does-leads, reply-only-leads, quiet-leads, ack-leads, duplicate-read-leads}
+use Rattle.sound_laws.proofs.Leads.{Leads, branch, Does, does-leads, reply-only-leads, quiet-leads, ack-leads, duplicate-read-leads}
 use Rattle.sound_laws.proofs.Executes.{whole-in, storing-does, execute-leads}
 use Rattle.decision_laws.proofs.Views.{viewed, viewed-sound, current-closed, same-code}
 
@@ -75,7 +75,7 @@ read-starts opcode = go (eqb (serviceOf opcode) 0) (eqb (serviceOf opcode) 1) (u
 
 -- a packet of the unreliable connection that passed the checks does to a steady pair what it would do to one with the
 -- message closed
-viewed-steady : (w : Whole) → Steady w → (place : ℕ) → Steady (beside w (viewed place (w .pair)))
+viewed-steady : (w : Whole) → Steady w → (place : ℕ) → Steady (withPair w (viewed place (w .pair)))
 unfolding closedBy
 viewed-steady w W place =
     record {
@@ -104,7 +104,7 @@ module _ (w : Whole) (W : Steady w) (p : Packet) where
   unfolding statusNumber
   took-closed C c =
       let D =
-      storing-does (beside w (viewed (p .place) (w .pair))) (viewed-steady w W (p .place)) p
+      storing-does (withPair w (viewed (p .place) (w .pair))) (viewed-steady w W (p .place)) p
       C c in
       record { number = refl; entry = D .entry; message = D .message; read = D .read; psn = D .psn }
 

@@ -18,7 +18,7 @@ use Rattle.table.specs.Claims.{EntriesSound, EntrySound}
 use Rattle.table.proofs.Rings.{entry-slots, entry-ring, saved-ring}
 use Rattle.table.specs.declared.Ring.{Ring}
 use Rattle.pair.specs.Answer.{statusNumber}
-use Rattle.pair.specs.Calls.{Whole}
+use Rattle.pair.specs.Calls.{Whole, withPair}
 use Rattle.pair.specs.Claims.{MessageSound, ReadSound}
 use Rattle.pair.specs.declared.OpenMessage.{OpenMessage}
 use Rattle.pair.specs.declared.ReadAnswer.{ReadAnswer}
@@ -32,14 +32,10 @@ use Rattle.responder_spec.specs.Apply.{actsAtomic, savedRingBy, ringTaken, entr
 use Rattle.responder_spec.specs.Steady.{Steady}
 use Rattle.decision_laws.proofs.Views.{closes, sound-with}
 
--- the same tables beside another pair
-abbrev pub beside : Whole → Pair → Whole
-beside w q = record { pair = q; regions = w .regions; entries = w .entries; saved = w .saved }
-
 -- the pair is steady; a completion takes an entry that is there; an atomic and no other takes a row of those saved, and
 -- its PSN has 24 bits
 pub record Leads (w : Whole) (d : Decision) : Type 0 where
-  pub steady : Steady (beside w (pairBy (w .pair) d))
+  pub steady : Steady (withPair w (pairBy (w .pair) d))
   pub entry : d .completion .some ≡ true → 1 ≤ w .pair .entries .count
   pub saved : pairBy (w .pair) d .saved ≡ savedRingBy (w .pair .saved) (d .act)
   pub psn : actsAtomic (d .act) ≡ true → d .psn .0 < 2 ^ 24
@@ -59,7 +55,7 @@ Answering q a =
 
 -- another state, NAK mark and READ
 pub with-steady : (w : Whole) (state : ℕ) (nakmark : Bool) (a : ReadAnswer) → Steady w → state ≤ 2 → Answering (w .pair) a
-    → Steady (beside w (with (w .pair) state nakmark a))
+    → Steady (withPair w (with (w .pair) state nakmark a))
 with-steady w state nakmark a W h r =
     let S = W .pair in
     record {
@@ -80,10 +76,10 @@ with-steady w state nakmark a W h r =
     }
 
 -- no message open
-pub closed-steady : (w : Whole) → Steady w → Steady (beside w (closing (w .pair)))
+pub closed-steady : (w : Whole) → Steady w → Steady (withPair w (closing (w .pair)))
 closed-steady w W =
     let S = W .pair in
-    subst (λ q. Steady (beside w q)) (sym (closes (w .pair)))
+    subst (λ q. Steady (withPair w q)) (sym (closes (w .pair)))
     (record {
       pair = sound-with (w .pair) (closing (w .pair)) S refl refl refl refl refl refl (inl refl) (S .read);
       regions = W .regions;
@@ -93,7 +89,7 @@ closed-steady w W =
 
 -- a steady pair that has saved no more
 pub record Lasting (w : Whole) (q : Pair) : Type 0 where
-  pub steady : Steady (beside w q)
+  pub steady : Steady (withPair w q)
   pub saved : q .saved ≡ w .pair .saved
 
 pub either : (w : Whole) (b : Bool) (x y : Pair) → Lasting w x → Lasting w y → Lasting w (cond b x y)
@@ -232,7 +228,7 @@ module _ (w : Whole) (W : Steady w) (d : Decision) (D : Does w d) where
       go false e (inl z) = absurd (eqb-false (d .responses) 0 e z)
       go false e (inr (a, b, c)) = inr (a, b, c, msn-below (d .ends) (w .pair .msn) (W .pair .msn))
 
-  done-steady : Steady (beside w done)
+  done-steady : Steady (withPair w done)
   unfolding executedPair
   done-steady =
       let S = W .pair in
@@ -257,4 +253,4 @@ module _ (w : Whole) (W : Steady w) (d : Decision) (D : Does w d) where
   unfolding pairBy pairByNumber executedPair
   does-leads =
       let e : pairBy (w .pair) d ≡ done = first (leb (statusNumber (d .status)) 3) done _ (D .number) in
-      record { steady = subst (λ q. Steady (beside w q)) (sym e) done-steady; entry = D .entry; saved = ap (λ q. q .saved) e; psn = D .psn }
+      record { steady = subst (λ q. Steady (withPair w q)) (sym e) done-steady; entry = D .entry; saved = ap (λ q. q .saved) e; psn = D .psn }

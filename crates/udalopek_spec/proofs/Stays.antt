@@ -26,18 +26,14 @@ use Rattle.udalopek_spec.specs.Packets.{arrivalWith, inboundOf, refusedW
 use Rattle.udalopek_spec.specs.Host.{setUpWords, unmade, resetWords, readyWords, postWords}
 use Rattle.udalopek_spec.specs.Claims.{Say, SetUpStays, HostStays, InboundStays, NextStays}
 use Rattle.udalopek_spec.proofs.Steps.{second, many}
-use Rattle.udalopek_spec.proofs.Widths.{TypeWidths, inbound-widths}
+use Rattle.udalopek_spec.proofs.Widths.{TypeWidths, pair-either, inbound-widths}
 
 own : (v : List ℕ) (q : Pair) → v ≡ pairWords q → Sound q → TypeWidths q → Say v q
 own v q e s t =
     let b = pair-back q (sound-fits q s (t .0) (t .1) (t .2) (t .3)) in
     (ranges-tested v .0 (ap strays e ∙ b .1), ap pairOf e ∙ b .0)
 
--- one of two pairs that have the widths has them; so have fresh pairs, and those that words in range say
-either-widths : (b : Bool) (x y : Pair) → TypeWidths x → TypeWidths y → TypeWidths (cond b x y)
-either-widths true x y f g = f
-either-widths false x y f g = g
-
+-- fresh pairs have the widths of their types, and those that words in range say
 fresh-widths : (s : Setup) → s .pkey < 65536 → TypeWidths (freshPair s)
 unfolding freshPair
 fresh-widths s h =
@@ -69,7 +65,7 @@ next-stays w regions entries saved m out h s =
     let f = in-range w h (s .pair) in
     own _ _ (sym (second (strays w) w _ f))
     (next-sound (record { pair = q; regions = regions; entries = entries; saved = saved }) m out s .pair)
-    (either-widths (executed (nextStatus q (length m) (length out))) _ q (said-widths w f) (said-widths w f))
+    (pair-either (executed (nextStatus q (length m) (length out))) _ q (record { widths = said-widths w f }) (record { widths = said-widths w f }) .widths)
 
 fresh-sound : (s : Setup) → SetupSound s → Sound (freshPair s)
 unfolding begun
@@ -100,6 +96,6 @@ host-stays w regions entries saved h s =
           ∙ sym (second (pairUnsound q) w _ (tested q .1 (s .pair)))
           ∙ ap pairWords (reset-pair q (s .pair .setup)))
           (fresh-sound (q .setup) (s .pair .setup)) (fresh-widths (q .setup) (k .0)),
-      own _ _ (sym (second (strays w) w _ f)) (by-call x s MakeReady tt) (either-widths (executed (readyStatus q)) _ q k k),
-      λ e. own _ _ (sym (second (strays w) w _ f)) (by-call x s (PostEntry e) tt) (either-widths (executed (postStatus q e)) _ q k k),
+      own _ _ (sym (second (strays w) w _ f)) (by-call x s MakeReady tt) (pair-either (executed (readyStatus q)) _ q (record { widths = k }) (record { widths = k }) .widths),
+      λ e. own _ _ (sym (second (strays w) w _ f)) (by-call x s (PostEntry e) tt) (pair-either (executed (postStatus q e)) _ q (record { widths = k }) (record { widths = k }) .widths),
     )

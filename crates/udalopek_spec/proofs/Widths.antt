@@ -190,7 +190,8 @@ answer-either false x y f g = g
 pub record Wide (q : Pair) : Type 0 where
   pub widths : TypeWidths q
 
-pair-either : (b : Bool) (x y : Pair) → Wide x → Wide y → Wide (cond b x y)
+-- one of two pairs that have the widths has them
+pub pair-either : (b : Bool) (x y : Pair) → Wide x → Wide y → Wide (cond b x y)
 pair-either true x y f g = f
 pair-either false x y f g = g
 
