@@ -42,12 +42,14 @@ use Rattle.header.proofs.Reasons.{of-not}
 use Rattle.request_spec.proofs.Order.{current-one, order}
 use Rattle.request_spec.proofs.Taken.{any-place}
 use Rattle.request_spec.specs.declared.Packet.{Packet}
-use Rattle.responder_spec.specs.Decide.{beginRead, noReply, acknowledging, aheadDecision, failed, storePayload}
+use Rattle.header.specs.Write.{bthBytes, aethBytes, extensionBytes, headerBytes}
+use Rattle.responder_spec.specs.Reply.{readBegun, replyHeader, ackHeader, atomicHeader, ackBytes}
+use Rattle.responder_spec.specs.Decide.{replyOnly, noReply, acknowledging, aheadDecision, failed, storePayload}
 use Rattle.responder_spec.specs.Decide.{runAtomic, acceptRead, execute, checkedDecision, expectedDecision}
 use Rattle.responder_spec.specs.Decide.{duplicateReadFails, duplicateRead, isAtomic, duplicateDecision}
 use Rattle.responder_spec.specs.Decide.{regionFor, headEntry, decisionByClass, rcDecision, packetDecision}
 use Rattle.responder_spec.specs.Decide.{readsFull, inboundRefusal, decision}
-use Rattle.responder_spec.specs.Inbound.{leftBy, inbound}
+use Rattle.responder_spec.specs.Inbound.{sentBy, leftBy, inbound}
 use Rattle.answer_laws.specs.Answers.{Willing, headerBy, HeaderDropped, entryAtHead, Expects, Aheads}
 use Rattle.answer_laws.specs.Answers.{ReadAnswerable, DuplicateAnswers, Classed, HeaderPassed}
 use Rattle.answer_laws.specs.Answers.{DuplicateReplies, DuplicateSent}
@@ -352,34 +354,37 @@ packet-by w k t r S P K C =
     }
 
 -- what a duplicate is answered with
-read-sent : (k : Packet) (q : Pair) (t : OpenMessage) (region : List ℕ) → duplicateRead k (q .setup) t (q .expected) region .outgoing ≡ 0
-unfolding duplicateRead noReply
-read-sent k q t region = go (duplicateReadFails k (q .setup) t (q .expected) region)
+read-sent : (a : Arrival) (k : Packet) (q : Pair) (t : OpenMessage) (region : List ℕ) → length (sentBy a (duplicateRead k (q .setup) t (q .expected) region)) ≡ 0
+unfolding duplicateRead noReply sentBy ackBytes
+read-sent a k q t region = go (duplicateReadFails k (q .setup) t (q .expected) region)
   where
     go :
         (b : Bool)
-        → cond b (noReply status.Dropped)
-        (beginRead status.DuplicateAnswered noMessage (memoryOffset region (t .address) (t .length)) (t .length) 0 false (pieces (t .length) (q .setup .pmtu)) (k .psn)) .outgoing
+        → length
+        (sentBy a
+        (cond b (noReply status.Dropped)
+        (replyOnly status.DuplicateAnswered (readBegun (memoryOffset region (t .address) (t .length)) (t .length) (pieces (t .length) (q .setup .pmtu)) (k .psn)))))
         ≡ 0
     go true = refl
     go false = refl
 
-sent-by : (w : Whole) (k : Packet) (t : OpenMessage) (region : List ℕ)
-    → DuplicateReplies w k (duplicateDecision k (w .pair .setup) (w .pair .expected) t region (newestSaved (k .psn .0) (w .saved) (w .pair .saved)) .outgoing)
-unfolding duplicateDecision acknowledging
-sent-by w k t region =
+sent-by : (a : Arrival) (k : Packet) (t : OpenMessage) (region : List ℕ)
+    → DuplicateReplies (a .whole) k
+    (length (sentBy a (duplicateDecision k (a .whole .pair .setup) (a .whole .pair .expected) t region (newestSaved (k .psn .0) (a .whole .saved) (a .whole .pair .saved)))))
+unfolding duplicateDecision acknowledging sentBy ackBytes ackHeader atomicHeader replyHeader headerBytes bthBytes extensionBytes aethBytes
+sent-by a k t region =
     record {
       carried = λ c. rw (carry (k .kind) c);
-      reads = λ r. rw (bare (k .kind) (omega arith), eq-eqb (k .kind) 12 r) (read-sent k (w .pair) t region);
-      found = λ a v f. let h = high (k .kind) a in rw (bare (k .kind) (omega arith), ne-eqb (k .kind) 12 (λ z. omega arith), atomic-is (k .kind) a, f);
+      reads = λ r. rw (bare (k .kind) (omega arith), eq-eqb (k .kind) 12 r) (read-sent a k (a .whole .pair) t region);
+      found = λ x v f. let h = high (k .kind) x in rw (bare (k .kind) (omega arith), ne-eqb (k .kind) 12 (λ z. omega arith), atomic-is (k .kind) x, f);
     }
 
 pub duplicate-sent : DuplicateSent
 unfolding inbound leftBy decision
 duplicate-sent a W r h e c =
     rw (goes a W, e)
-    (subst (λ d. DuplicateReplies (a .whole) (packetOf h (length (a .packet))) (d .outgoing)) (sym (by-class (a .whole) (packetOf h (length (a .packet))) class.Duplicate r c))
-    (sent-by (a .whole) (packetOf h (length (a .packet))) (current (a .whole .pair .message) (packetOf h (length (a .packet)))) _))
+    (subst (λ d. DuplicateReplies (a .whole) (packetOf h (length (a .packet))) (length (sentBy a d))) (sym (by-class (a .whole) (packetOf h (length (a .packet))) class.Duplicate r c))
+    (sent-by a (packetOf h (length (a .packet))) (current (a .whole .pair .message) (packetOf h (length (a .packet)))) _))
 
 pub header-passed : HeaderPassed
 unfolding packetOf

@@ -34,7 +34,7 @@ use Rattle.request_spec.proofs.Order.{current-one, order}
 use Rattle.request_spec.proofs.Taken.{any-place}
 use Rattle.request_spec.specs.declared.Packet.{Packet}
 use Rattle.responder_spec.specs.declared.Decision.{Decision}
-use Rattle.responder_spec.specs.Decide.{completes, completionOf, messageAfter, targetOffset, storePayload, runAtomic, regionFor, headEntry, unanswered, decision}
+use Rattle.responder_spec.specs.Decide.{completes, completionOf, messageAfter, targetOffset, storePayload, runAtomic, regionFor, headEntry, decision}
 use Rattle.responder_spec.specs.Apply.{savedBy, memoryBy, executedPair, pairByNumber, pairBy}
 use Rattle.responder_spec.specs.Inbound.{leftBy, inbound}
 use Rattle.effect_laws.specs.Effects.{Silent}
@@ -99,9 +99,9 @@ module _ (arrival : Arrival) (S : Sound (arrival .whole .pair)) (n : length (arr
       go (inr (inr x)) = omega (arith, L .whole e (inl x))
 
   abbrev D : Decision
-  D = storePayload (packetIn p) (current (q .message) (packetIn p)) (headEntry q (arrival .whole .entries)) (regionBy (arrival .whole) (packetIn p))
+  D = storePayload (packetIn p .ackreq) 1 (packetIn p) (current (q .message) (packetIn p)) (headEntry q (arrival .whole .entries)) (regionBy (arrival .whole) (packetIn p))
 
-  stored-memory : (at : ℕ) → targetOffset (k .kind) M (headEntry q (arrival .whole .entries)) (regionBy (arrival .whole) k) ≡ at → memoryBy D m p ≡ store m at (payloadOf p)
+  stored-memory : (at : ℕ) → targetOffset (k .kind) M (headEntry q (arrival .whole .entries)) (regionBy (arrival .whole) k) ≡ at → memoryBy (D .change) m p ≡ store m at (payloadOf p)
   unfolding memoryBy storePayload
   stored-memory at e = λ i. store m (e i) (payload-is p i)
 
@@ -267,27 +267,27 @@ module _ (arrival : Arrival) (S : Sound (arrival .whole .pair)) (n : length (arr
       subst (λ x. Gives word 6 (q .setup .memory) x 8) b
       (subst (λ x. Gives word 6 (q .setup .memory) (k .operands .address + 0) x) s (H (omega arith)))
 
-  fetch-memory : k .kind ≡ 20 → memoryBy E m p ≡ fetchAdded m at (k .operands .swap)
+  fetch-memory : k .kind ≡ 20 → memoryBy (E .change) m p ≡ fetchAdded m at (k .operands .swap)
   unfolding memoryBy runAtomic
   fetch-memory e = rw (eq-eqb (k .kind) 20 e) (ap (λ x. fetchAdded m x (k .operands .swap)) (at-word (inr e)))
 
-  swap-memory : k .kind ≡ 19 → memoryBy E m p ≡ swapped m at (k .operands .compare) (k .operands .swap)
+  swap-memory : k .kind ≡ 19 → memoryBy (E .change) m p ≡ swapped m at (k .operands .compare) (k .operands .swap)
   unfolding memoryBy runAtomic
   swap-memory e =
       rw (ne-eqb (k .kind) 20 (λ x. omega arith)) (ap (λ x. swapped m x (k .operands .compare) (k .operands .swap)) (at-word (inl e)))
 
   -- what it was is (arrival .whole .saved)
-  saved-word : IsAtomic (k .kind) → savedBy (q .saved) E (arrival .whole .saved) m ≡ savedRows (arrival .whole .saved) (q .saved) (k .psn .0) (wordAt m at)
+  saved-word : IsAtomic (k .kind) → savedBy (q .saved) (E .change) (E .reply .psn) (arrival .whole .saved) m ≡ savedRows (arrival .whole .saved) (q .saved) (k .psn .0) (wordAt m at)
   unfolding savedBy runAtomic
   saved-word a =
       ap (λ b. cond b (savedRows (arrival .whole .saved) (q .saved) (k .psn .0) (wordAt m (memoryOffset (regionBy (arrival .whole) k) (M .address) (M .length)))) (arrival .whole .saved)) (acts (eqb (k .kind) 20))
       ∙ ap (λ x. savedRows (arrival .whole .saved) (q .saved) (k .psn .0) (wordAt m x)) (at-word a)
 
-  one-word : IsAtomic (k .kind) → OnlyWord m (memoryBy E m p) at
+  one-word : IsAtomic (k .kind) → OnlyWord m (memoryBy (E .change) m p) at
   one-word (inl e) = subst (λ x. OnlyWord m x at) (sym (swap-memory e)) (swap-within m at (k .operands .compare) (k .operands .swap))
   one-word (inr e) = subst (λ x. OnlyWord m x at) (sym (fetch-memory e)) (fetch-within m at (k .operands .swap))
 
-  swaps-by : carrying (k .kind) ≡ false → eqb (k .kind) 12 ≡ false → OnRegion word q k m (memoryBy E m p) (arrival .whole .saved) (savedBy (q .saved) E (arrival .whole .saved) m)
+  swaps-by : carrying (k .kind) ≡ false → eqb (k .kind) 12 ≡ false → OnRegion word q k m (memoryBy (E .change) m p) (arrival .whole .saved) (savedBy (q .saved) (E .change) (E .reply .psn) (arrival .whole .saved) m)
   swaps-by c r =
       let T = judged .none .0 refl in
       let a = which-atomic (q .setup) (k .kind) (T .1) c r in
@@ -300,7 +300,7 @@ module _ (arrival : Arrival) (S : Sound (arrival .whole .pair)) (n : length (arr
         swap = swap-memory;
         saved = saved-word a;
         only =
-            only-by m (memoryBy E m p) at 8 (getD word 3 0) (getD word 2 0) (O .kept) (O .before) (O .after) (omega arith)
+            only-by m (memoryBy (E .change) m p) at 8 (getD word 3 0) (getD word 2 0) (O .kept) (O .before) (O .after) (omega arith)
             (omega (arith, G .from, G .to));
       }
 
@@ -313,16 +313,16 @@ module _ (a : Arrival) (n : ℕ) where
   abbrev v : Pair
   v = seen .whole .pair
 
-  abbrev storedAt : OpenMessage → Decision
-  storedAt t = storePayload (packetIn (a .packet)) t (headEntry (a .whole .pair) (a .whole .entries)) (regionFor (packetIn (a .packet) .kind) (t .key) (a .whole .regions))
+  abbrev storedAt : Bool → ℕ → OpenMessage → Decision
+  storedAt asked psns t = storePayload asked psns (packetIn (a .packet)) t (headEntry (a .whole .pair) (a .whole .entries)) (regionFor (packetIn (a .packet) .kind) (t .key) (a .whole .regions))
 
-  same-message : (t : OpenMessage) → pairBy (a .whole .pair) (unanswered n (storedAt t)) .message ≡ pairBy v (storedAt t) .message
+  same-message : (t : OpenMessage) → pairBy (a .whole .pair) (storedAt false n t) .message ≡ pairBy v (storedAt (packetIn (a .packet) .ackreq) 1 t) .message
   unfolding pairBy pairByNumber storePayload executedPair statusNumber
   same-message t = sym (rw (few (packetIn (a .packet) .ackreq)))
 
-  unseen : (t : OpenMessage) → StoresPayload seen (packetIn (a .packet)) t (leftBy seen (storedAt t))
-      → StoresPayload a (packetIn (a .packet)) t (leftBy a (unanswered n (storedAt t)))
-  unfolding leftBy memoryBy
+  unseen : (t : OpenMessage) → StoresPayload seen (packetIn (a .packet)) t (leftBy seen (storedAt (packetIn (a .packet) .ackreq) 1 t))
+      → StoresPayload a (packetIn (a .packet)) t (leftBy a (storedAt false n t))
+  unfolding leftBy memoryBy storePayload
   unseen t P =
       record {
         kind = P .kind;
@@ -338,9 +338,9 @@ module _ (a : Arrival) (n : ℕ) where
       }
 
   ucExecuted : Sound (a .whole .pair) → length (a .memory) ≡ a .whole .pair .setup .memory → codeBy (seen .whole) (packetIn (a .packet)) ≡ 0 → carrying (packetIn (a .packet) .kind) ≡ true
-      → StoresPayload a (packetIn (a .packet)) (current (a .whole .pair .message) (packetIn (a .packet))) (leftBy a (unanswered n (storedAt (current (a .whole .pair .message) (packetIn (a .packet))))))
+      → StoresPayload a (packetIn (a .packet)) (current (a .whole .pair .message) (packetIn (a .packet))) (leftBy a (storedAt false n (current (a .whole .pair .message) (packetIn (a .packet)))))
   ucExecuted S w z c =
-      subst (λ t. StoresPayload a (packetIn (a .packet)) t (leftBy a (unanswered n (storedAt t)))) (current-closed (a .whole .pair .message) (packetIn (a .packet)))
+      subst (λ t. StoresPayload a (packetIn (a .packet)) t (leftBy a (storedAt false n t))) (current-closed (a .whole .pair .message) (packetIn (a .packet)))
       (unseen (current (v .message) (packetIn (a .packet))) (stores-by seen (viewed-sound (packetIn (a .packet) .place) (a .whole .pair) S) w z c))
 
 -- the two claims: any other decision has another answer
@@ -363,7 +363,7 @@ module _ (a : Arrival) (w : length (a .memory) ≡ a .whole .pair .setup .memory
   low-number false e = omega arith
 
   swaps-way : (d : Decision) → Way (a .whole) (packetIn (a .packet)) d → statusNumber (d .status) ≡ 3
-      → OnRegion (regionOf (packetIn (a .packet) .operands .key) (a .whole .regions)) (a .whole .pair) (packetIn (a .packet)) (a .memory) (memoryBy d (a .memory) (a .packet)) (a .whole .saved) (savedBy (a .whole .pair .saved) d (a .whole .saved) (a .memory))
+      → OnRegion (regionOf (packetIn (a .packet) .operands .key) (a .whole .regions)) (a .whole .pair) (packetIn (a .packet)) (a .memory) (memoryBy (d .change) (a .memory) (a .packet)) (a .whole .saved) (savedBy (a .whole .pair .saved) (d .change) (d .reply .psn) (a .whole .saved) (a .memory))
   unfolding storePayload
   swaps-way d (away e (inl x)) y = absurd (omega arith)
   swaps-way d (away e (inr x)) y = absurd (omega arith)

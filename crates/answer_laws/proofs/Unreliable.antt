@@ -31,7 +31,7 @@ use Rattle.request_spec.proofs.Order.{current-one, order}
 use Rattle.request_spec.proofs.Taken.{any-place}
 use Rattle.request_spec.specs.declared.Packet.{Packet}
 use Rattle.responder_spec.specs.declared.Decision.{Decision}
-use Rattle.responder_spec.specs.Decide.{noReply, regionFor, headEntry, orphaned, strays, closedBy, abandoning, ucExecute, ucCheckedDecision, ucDecision, packetDecision}
+use Rattle.responder_spec.specs.Decide.{storePayload, noReply, regionFor, headEntry, orphaned, strays, closedBy, abandoning, ucExecute, ucCheckedDecision, ucDecision, packetDecision}
 use Rattle.answer_laws.specs.Answers.{entryAtHead}
 use Rattle.answer_laws.specs.Unreliable.{UcKinds, Strays, CheckedUnder, Fails, UcChecked, UcComes, UcPassed}
 use Rattle.answer_laws.specs.Unreliable.CheckedUnder.{begins, onward}
@@ -187,7 +187,7 @@ module _ (w : Whole) (k : Packet) (t : OpenMessage) (S : Sound (w .pair)) (P : P
 
   -- the number, by the code
   good-number : codeOf ≡ 0 → checkedDecision ≡ 0
-  unfolding ucCheckedDecision ucExecute statusNumber
+  unfolding ucCheckedDecision ucExecute storePayload statusNumber
   good-number z = rw (eq-eqb codeOf 0 z, carry (k .kind) K)
 
   outside-number : codeOf ≡ 8 → checkedDecision ≡ 34

@@ -39,7 +39,7 @@ use Rattle.answer_laws.proofs.Answers.{head-first}
 
 -- what a decision leaves of the ring: with no completion it stays, and a packet that is executed with one moves it
 module _ (q : Pair) (d : Decision) where
-  kept : d .completion .some ≡ false → pairBy q d .entries ≡ q .entries
+  kept : d .progress .completion .some ≡ false → pairBy q d .entries ≡ q .entries
   unfolding pairBy pairByNumber executedPair entriesBy
   kept h =
       let n = statusNumber (d .status) in
@@ -48,7 +48,7 @@ module _ (q : Pair) (d : Decision) where
       (either same (eqb n 4) refl
       (either same (eqb n 16 || eqb n 19) refl (either same (eqb n 17 || eqb n 18) refl (either same (eqb n 6) refl refl))))
 
-  taken : leb (statusNumber (d .status)) 3 ≡ true → d .completion .some ≡ true → pairBy q d .entries ≡ ringTaken (q .entries)
+  taken : leb (statusNumber (d .status)) 3 ≡ true → d .progress .completion .some ≡ true → pairBy q d .entries ≡ ringTaken (q .entries)
   unfolding pairBy pairByNumber executedPair entriesBy
   taken s h = rw (s, h)
 
@@ -111,12 +111,12 @@ module _ (w : Whole) (k : Packet) where
 
   -- a payload stored, whatever the answer and however many PSNs are taken
   store-uses : Sound (w .pair) → (d : Decision) → leb (statusNumber (d .status)) 3 ≡ true
-      → d .completion ≡ completionOf k M (getD entry 0 0)
+      → d .progress .completion ≡ completionOf k M (getD entry 0 0)
       → (uses k ≡ true → 1 ≤ w .pair .entries .count)
-      → Uses (w .pair .entries) (w .entries) (d .completion) (pairBy (w .pair) d .entries)
+      → Uses (w .pair .entries) (w .entries) (d .progress .completion) (pairBy (w .pair) d .entries)
   unfolding ringTaken entrySlot
   store-uses S d s c t =
-      let known : d .completion .some ≡ true → (uses k ≡ true) × (d .completion .number ≡ getD entry 0 0) =
+      let known : d .progress .completion .some ≡ true → (uses k ≡ true) × (d .progress .completion .number ≡ getD entry 0 0) =
       subst (λ x. x .some ≡ true → (uses k ≡ true) × (x .number ≡ getD entry 0 0)) (sym c) (completed k M (getD entry 0 0)) in
       record {
         there = λ h. (S .entries .0, t (known h .0));
@@ -127,7 +127,7 @@ module _ (w : Whole) (k : Packet) where
 
   -- with every other answer nothing completes
   silent : (d : Decision) → Row Quiet w k d → Other (statusNumber (d .status))
-      → d .completion .some ≡ false
+      → d .progress .completion .some ≡ false
   unfolding noReply acknowledging runAtomic storePayload
   silent d (quiet a x) o = refl
   silent d ahead o = refl
@@ -141,22 +141,22 @@ module _ (w : Whole) (k : Packet) where
   silent d (begin at n a s) o = refl
   silent d (swap t region x) o = refl
 
-  uc-silent : (d : Decision) → UcRow Quiet (w .pair) k d → Other (statusNumber (d .status)) → d .completion .some ≡ false
-  unfolding noReply
+  uc-silent : (d : Decision) → UcRow Quiet (w .pair) k d → Other (statusNumber (d .status)) → d .progress .completion .some ≡ false
+  unfolding noReply storePayload
   uc-silent d (unheard a x) o = refl
   uc-silent d (abandon h) o = refl
   uc-silent d (deliver t row region x) o = absurd (few-apart false o)
 
   away-silent : (d : Decision) → AnyRow Quiet w k d → Other (statusNumber (d .status))
-      → d .completion .some ≡ false
+      → d .progress .completion .some ≡ false
   away-silent d (reliable c r) = silent d r
   away-silent d (unreliable c r) = uc-silent d r
 
-  unused : (d : Decision) → d .completion .some ≡ false → Uses (w .pair .entries) (w .entries) (d .completion) (pairBy (w .pair) d .entries)
-  unused d e = silent-uses (w .pair .entries) (w .entries) (d .completion) (pairBy (w .pair) d .entries) e (kept (w .pair) d e)
+  unused : (d : Decision) → d .progress .completion .some ≡ false → Uses (w .pair .entries) (w .entries) (d .progress .completion) (pairBy (w .pair) d .entries)
+  unused d e = silent-uses (w .pair .entries) (w .entries) (d .progress .completion) (pairBy (w .pair) d .entries) e (kept (w .pair) d e)
 
   uses-by : (d : Decision) → Way w k d → AnyRow Quiet w k d
-      → Uses (w .pair .entries) (w .entries) (d .completion) (pairBy (w .pair) d .entries)
+      → Uses (w .pair .entries) (w .entries) (d .progress .completion) (pairBy (w .pair) d .entries)
   unfolding storePayload runAtomic statusNumber
   uses-by d (away x o) r = unused x (away-silent x r o)
   uses-by d (places S z c) r = store-uses S d (few (k .ackreq)) refl (some w S z)

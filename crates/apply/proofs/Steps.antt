@@ -9,10 +9,6 @@ use lib.ListN.{length, take, drop, length-drop, drop-of-length-le}
 use lib.Seq.{take-all}
 use Rattle.lemmas.proofs.Auto.{tests}
 
--- a count of numbers may be cut to its remainder
-pub after-rest : (x n : ℕ) → (x + n % 16777216) % 16777216 ≡ (x + n) % 16777216
-after-rest x n = omega arith
-
 -- no more is taken than there is
 take-cut : (n : ℕ) (l : List ℕ) → take (min n (length l)) l ≡ take n l
 take-cut n l = go (leb n (length l)) refl

@@ -2,18 +2,16 @@
 // responder_spec.
 mod state;
 
-use responder_spec::Decision;
+use responder_spec::Change;
 use sequence::Psn;
 pub use state::pair_after;
-pub use state::psn_after;
 use table::Ring;
 ghost use mathlib.Core.Path.{_≡_};
 ghost use mathlib.Core.Bool.{cond};
 ghost use lib.ListN.{take, drop};
 ghost use Rattle.memory.specs.Memory.{store};
 ghost use Rattle.table.specs.View.{savedRows};
-ghost use Rattle.responder_spec.specs.Apply.{memoryBy, actsAtomic};
-ghost use Rattle.responder_spec.specs.Reply.{valueBy};
+ghost use Rattle.responder_spec.specs.Apply.{memoryBy, valueBy, actsAtomic};
 
 // Stores size bytes of the packet from start on, as far as it has them, in memory from at on.
 fn store_part(mem: &mut [u8], at: usize, packet: &[u8], start: usize, size: usize)
@@ -24,22 +22,22 @@ fn store_part(mem: &mut [u8], at: usize, packet: &[u8], start: usize, size: usiz
     memory::store(mem, at, &packet[from..from + n]);
 }
 
-// Changes memory, and answers the value that an atomic sends.
-pub fn change(mem: &mut [u8], packet: &[u8], d: Decision) -> u64
-    ensures { λ r. ⌜ r ≡ valueBy d (now (mem .entry)) ⌝ }
-    ensures { λ r. ⌜ now (mem .exit) ≡ memoryBy d (now (mem .entry)) (now (packet .entry)) ⌝ }
+// Changes memory, and answers the value that is sent: the word that an atomic finds, else the one given.
+pub fn change(mem: &mut [u8], packet: &[u8], c: Change, value: u64) -> u64
+    ensures { λ r. ⌜ r ≡ valueBy c value (now (mem .entry)) ⌝ }
+    ensures { λ r. ⌜ now (mem .exit) ≡ memoryBy c (now (mem .entry)) (now (packet .entry)) ⌝ }
 {
-    if d.act == responder_spec::STORE {
-        store_part(mem, d.at, packet, d.start, d.size);
-        return d.value;
+    if c.act == responder_spec::STORE {
+        store_part(mem, c.at, packet, c.start, c.size);
+        return value;
     }
-    if d.act == responder_spec::FETCH_ADD {
-        return memory::fetch_add(mem, d.at, d.swap);
+    if c.act == responder_spec::FETCH_ADD {
+        return memory::fetch_add(mem, c.at, c.swap);
     }
-    if d.act == responder_spec::CMP_SWAP {
-        return memory::cmp_swap(mem, d.at, d.compare, d.swap);
+    if c.act == responder_spec::CMP_SWAP {
+        return memory::cmp_swap(mem, c.at, c.compare, c.swap);
     }
-    d.value
+    value
 }
 
 // Whether an act is that of an atomic.

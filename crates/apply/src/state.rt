@@ -4,12 +4,11 @@ use pair::Pair;
 use pair::ReadAnswer;
 use pair::Status;
 use responder_spec::Decision;
+use responder_spec::Reply;
 use sequence::Msn;
-use sequence::Psn;
 use table::Ring;
 ghost use mathlib.Core.Path.{_≡_};
 ghost use lib.Dec.{leb};
-ghost use Rattle.sequence.specs.Sequence.{psnAfter};
 ghost use Rattle.responder_spec.specs.Apply.{entriesBy, savedRingBy, msnBy, readAnswerBy, executedPair, closing, pairBy};
 ghost use Rattle.pair.specs.Answer.{statusNumber};
 
@@ -45,41 +44,37 @@ fn msn_by(ends: bool, msn: Msn) -> Msn
 }
 
 // The READ that is being answered afterwards.
-fn read_answer_by(d: Decision, old: ReadAnswer, msn: Msn) -> ReadAnswer
-    ensures { λ r. ⌜ r ≡ readAnswerBy d old msn ⌝ }
+fn read_answer_by(reply: Reply, old: ReadAnswer, msn: Msn) -> ReadAnswer
+    ensures { λ r. ⌜ r ≡ readAnswerBy reply old msn ⌝ }
 {
-    if d.responses == 0 {
+    if reply.remaining == 0 {
         return old;
     }
-    let psn = d.psn;
+    let psn = reply.psn;
     ReadAnswer {
-        remaining: d.responses,
-        offset: d.at,
-        length: d.length,
+        remaining: reply.remaining,
+        offset: reply.offset,
+        length: reply.length,
         psn,
         msn,
     }
 }
 
-// The PSN that comes n numbers later.
-pub fn psn_after(psn: Psn, n: usize) -> Psn
-    ensures { λ r. ⌜ r ≡ psnAfter psn n ⌝ }
-{
-    psn.after((n % Psn::SPACE as usize) as u32)
-}
-
 fn executed_pair(pair: Pair, d: Decision) -> Pair
     ensures { λ r. ⌜ r ≡ executedPair pair d ⌝ }
 {
-    let expected = psn_after(pair.expected, d.psns);
-    let msn = msn_by(d.ends, pair.msn);
+    let progress = d.progress;
+    let awaited = pair.expected;
+    let expected = awaited.after_count(progress.psns);
+    let msn = msn_by(progress.ends, pair.msn);
     let held = pair.entries;
-    let entries = entries_by(d.completion.some, held);
+    let entries = entries_by(progress.completion.some, held);
     let old = pair.read;
-    let read = read_answer_by(d, old, msn);
+    let reply = d.reply;
+    let read = read_answer_by(reply, old, msn);
     let kept = pair.saved;
-    let saved = saved_ring_by(kept, d.act);
-    let message = d.message;
+    let saved = saved_ring_by(kept, d.change.act);
+    let message = progress.message;
     let mut next = pair;
     next.expected = expected;
     next.msn = msn;
@@ -137,7 +132,8 @@ pub fn pair_after(pair: Pair, d: Decision) -> Pair
     let duplicate = status.is(Status::DuplicateAnswered);
     if duplicate {
         let old = pair.read;
-        let read = read_answer_by(d, old, pair.msn);
+        let reply = d.reply;
+        let read = read_answer_by(reply, old, pair.msn);
         next.read = read;
         return next;
     }

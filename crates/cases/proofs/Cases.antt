@@ -31,8 +31,8 @@ use Rattle.responder_spec.specs.Decide.{storePayload, execute, checkedDecision,
 use Rattle.responder_spec.specs.Decide.{duplicateDecision, rcDecision, packetDecision, readsFull, inboundRefusal}
 use Rattle.responder_spec.specs.Decide.{decision}
 use Rattle.responder_spec.specs.Apply.{memoryBy, actsAtomic, savedRingBy, ringTaken, entriesBy, msnBy, readAnswerBy, executedPair, pairByNumber, pairBy}
-use Rattle.responder_spec.specs.Reply.{replyHeader, ackHeader, answerBytes, over, outBy}
-use Rattle.responder_spec.specs.Inbound.{leftBy, inbound}
+use Rattle.responder_spec.specs.Reply.{replyHeader, ackHeader, ackBytes, over}
+use Rattle.responder_spec.specs.Inbound.{sentBy, leftBy, inbound}
 use Rattle.cases.specs.Cases.Case.{W1, W2, W3, W4, W5, W6, W7, W8, W9, W10, W11, W12}
 use Rattle.cases.specs.Cases.{classNumber, count, next, posts, ready, standing, zeros, completionNumbers, leftNumbers, given, once, found, said, Cases}
 
@@ -93,7 +93,7 @@ unfolding classAt psnClass opcode.placeOf kindOf placeIn sendWriteFollows follow
     lengthsOff current requestCheck expectedCheck acknowledging completes completionOf messageAfter targetOffset
     storePayload execute checkedDecision expectedDecision psnBefore duplicateDecision rcDecision packetDecision
     readsFull inboundRefusal memoryBy actsAtomic savedRingBy ringTaken entriesBy msnBy readAnswerBy executedPair pairByNumber
-    pairBy replyHeader ackHeader answerBytes over outBy leftBy decision inbound
+    pairBy replyHeader ackHeader ackBytes over sentBy leftBy decision inbound
     posts ready standing zeros completionNumbers leftNumbers given once found said
 w12 = refl
 

@@ -44,12 +44,13 @@ use Rattle.request_spec.proofs.Answered.{row-told, row-left}
 use Rattle.responder_spec.specs.declared.Decision.{Decision}
 use Rattle.responder_spec.specs.Arrival.{Arrival}
 use Rattle.responder_spec.specs.Decide.{refusalOf, checkedHeader}
+use Rattle.responder_spec.specs.Reply.{sending, readBegun}
 use Rattle.responder_spec.specs.Decide.{replyOnly, noReply, acknowledging, aheadDecision, failed, targetOffset}
 use Rattle.responder_spec.specs.Decide.{storePayload, runAtomic, beginRead, acceptRead, execute}
 use Rattle.responder_spec.specs.Decide.{checkedDecision, expectedDecision, psnBefore, duplicateReadFails}
 use Rattle.responder_spec.specs.Decide.{duplicateRead, duplicateAtomic, isAtomic, duplicateDecision, regionFor}
 use Rattle.responder_spec.specs.Decide.{headEntry, decisionByClass, rcDecision, orphaned, strays, closedBy}
-use Rattle.responder_spec.specs.Decide.{abandoning, unanswered, ucExecute, ucCheckedDecision, ucDecision}
+use Rattle.responder_spec.specs.Decide.{abandoning, ucExecute, ucCheckedDecision, ucDecision}
 use Rattle.responder_spec.specs.Decide.{packetDecision, orDrop, readsFull, inboundRefusal, decision}
 use Rattle.decision_laws.proofs.Codes.Bare.{reads, swaps, adds}
 use Rattle.decision_laws.proofs.Codes.{Passed, passes, Bare, class-is}
@@ -83,12 +84,12 @@ pub data Row (Q : Status → Type 0) (w : Whole) (p : Packet) : Decision → Typ
   unready : Row Q w p (acknowledging status.NotReadyNak (p .psn) (32 + w .pair .setup .timer))
   ackDuplicate : Row Q w p (acknowledging status.DuplicateAnswered (psnBefore (w .pair .expected)) 31)
   readDuplicate : (at n : ℕ) → Asks (w .pair .setup .memory) (w .regions) p at n → 0 < pieces n (w .pair .setup .pmtu)
-      → Row Q w p (beginRead status.DuplicateAnswered noMessage at n 0 false (pieces n (w .pair .setup .pmtu)) (p .psn))
-  atomicDuplicate : (v : ℕ) → newestSaved (p .psn .0) (w .saved) (w .pair .saved) ≡ Value v → Row Q w p (replyOnly status.DuplicateAnswered 24 (p .psn) 31 v)
+      → Row Q w p (replyOnly status.DuplicateAnswered (readBegun at n (pieces n (w .pair .setup .pmtu)) (p .psn)))
+  atomicDuplicate : (v : ℕ) → newestSaved (p .psn .0) (w .saved) (w .pair .saved) ≡ Value v → Row Q w p (replyOnly status.DuplicateAnswered (sending 18 (p .psn) 31 v))
   stored : (m : OpenMessage) (entry region : List ℕ) → targetOffset (p .kind) m entry region + payloadSize p ≤ w .pair .setup .memory
-      → Row Q w p (storePayload p m entry region)
+      → Row Q w p (storePayload (p .ackreq) 1 p m entry region)
   begin : (at n : ℕ) → Asks (w .pair .setup .memory) (w .regions) p at n → 0 < pieces n (w .pair .setup .pmtu)
-      → Row Q w p (beginRead status.ReadAccepted (w .pair .message) at n (pieces n (w .pair .setup .pmtu)) true (pieces n (w .pair .setup .pmtu)) (p .psn))
+      → Row Q w p (beginRead (w .pair .message) at n (pieces n (w .pair .setup .pmtu)) (p .psn))
   swap : (m : OpenMessage) (region : List ℕ) → memoryOffset region (m .address) (m .length) + 8 ≤ w .pair .setup .memory
       → Row Q w p (runAtomic p m (w .pair .message) region)
 
@@ -247,7 +248,7 @@ pub data UcRow (Q : Status → Type 0) (q : Pair) (p : Packet) : Decision → Ty
   unheard : (a : Status) → Q a → UcRow Q q p (noReply a)
   abandon : (q .message .kind ≡ 255 → ⊥) → UcRow Q q p (noReply status.Abandoned)
   deliver : (m : OpenMessage) (entry region : List ℕ) → targetOffset (p .kind) m entry region + payloadSize p ≤ q .setup .memory
-      → UcRow Q q p (unanswered (1 + distance (p .psn .0) (q .expected .0)) (storePayload p m entry region))
+      → UcRow Q q p (storePayload false (1 + distance (p .psn .0) (q .expected .0)) p m entry region)
 
 module _ (Q : Status → Type 0) (shut : Q status.Dropped) (w : Whole) (p : Packet)
     (off : Off Q (viewed (p .place) (w .pair)) (w .entries) p) where

@@ -45,7 +45,7 @@ use Rattle.responder_spec.specs.Decide.{noReply, acknowledging, aheadDecision, 
 use Rattle.responder_spec.specs.Decide.{storePayload, runAtomic, acceptRead, execute, checkedDecision}
 use Rattle.responder_spec.specs.Decide.{expectedDecision, duplicateRead, duplicateAtomic, isAtomic}
 use Rattle.responder_spec.specs.Decide.{duplicateDecision, regionFor, headEntry, decisionByClass, rcDecision}
-use Rattle.responder_spec.specs.Decide.{orphaned, strays, closedBy, abandoning, unanswered, ucExecute}
+use Rattle.responder_spec.specs.Decide.{orphaned, strays, closedBy, abandoning, ucExecute}
 use Rattle.responder_spec.specs.Decide.{ucCheckedDecision, ucDecision, packetDecision, orDrop, inboundRefusal}
 use Rattle.responder_spec.specs.Decide.{decision}
 use Rattle.responder_spec.specs.Apply.{actsAtomic}
@@ -76,11 +76,11 @@ viewedIn place w = withPair w (viewed place (w .pair))
 pub data Way (w : Whole) (k : Packet) : Decision → Type 0 where
   away : (d : Decision) → Other (statusNumber (d .status)) → Way w k d
   places : Sound (w .pair) → codeBy w k ≡ 0 → carrying (k .kind) ≡ true
-      → Way w k (storePayload k (current (w .pair .message) k) (headEntry (w .pair) (w .entries)) (regionBy w k))
+      → Way w k (storePayload (k .ackreq) 1 k (current (w .pair .message) k) (headEntry (w .pair) (w .entries)) (regionBy w k))
   exchanges : Sound (w .pair) → codeBy w k ≡ 0 → carrying (k .kind) ≡ false → eqb (k .kind) 12 ≡ false
       → Way w k (runAtomic k (current (w .pair .message) k) (w .pair .message) (regionBy w k))
   delivers : Sound (w .pair) → (n : ℕ) → codeBy (viewedIn (k .place) w) k ≡ 0 → carrying (k .kind) ≡ true
-      → Way w k (unanswered n (storePayload k (current (w .pair .message) k) (headEntry (w .pair) (w .entries)) (regionBy w k)))
+      → Way w k (storePayload false n k (current (w .pair .message) k) (headEntry (w .pair) (w .entries)) (regionBy w k))
 
 pub branch : {A : Type 0} (P : A → Type 0) (b : Bool) {x y : A} → (b ≡ true → P x) → (b ≡ false → P y) → P (cond b x y)
 branch P true h k = h refl

@@ -17,7 +17,7 @@ use Rattle.pair.specs.declared.Setup.{Setup}
 use Rattle.responder_spec.specs.Apply.{memoryBy}
 use Rattle.responder_spec.specs.Inbound.{inbound, leftBy}
 use Rattle.responder_spec.specs.Steady.{Steady}
-use Rattle.responder_spec.specs.declared.Decision.{Decision}
+use Rattle.responder_spec.specs.declared.Change.{Change}
 use Rattle.sound_laws.proofs.Kept.{inbound-steady, next-steady, post-steady}
 use Rattle.delivery_spec.specs.Stream.{Message, Slot, slot, stream, psnCount, numberAlong}
 use Rattle.delivery_spec.specs.Plain.{Plain, Call, none, firstOf, isRead, slotNeedsEntry, isLast, heldNow, withResponses, withWaiting, executeWith, plainStep, plain, start}
@@ -34,12 +34,12 @@ long-either : (b : Bool) (x y : List ℕ) (n : ℕ) → length x ≡ n → lengt
 long-either true x y n e f = e
 long-either false x y n e f = f
 
-memory-long : (d : Decision) (m b : List ℕ) → length (memoryBy d m b) ≡ length m
+memory-long : (c : Change) (m b : List ℕ) → length (memoryBy c m b) ≡ length m
 unfolding memoryBy
-memory-long d m b =
-    long-either (eqb (d .act) 1) _ _ (length m) (length-store m (d .at) _)
-    (long-either (eqb (d .act) 2) _ _ (length m) (fetch-within m (d .at) (d .swap) .kept)
-    (long-either (eqb (d .act) 3) _ _ (length m) (swap-within m (d .at) (d .compare) (d .swap) .kept) refl))
+memory-long c m b =
+    long-either (eqb (c .act) 1) _ _ (length m) (length-store m (c .at) _)
+    (long-either (eqb (c .act) 2) _ _ (length m) (fetch-within m (c .at) (c .swap) .kept)
+    (long-either (eqb (c .act) 3) _ _ (length m) (swap-within m (c .at) (c .compare) (c .swap) .kept) refl))
 
 step-long : (S : List Slot) (x : Run) (c : Call) → length (step S x c .memory) ≡ length (x .memory)
 unfolding step inbound leftBy

@@ -32,7 +32,8 @@ use Rattle.cut_spec.proofs.Shapes.{cut-one}
 use Rattle.request_spec.specs.Verdict.{carrying, notEnabled, overLimit, keyFails, current}
 use Rattle.responder_spec.specs.Steady.{Steady}
 use Rattle.responder_spec.specs.Syndrome as Syndrome
-use Rattle.responder_spec.specs.Decide.{noReply, acknowledging, beginRead, psnBefore, aheadDecision}
+use Rattle.responder_spec.specs.Reply.{readBegun}
+use Rattle.responder_spec.specs.Decide.{noReply, acknowledging, replyOnly, psnBefore, aheadDecision}
 use Rattle.responder_spec.specs.Decide.{duplicateReadFails, duplicateRead, duplicateAtomic, isAtomic}
 use Rattle.responder_spec.specs.Decide.{duplicateDecision, headEntry, regionFor, expectedDecision, decisionByClass}
 use Rattle.responder_spec.specs.Decide.{rcDecision, packetDecision}
@@ -95,16 +96,16 @@ module _ (ms : List Message) (S : List Slot) (p : Plain) (x : Run) (L : Link ms 
 
   -- a READ's answer begins
   remaining-is : (at n r : ℕ) (psn : Psn) (len : ℕ) → 1 ≤ r → r ≡ n
-      → readAnswerBy (beginRead status.DuplicateAnswered noMessage at len 0 false r psn) (x .whole .pair .read) (x .whole .pair .msn) .remaining ≡ n
+      → readAnswerBy (readBegun at len r psn) (x .whole .pair .read) (x .whole .pair .msn) .remaining ≡ n
   unfolding readAnswerBy
   remaining-is at n r psn len h e = rw (ne-eqb r 0 (λ z. absurd (omega arith))) e
 
   begins : (at n r : ℕ) (psn : Psn) (len : ℕ) (b : List ℕ) → 1 ≤ r → r ≡ n
-      → Link ms S (withResponses p n) (stepBy x (beginRead status.DuplicateAnswered noMessage at len 0 false r psn) b)
+      → Link ms S (withResponses p n) (stepBy x (replyOnly status.DuplicateAnswered (readBegun at len r psn)) b)
   unfolding statusNumber pairBy pairByNumber savedBy memoryBy actsAtomic
   begins at n r psn len b h e =
       eases L (x .whole .pair .nakmark)
-      (readAnswerBy (beginRead status.DuplicateAnswered noMessage at len 0 false r psn) (x .whole .pair .read) (x .whole .pair .msn)) n
+      (readAnswerBy (readBegun at len r psn) (x .whole .pair .read) (x .whole .pair .msn)) n
       (remaining-is at n r psn len h e)
 
   module _ (j : ℕ) (i : j < length S) where

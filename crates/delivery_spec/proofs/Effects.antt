@@ -53,21 +53,21 @@ module _ (ms : List Message) (S : List Slot) (p : Plain) (x : Run) (d : Decision
   -- what the decision d has to do, the packet's bytes being b and its entry e
   pub record Does (e : Entry) : Type 0 where
     pub status : statusNumber (d .status) ≤ 3
-    pub psns : d .psns ≡ psnCount (slot S (p .k))
-    pub ends : d .ends ≡ isLast (slot S (p .k))
-    pub reads : readAnswerBy d (x .whole .pair .read) (msnBy (d .ends) (x .whole .pair .msn)) .remaining ≡ cond (isRead (slot S (p .k) .message .request)) (psnCount (slot S (p .k))) (p .r)
+    pub psns : d .progress .psns ≡ psnCount (slot S (p .k))
+    pub ends : d .progress .ends ≡ isLast (slot S (p .k))
+    pub reads : readAnswerBy (d .reply) (x .whole .pair .read) (msnBy (d .progress .ends) (x .whole .pair .msn)) .remaining ≡ cond (isRead (slot S (p .k) .message .request)) (psnCount (slot S (p .k))) (p .r)
     pub memory :
-        memoryBy d (x .memory) b
+        memoryBy (d .change) (x .memory) b
         ≡ memoryAfter (slot S (p .k) .message .request) (x .whole .regions) (slot S (p .k) .message .connection .pmtu)
         (slot S (p .k) .message .bytes) (slot S (p .k) .index) e (p .memory)
     pub completion :
-        reports (d .completion)
+        reports (d .progress .completion)
         ≡ cond (isLast (slot S (p .k)) && takesEntry (slot S (p .k) .message .request))
         (completionFor (slot S (p .k) .message .request) e (length (slot S (p .k) .message .bytes)) ∷ []) []
     pub entries :
-        map entryOf (inRing entrySlot (x .whole .entries) (entriesBy (d .completion .some) (x .whole .pair .entries)))
+        map entryOf (inRing entrySlot (x .whole .entries) (entriesBy (d .progress .completion .some) (x .whole .pair .entries)))
         ≡ cond (isLast (slot S (p .k))) [] (heldNow p (slot S (p .k))) ++ waitingNow p (slot S (p .k))
-    pub opened : OpenedFor (eqb (slot S (suc (p .k)) .index) 0) (slot S (suc (p .k))) (d .message) (cond (isLast (slot S (p .k))) [] (heldNow p (slot S (p .k))))
+    pub opened : OpenedFor (eqb (slot S (suc (p .k)) .index) 0) (slot S (suc (p .k))) (d .progress .message) (cond (isLast (slot S (p .k))) [] (heldNow p (slot S (p .k))))
 
   module _ (L : Link ms S p x) (lt : p .k < length S) (e : Entry) (D : Does e) where
     number-next : psnAfter (p .expected) (psnCount (slot S (p .k))) .0 ≡ after (x .whole .pair .setup .start .0) (numberAlong S (suc (p .k)))

@@ -114,7 +114,7 @@ module _ (ms : List Message) (S : List Slot) (p : Plain) (x : Run) (L : Link ms 
       ∙ ap (λ b. b && immediateOf (t .message .request)) (ends-is (x .whole .pair .setup) (x .whole .regions) fits t H (x .whole .pair .message) (p .held) (L .opened))
 
   carries-here : carrying (kindNumber (t .message .request)) ≡ true
-      → execute (cutPacket t) M (x .whole .pair .message) entry region (x .whole .pair .setup .pmtu) ≡ storePayload (cutPacket t) M entry region
+      → execute (cutPacket t) M (x .whole .pair .message) entry region (x .whole .pair .setup .pmtu) ≡ storePayload (cutPacket t .ackreq) 1 (cutPacket t) M entry region
   unfolding execute
   carries-here e = rw e
 
@@ -154,7 +154,7 @@ module _ (ms : List Message) (S : List Slot) (p : Plain) (x : Run) (L : Link ms 
     read-here O R =
         goes (acceptRead (cutPacket t) M (x .whole .pair .message) region (x .whole .pair .setup .pmtu)) free
         (behinds (unused 12 (R .kind) refl O) (O .suits (length (t .message .bytes)) (getD entry 2 0)))
-        (ap (λ k. cond (ltb k 12) (storePayload (cutPacket t) M entry region)
+        (ap (λ k. cond (ltb k 12) (storePayload (cutPacket t .ackreq) 1 (cutPacket t) M entry region)
         (cond (eqb k 12) (acceptRead (cutPacket t) M (x .whole .pair .message) region (x .whole .pair .setup .pmtu)) (runAtomic (cutPacket t) M (x .whole .pair .message) region))) (R .kind))
         (reads ms S p x L Y G lt O R)
 
@@ -163,7 +163,7 @@ module _ (ms : List Message) (S : List Slot) (p : Plain) (x : Run) (L : Link ms 
     swap-here k act does O W z =
         goes (runAtomic (cutPacket t) M (x .whole .pair .message) region) free
         (behinds (unused k (W .kind) z O) (O .suits (length (t .message .bytes)) (getD entry 2 0)))
-        (ap (λ j. cond (ltb j 12) (storePayload (cutPacket t) M entry region)
+        (ap (λ j. cond (ltb j 12) (storePayload (cutPacket t .ackreq) 1 (cutPacket t) M entry region)
         (cond (eqb j 12) (acceptRead (cutPacket t) M (x .whole .pair .message) region (x .whole .pair .setup .pmtu)) (runAtomic (cutPacket t) M (x .whole .pair .message) region))) (W .kind)
         ∙ rw (W .apart .0, W .apart .1))
         (swaps ms S p x L Y G lt O k act does W z)

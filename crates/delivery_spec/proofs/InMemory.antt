@@ -69,12 +69,12 @@ module _ (s : Setup) (regions : List (List ℕ)) (f : SetupFit s) (t : Slot) (H 
   piece-long : length piece ≡ slotSize t
   piece-long = length-piece s regions f t H opened held U C entry region
 
-  bytes-are : (m : List ℕ) → memoryBy (storePayload (cutPacket t) M entry region) m (packetAt t) ≡ store m (targetOffset (kindNumber (t .message .request)) M entry region) piece
+  bytes-are : (m : List ℕ) → memoryBy (storePayload (cutPacket t .ackreq) 1 (cutPacket t) M entry region .change) m (packetAt t) ≡ store m (targetOffset (kindNumber (t .message .request)) M entry region) piece
   bytes-are m = storing-bytes s regions f t H opened held U C entry region m
 
   module _ (Z : Sends (t .message .request)) where
     pub send-memory-is : (m : List ℕ) → getD entry 1 0 + getD entry 2 0 ≤ length m → length (t .message .bytes) ≤ getD entry 2 0
-        → memoryBy (storePayload (cutPacket t) M entry region) m (packetAt t) ≡ overwrite m (getD entry 1 0 + off) piece
+        → memoryBy (storePayload (cutPacket t .ackreq) 1 (cutPacket t) M entry region .change) m (packetAt t) ≡ overwrite m (getD entry 1 0 + off) piece
     unfolding targetOffset
     send-memory-is m o large =
         let a : getD entry 1 0 + M .stored ≡ getD entry 1 0 + off = omega (arith, N .stored) in
@@ -143,7 +143,7 @@ module _ (s : Setup) (regions : List (List ℕ)) (f : SetupFit s) (t : Slot) (H 
           (N .address) (N .stored) (N .length ∙ Z .named (length (t .message .bytes))) (omega (arith, inside)) right (short o)
 
       pub write-memory-is : (m : List ℕ) → length m ≡ s .memory
-          → memoryBy (storePayload (cutPacket t) M entry region) m (packetAt t) ≡ overwrite m (to + off) piece
+          → memoryBy (storePayload (cutPacket t .ackreq) 1 (cutPacket t) M entry region .change) m (packetAt t) ≡ overwrite m (to + off) piece
       write-memory-is m l =
           bytes-are m
           ∙ ((λ i. store m (targetOffset (Z .kind i) M entry (region-is i)) piece) ∙ go (eqb (length (t .message .bytes)) 0) refl)

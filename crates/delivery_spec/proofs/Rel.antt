@@ -72,8 +72,8 @@ abbrev pub stepBy : Run → Decision → List ℕ → Run
 stepBy x d b =
     record {
       whole = wholeBy (x .whole) d (x .memory);
-      memory = memoryBy d (x .memory) b;
-      completions = x .completions ++ reports (d .completion);
+      memory = memoryBy (d .change) (x .memory) b;
+      completions = x .completions ++ reports (d .progress .completion);
     }
 
 -- another NAK mark and another READ being answered

@@ -24,7 +24,7 @@ use Rattle.table.specs.declared.Region.{Region}
 use Rattle.request_spec.specs.Packet.{operandsOf}
 use Rattle.request_spec.specs.Verdict.{rightOf}
 use Rattle.responder_spec.specs.Apply.{memoryBy}
-use Rattle.responder_spec.specs.declared.Decision.{Decision}
+use Rattle.responder_spec.specs.declared.Change.{Change}
 use Rattle.delivery_spec.specs.Stream.{psnCountOf}
 use Rattle.delivery_spec.specs.Plain.{needsEntryAt, takesEntry, completionWith, completionFor, regionOffset, memoryAfter, isRead}
 use Rattle.delivery_spec.specs.Demand.{LiesInRegion, Allowed, AtLeast}
@@ -174,7 +174,7 @@ pub record Swaps (r : Request) (k act : ℕ) (does : List ℕ → ℕ → ℕ �
   pub kind : kindNumber r ≡ k
   pub apart : (ltb k 12 ≡ false) × (eqb k 12 ≡ false)
   pub act-is : cond (eqb k 20) 2 3 ≡ act
-  pub acts : (d : Decision) (m b : List ℕ) → d .act ≡ act → memoryBy d m b ≡ does m (d .at) (d .compare) (d .swap)
+  pub acts : (c : Change) (m b : List ℕ) → c .act ≡ act → memoryBy c m b ≡ does m (c .at) (c .compare) (c .swap)
   pub read : isRead r ≡ false
   pub psnCount : (pmtu : ℕ) → psnCountOf r pmtu ≡ 1
   pub named : (n : ℕ) → namedOf r n ≡ 8

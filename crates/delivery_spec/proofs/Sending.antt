@@ -116,7 +116,7 @@ module _ (ms : List Message) (S : List Slot) (p : Plain) (x : Run) (L : Link ms 
   first-is : firstOf (heldNow p t) ≡ entryOf entry
   first-is = ap firstOf (entered .is)
 
-  memory-is : memoryBy (storePayload (cutPacket t) M entry region) (x .memory) (packetAt t)
+  memory-is : memoryBy (storePayload (cutPacket t .ackreq) 1 (cutPacket t) M entry region .change) (x .memory) (packetAt t)
       ≡ overwrite (p .memory) (firstOf (heldNow p t) .offset + t .index * t .message .connection .pmtu) (pieceAt (t .message .bytes) (t .message .connection .pmtu) (t .index))
   unfolding outside
   memory-is =
@@ -124,7 +124,7 @@ module _ (ms : List Message) (S : List Slot) (p : Plain) (x : Run) (L : Link ms 
       let o : getD entry 1 0 + getD entry 2 0 ≤ x .whole .pair .setup .memory =
       ltb-false (x .whole .pair .setup .memory) (getD entry 1 0 + getD entry 2 0)
       (entry-fits (x .whole .pair .setup .memory) (x .whole .entries) (x .whole .pair .entries) (Y .entries) (entered .some)) in
-      ap (λ m. memoryBy (storePayload (cutPacket t) M entry region) m (packetAt t)) (L .memory)
+      ap (λ m. memoryBy (storePayload (cutPacket t .ackreq) 1 (cutPacket t) M entry region .change) m (packetAt t)) (L .memory)
       ∙ (send-memory-is (x .whole .pair .setup) (x .whole .regions) fits t H (x .whole .pair .message) (p .held) (L .opened) C entry Z (p .memory) (omega (arith, o, ml)) (entered .large)
       ∙ ap (λ e. overwrite (p .memory) (e .offset + t .index * t .message .connection .pmtu) d) (sym first-is))
 
@@ -148,7 +148,7 @@ module _ (ms : List Message) (S : List Slot) (p : Plain) (x : Run) (L : Link ms 
           let w = Z .held (length (t .message .bytes)) (p .held) (u .1) in
           (w .0, w .1)
 
-  pub sends : Does ms S p x (storePayload (cutPacket t) M entry region) (packetAt t) (firstOf (heldNow p t))
+  pub sends : Does ms S p x (storePayload (cutPacket t .ackreq) 1 (cutPacket t) M entry region) (packetAt t) (firstOf (heldNow p t))
   unfolding storePayload
   sends =
       record {

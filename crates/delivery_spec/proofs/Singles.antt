@@ -137,14 +137,14 @@ module _ (ms : List Message) (S : List Slot) (p : Plain) (x : Run) (L : Link ms 
   swaps k act does W z =
       let n = messageLength (t .message .request) (length (t .message .bytes)) in
       let D = runAtomic (cutPacket t) M (x .whole .pair .message) region in
-      let a : D .act ≡ act = ap (λ j. cond (eqb j 20) 2 3) (W .kind) ∙ W .act-is in
+      let a : D .change .act ≡ act = ap (λ j. cond (eqb j 20) 2 3) (W .kind) ∙ W .act-is in
       record {
         status = omega arith;
         psns = sym (W .psnCount (t .message .connection .pmtu));
         ends = sym last-is;
         reads = L .reads ∙ ap (λ b. cond b (psnCount t) (p .r)) (sym (W .read));
         memory =
-            W .acts D (x .memory) (packetAt t) a
+            W .acts (D .change) (x .memory) (packetAt t) a
             ∙ ((λ i. does (L .memory i) (at-is k act does W z i) (cutPacket t .operands .compare) (cutPacket t .operands .swap))
             ∙ sym (W .memory-is n (placeFor t) (x .whole .regions) (t .message .connection .pmtu) (t .message .bytes) (t .index) (firstOf (heldNow p t)) (p .memory)));
         completion = unreported;

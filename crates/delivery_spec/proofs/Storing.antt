@@ -40,7 +40,7 @@ module _ (s : Setup) (regions : List (List ℕ)) (f : SetupFit s) (t : Slot) (h 
   abbrev pub M : OpenMessage
   M = current opened (cutPacket t)
 
-  pub storing-answers : statusNumber (storePayload (cutPacket t) M entry region .status) ≤ 3
+  pub storing-answers : statusNumber (storePayload (cutPacket t .ackreq) 1 (cutPacket t) M entry region .status) ≤ 3
   unfolding storePayload statusNumber
   storing-answers = go (cutPacket t .ackreq)
     where
@@ -48,16 +48,16 @@ module _ (s : Setup) (regions : List (List ℕ)) (f : SetupFit s) (t : Slot) (h 
       go true = omega arith
       go false = omega arith
 
-  pub storing-psns : storePayload (cutPacket t) M entry region .psns ≡ psnCount t
+  pub storing-psns : storePayload (cutPacket t .ackreq) 1 (cutPacket t) M entry region .progress .psns ≡ psnCount t
   unfolding storePayload
   storing-psns = sym (C .psnCount (t .message .connection .pmtu))
 
-  pub storing-ends : storePayload (cutPacket t) M entry region .ends ≡ isLast t
+  pub storing-ends : storePayload (cutPacket t .ackreq) 1 (cutPacket t) M entry region .progress .ends ≡ isLast t
   unfolding storePayload
   storing-ends = ends-is s regions f t h opened held U
 
   pub storing-reads : (a : ReadAnswer) (msn : Msn) (r : ℕ) → a .remaining ≡ r
-      → readAnswerBy (storePayload (cutPacket t) M entry region) a msn .remaining ≡ cond (isRead (t .message .request)) (psnCount t) r
+      → readAnswerBy (storePayload (cutPacket t .ackreq) 1 (cutPacket t) M entry region .reply) a msn .remaining ≡ cond (isRead (t .message .request)) (psnCount t) r
   unfolding storePayload readAnswerBy
   storing-reads a msn r e = e ∙ ap (λ b. cond b (psnCount t) r) (sym (C .read))
 
@@ -67,7 +67,7 @@ module _ (s : Setup) (regions : List (List ℕ)) (f : SetupFit s) (t : Slot) (h 
 
   -- the bytes stored are the message's piece
   pub storing-bytes : (m : List ℕ)
-      → memoryBy (storePayload (cutPacket t) M entry region) m (packetAt t)
+      → memoryBy (storePayload (cutPacket t .ackreq) 1 (cutPacket t) M entry region .change) m (packetAt t)
       ≡ store m (targetOffset (kindNumber (t .message .request)) M entry region) (pieceAt (t .message .bytes) (t .message .connection .pmtu) (t .index))
   unfolding storePayload memoryBy
   storing-bytes m =

@@ -99,9 +99,9 @@ module _ (ms : List Message) (S : List Slot) (p : Plain) (x : Run) (L : Link ms 
   abbrev target : ℕ
   target = regionOffset (x .whole .regions) (keyOf (t .message .request)) (addressOf (t .message .request)) + t .index * t .message .connection .pmtu
 
-  memory-is : memoryBy (storePayload (cutPacket t) M entry region) (x .memory) (packetAt t) ≡ overwrite (p .memory) target piece
+  memory-is : memoryBy (storePayload (cutPacket t .ackreq) 1 (cutPacket t) M entry region .change) (x .memory) (packetAt t) ≡ overwrite (p .memory) target piece
   memory-is =
-      ap (λ m. memoryBy (storePayload (cutPacket t) M entry region) m (packetAt t)) (L .memory)
+      ap (λ m. memoryBy (storePayload (cutPacket t .ackreq) 1 (cutPacket t) M entry region .change) m (packetAt t)) (L .memory)
       ∙ write-memory-is (x .whole .pair .setup) (x .whole .regions) fits t H (x .whole .pair .message) (p .held) (L .opened) C entry Z (Y .regions) (p .memory) ml
 
   ring-is : map entryOf (inRing entrySlot (x .whole .entries) (entriesBy (isLast t && takesEntry (t .message .request)) (x .whole .pair .entries)))
@@ -117,7 +117,7 @@ module _ (ms : List Message) (S : List Slot) (p : Plain) (x : Run) (L : Link ms 
       ap (λ b. cond b [] (heldNow p t)) e
       ∙ (ap (λ b. cond b (take 1 (p .waiting)) (p .held)) (needs-entry-is ∙ ap (λ b. b && takesEntry (t .message .request)) e) ∙ none-held)
 
-  pub writes : Does ms S p x (storePayload (cutPacket t) M entry region) (packetAt t) (firstOf (heldNow p t))
+  pub writes : Does ms S p x (storePayload (cutPacket t .ackreq) 1 (cutPacket t) M entry region) (packetAt t) (firstOf (heldNow p t))
   unfolding storePayload
   writes =
       record {

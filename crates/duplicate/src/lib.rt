@@ -65,9 +65,9 @@ fn duplicate_read(p: Packet, s: Setup, m: OpenMessage, expected: Psn, region: [u
     }
     let at = table::memory_offset(region, m.address, m.length);
     let count = pmtu::count(m.length, s.pmtu);
-    let message = pair::no_message();
     let status = Status::DuplicateAnswered;
-    reply::begin_read(status, message, at, m.length, 0, false, count, p.psn)
+    let responses = reply::read_begun(at, m.length, count, p.psn);
+    reply::reply_only(status, responses)
 }
 
 fn duplicate_atomic(saved: Saved, psn: Psn) -> Decision
@@ -76,7 +76,8 @@ fn duplicate_atomic(saved: Saved, psn: Psn) -> Decision
     match saved {
         Saved::Value(v) => {
             let status = Status::DuplicateAnswered;
-            reply::reply_only(status, reply::ATOMIC_ACK_LENGTH, psn, reply::ACK, v)
+            let answer = reply::sending(opcode::ATOMIC_ACKNOWLEDGE, psn, reply::ACK, v);
+            reply::reply_only(status, answer)
         }
         Saved::Nothing => {
             let status = Status::Dropped;

@@ -14,6 +14,7 @@ use Rattle.sequence.specs.declared.Psn.{Psn}
 use Rattle.sequence.specs.declared.Msn.{Msn}
 use Rattle.opcode.specs.Opcode.{followsOf, lowClass}
 use Rattle.header.specs.Read.{bthOf, rethOf, extensionOf, headerOf}
+use Rattle.header.specs.Write.{bthBytes, aethBytes, extensionBytes, headerBytes}
 use Rattle.memory.specs.Memory.{store}
 use Rattle.memory.specs.Word.{wordAt, fetchAdded, swapped}
 use Rattle.memory.specs.Claims.{OnlyWord}
@@ -36,13 +37,14 @@ use Rattle.request_spec.specs.Packet.{remote, operandsOf, packetOf, packetIn}
 use Rattle.request_spec.specs.Verdict.{payloadSize}
 use Rattle.request_spec.specs.declared.Operands.{Operands}
 use Rattle.request_spec.specs.declared.Packet.{Packet}
+use Rattle.responder_spec.specs.declared.Reply.{Reply}
 use Rattle.responder_spec.specs.declared.Decision.{Decision}
-use Rattle.responder_spec.specs.Decide.{noCompletion, noPsn, replyOnly, noReply, acknowledging, psnBefore}
+use Rattle.responder_spec.specs.Reply.{nothingSent, sending, replyHeader, ackHeader, atomicHeader, ackBytes, over}
+use Rattle.responder_spec.specs.Decide.{noCompletion, replyOnly, noReply, acknowledging, psnBefore}
 use Rattle.responder_spec.specs.Decide.{completes, completionOf, messageAfter, targetOffset, beginRead}
-use Rattle.responder_spec.specs.Decide.{storePayload, runAtomic, unanswered, decision}
+use Rattle.responder_spec.specs.Decide.{storePayload, runAtomic, decision}
 use Rattle.responder_spec.specs.Apply.{memoryBy, actsAtomic, savedBy, savedRingBy, ringTaken, entriesBy, msnBy, readAnswerBy, executedPair, with, pairByNumber, pairBy}
-use Rattle.responder_spec.specs.Reply.{answerBytes, valueBy, over, outBy}
-use Rattle.responder_spec.specs.Inbound.{leftBy, inbound}
+use Rattle.responder_spec.specs.Inbound.{sentBy, leftBy, inbound}
 use Rattle.effect_laws.specs.Effects.{Silent, OnlyRead, InboundReads, Unexecuted, Unchanged, Fixed, NakMarkAlone}
 use Rattle.effect_laws.specs.Effects.{ErrorAlone, Begun, DuplicateLeaves, Abandons, Executes, StoresPacket, Accepts}
 use Rattle.effect_laws.specs.Effects.{OnWord, Swaps, Table, InboundTable, LeavesEach}
@@ -100,20 +102,20 @@ module _ (arrival : Arrival) where
   Effect status.KeyInUse l = ⊥
   Effect status.BadNumber l = ⊥
 
-  unexecuted-by : (a : Status) (outgoing : ℕ) (psn : Psn) (syndrome value : ℕ) → Unexecuted arrival (L (replyOnly a outgoing psn syndrome value))
+  unexecuted-by : (a : Status) (r : Reply) → Unexecuted arrival (L (replyOnly a r))
   unfolding leftBy memoryBy savedBy actsAtomic
-  unexecuted-by a outgoing psn syndrome value = record { memory = refl; saved = refl; completion = silent }
+  unexecuted-by a r = record { memory = refl; saved = refl; completion = silent }
 
   only-read : (d : Decision) → OnlyRead arrival (L d)
   unfolding leftBy
   only-read d = record { regions = refl; entries = refl }
 
   quiet-by : (a : Status) → Quiet a → Effect a (L (noReply a))
-  unfolding leftBy memoryBy savedBy actsAtomic pairBy pairByNumber statusNumber noReply outBy answerBytes over valueBy
-  quiet-by status.Dropped dropped = record { pair = refl; tables = only-read (noReply status.Dropped); unexecuted = unexecuted-by status.Dropped 0 noPsn 0 0; outgoing = refl; out = refl }
-  quiet-by status.OutputShort short = record { pair = refl; tables = only-read (noReply status.OutputShort); unexecuted = unexecuted-by status.OutputShort 0 noPsn 0 0; outgoing = refl; out = refl }
-  quiet-by status.OutOfRange range = record { pair = refl; tables = only-read (noReply status.OutOfRange); unexecuted = unexecuted-by status.OutOfRange 0 noPsn 0 0; outgoing = refl; out = refl }
-  quiet-by status.ReadUnfinished unfinished = record { pair = refl; tables = only-read (noReply status.ReadUnfinished); unexecuted = unexecuted-by status.ReadUnfinished 0 noPsn 0 0; outgoing = refl; out = refl }
+  unfolding leftBy memoryBy savedBy actsAtomic pairBy pairByNumber statusNumber noReply sentBy ackBytes over
+  quiet-by status.Dropped dropped = record { pair = refl; tables = only-read (noReply status.Dropped); unexecuted = unexecuted-by status.Dropped nothingSent; outgoing = refl; out = refl }
+  quiet-by status.OutputShort short = record { pair = refl; tables = only-read (noReply status.OutputShort); unexecuted = unexecuted-by status.OutputShort nothingSent; outgoing = refl; out = refl }
+  quiet-by status.OutOfRange range = record { pair = refl; tables = only-read (noReply status.OutOfRange); unexecuted = unexecuted-by status.OutOfRange nothingSent; outgoing = refl; out = refl }
+  quiet-by status.ReadUnfinished unfinished = record { pair = refl; tables = only-read (noReply status.ReadUnfinished); unexecuted = unexecuted-by status.ReadUnfinished nothingSent; outgoing = refl; out = refl }
 
   fixed-with : (state : ℕ) (nakmark : Bool) (a : ReadAnswer) → Fixed q (with q state nakmark a)
   fixed-with state nakmark a = record { setup = refl; expected = refl; msn = refl; message = refl; entries = refl; saved = refl }
@@ -140,16 +142,16 @@ module _ (arrival : Arrival) where
   unfolding memoryOffset
   offset-none region address n h = rw (eq-eqb n 0 h)
 
-  begun-by : (d : Decision) (old : ReadAnswer) (msn : Msn) → 0 < d .responses → d .responses ≡ pieces (d .length) (q .setup .pmtu)
-      → d .psn ≡ bthOf p .psn → Asks (q .setup .memory) (arrival .whole .regions) (packetIn p) (d .at) (d .length)
-      → Begun (arrival .whole .regions) (q .setup) p msn (readAnswerBy d old msn)
+  begun-by : (r : Reply) (old : ReadAnswer) (msn : Msn) → 0 < r .remaining → r .remaining ≡ pieces (r .length) (q .setup .pmtu)
+      → r .psn ≡ bthOf p .psn → Asks (q .setup .memory) (arrival .whole .regions) (packetIn p) (r .offset) (r .length)
+      → Begun (arrival .whole .regions) (q .setup) p msn (readAnswerBy r old msn)
   unfolding readAnswerBy
-  begun-by d old msn h e n A =
+  begun-by r old msn h e n A =
       let o = operands-by (A .kind) in
-      let l : d .length ≡ rethOf p .length = A .length ∙ ap (λ x. x .length) o in
-      let t : d .at ≡ memoryOffset (regionOf (rethOf p .key) (arrival .whole .regions)) (rethOf p .address) (rethOf p .length) =
+      let l : r .length ≡ rethOf p .length = A .length ∙ ap (λ x. x .length) o in
+      let t : r .offset ≡ memoryOffset (regionOf (rethOf p .key) (arrival .whole .regions)) (rethOf p .address) (rethOf p .length) =
       A .at ∙ ap (λ x. memoryOffset (regionOf (x .key) (arrival .whole .regions)) (x .address) (x .length)) o in
-      rw (ne-eqb (d .responses) 0 (λ z. omega arith))
+      rw (ne-eqb (r .remaining) 0 (λ z. omega arith))
       (record {
         some = h;
         all = e;
@@ -161,37 +163,9 @@ module _ (arrival : Arrival) where
         within = A .within;
       })
 
-  remaining-by : (d : Decision) (old : ReadAnswer) (msn : Msn) → 0 < d .responses → readAnswerBy d old msn .remaining ≡ d .responses
+  remaining-by : (r : Reply) (old : ReadAnswer) (msn : Msn) → 0 < r .remaining → readAnswerBy r old msn .remaining ≡ r .remaining
   unfolding readAnswerBy
-  remaining-by d old msn h = rw (ne-eqb (d .responses) 0 (λ z. omega arith))
-
-  -- the decision with another answer, another count of PSNs taken and of bytes sent
-  abbrev answering : Status → ℕ → ℕ → Decision → Decision
-  answering a psns outgoing d =
-      record {
-        status = a;
-        act = d .act;
-        at = d .at;
-        start = d .start;
-        size = d .size;
-        swap = d .swap;
-        compare = d .compare;
-        message = d .message;
-        psns = psns;
-        ends = d .ends;
-        completion = d .completion;
-        responses = d .responses;
-        length = d .length;
-        outgoing = outgoing;
-        psn = d .psn;
-        syndrome = d .syndrome;
-        value = d .value;
-      }
-
-  status-of : (ackreq : Bool) (l : Left) → StoresPacket arrival l → l .outgoing ≡ cond ackreq 16 0 → (ackreq ≡ false → l .out ≡ arrival .out)
-      → Effect (cond ackreq status.Acknowledged status.Executed) l
-  status-of true l P s o = (P, s)
-  status-of false l P s o = (P, s, o refl)
+  remaining-by r old msn h = rw (ne-eqb (r .remaining) 0 (λ z. omega arith))
 
   -- executed: the pair as the decision says
   ran : (d : Decision) → statusNumber (d .status) ≤ 3 → pairBy q d ≡ executedPair q d
@@ -201,10 +175,6 @@ module _ (arrival : Arrival) where
   executes-by : (d : Decision) → Executes q (executedPair q d)
   unfolding executedPair
   executes-by d = record { nakmark = refl; setup = refl; state = refl }
-
-  nothing-out : (d : Decision) (msn : Msn) → d .outgoing ≡ 0 → outBy (q .setup) d msn m (arrival .out) ≡ arrival .out
-  unfolding outBy over answerBytes
-  nothing-out d msn e = rw e
 
   stored-few : (b : Bool) → statusNumber (cond b status.Acknowledged status.Executed) ≤ 3
   unfolding statusNumber
@@ -237,53 +207,39 @@ module _ (arrival : Arrival) where
   unfolding entriesBy
   entries-by b c e = rw e
 
-  -- whatever the answer and however many PSNs are taken, by the rule of the service
-  stores-packet-by : (a : Status) (n outgoing : ℕ) (t : OpenMessage) (entry region : List ℕ) → statusNumber a ≤ 3
+  -- acknowledged or not, and however many PSNs are taken, by the rule of the service
+  stores-packet-by : (asked : Bool) (n : ℕ) (t : OpenMessage) (entry region : List ℕ)
       → ((q .setup .service ≡ 1 → ⊥) → psnAfter (q .expected) n ≡ psnAfter (q .expected) 1)
       → (q .setup .service ≡ 1 → psnAfter (q .expected) n ≡ psnAfter (bthOf p .psn) 1)
       → targetOffset (packetIn p .kind) t entry region + payloadSize (packetIn p) ≤ q .setup .memory
-      → StoresPacket arrival (L (answering a n outgoing (storePayload (packetIn p) t entry region)))
+      → StoresPacket arrival (L (storePayload asked n (packetIn p) t entry region))
   unfolding leftBy storePayload executedPair readAnswerBy savedRingBy savedBy actsAtomic memoryBy ringTaken entrySlot packetOf headerOf
-  stores-packet-by a n outgoing t entry region few rc uc w =
+  stores-packet-by asked n t entry region rc uc w =
       let k = packetIn p in
-      let d = answering a n outgoing (storePayload k t entry region) in
-      let e : pairBy q d ≡ executedPair q d = ran d few in
+      let d = storePayload asked n k t entry region in
+      let e : pairBy q d ≡ executedPair q d = ran d (stored-few asked) in
       record {
         executed = subst (Executes q) (sym e) (executes-by d);
         expected = λ h. ap (λ x. x .expected) e ∙ rc h;
         taken = λ h. ap (λ x. x .expected) e ∙ uc h;
-        memory = (d .at, omega (arith, w, payload-most), ap (store m (d .at)) (payload-is p));
+        memory = (d .change .at, omega (arith, w, payload-most), ap (store m (d .change .at)) (payload-is p));
         ends = λ h. (ap (λ x. x .msn) e ∙ ended (k .place) h, ap (λ x. x .message) e ∙ message-by t (k .place) (payloadSize k) h);
         onward = λ h. (ap (λ x. x .msn) e ∙ goes-on (k .place) h, silent-by k t _ h);
-        completes = λ h. ap (λ x. x .entries) e ∙ entries-by (d .completion .some) true h;
-        silent = λ h. ap (λ x. x .entries) e ∙ entries-by (d .completion .some) false h;
+        completes = λ h. ap (λ x. x .entries) e ∙ entries-by (d .progress .completion .some) true h;
+        silent = λ h. ap (λ x. x .entries) e ∙ entries-by (d .progress .completion .some) false h;
         read = ap (λ x. x .read) e;
         ring = ap (λ x. x .saved) e;
         saved = refl;
       }
 
-  stored-by : eqb (q .setup .service) 1 ≡ false → (t : OpenMessage) (entry region : List ℕ)
+  stored-by : (asked : Bool) (n : ℕ) (t : OpenMessage) (entry region : List ℕ)
+      → ((q .setup .service ≡ 1 → ⊥) → psnAfter (q .expected) n ≡ psnAfter (q .expected) 1)
+      → (q .setup .service ≡ 1 → psnAfter (q .expected) n ≡ psnAfter (bthOf p .psn) 1)
       → targetOffset (packetIn p .kind) t entry region + payloadSize (packetIn p) ≤ q .setup .memory
-      → Effect (cond (packetIn p .ackreq) status.Acknowledged status.Executed) (L (storePayload (packetIn p) t entry region))
-  unfolding leftBy storePayload
-  stored-by r t entry region w =
-      let k = packetIn p in
-      let d = storePayload k t entry region in
-      status-of (k .ackreq) (L d)
-      (stores-packet-by (d .status) 1 (d .outgoing) t entry region (stored-few (k .ackreq)) (λ h. refl) (λ h. absurd (eqb-false (q .setup .service) 1 r h)) w) refl
-      (λ e. nothing-out d (pairBy q d .msn) (ap (λ b. cond b 16 0) e))
-
-  deliver-by : eqb (q .setup .service) 1 ≡ true → (t : OpenMessage) (entry region : List ℕ)
-      → targetOffset (packetIn p .kind) t entry region + payloadSize (packetIn p) ≤ q .setup .memory
-      → Effect status.Executed (L (unanswered (1 + distance (bthOf p .psn .0) (q .expected .0)) (storePayload (packetIn p) t entry region)))
-  unfolding leftBy statusNumber
-  deliver-by r t entry region w =
-      let n = 1 + distance (bthOf p .psn .0) (q .expected .0) in
-      let d = unanswered n (storePayload (packetIn p) t entry region) in (
-        stores-packet-by status.Executed n 0 t entry region (omega arith) (λ h. absurd (h (eqb-true (q .setup .service) 1 r))) (λ h. number-taken (bthOf p .psn) (q .expected)) w,
-        refl,
-        nothing-out d (pairBy q d .msn) refl,
-      )
+      → Effect (cond asked status.Acknowledged status.Executed) (L (storePayload asked n (packetIn p) t entry region))
+  unfolding leftBy storePayload sentBy ackBytes ackHeader replyHeader headerBytes bthBytes extensionBytes aethBytes over
+  stored-by true n t entry region rc uc w = (stores-packet-by true n t entry region rc uc w, refl)
+  stored-by false n t entry region rc uc w = (stores-packet-by false n t entry region rc uc w, refl, refl)
 
   -- its operands are those of the AtomicETH
   operand-by : (f : Operands → ℕ) (k : ℕ) → Bare k → packetIn p .kind ≡ k → f (packetIn p .operands) ≡ f (operandsOf (extensionOf (lowClass k .follows) p))
@@ -298,25 +254,25 @@ module _ (arrival : Arrival) where
       let d = runAtomic k t (q .message) region in
       record {
         within = w;
-        only = act-by (λ a. OnlyWord m (memory a) (d .at)) (fetch-within m (d .at) (d .swap)) (swap-within m (d .at) (d .compare) (d .swap)) (eqb (k .kind) 20);
-        fetch = λ e. ap (λ x. memory (cond (eqb x 20) 2 3)) e ∙ ap (fetchAdded m (d .at)) (operand-by (λ o. o .swap) 20 adds e);
+        only = act-by (λ a. OnlyWord m (memory a) (d .change .at)) (fetch-within m (d .change .at) (d .change .swap)) (swap-within m (d .change .at) (d .change .compare) (d .change .swap)) (eqb (k .kind) 20);
+        fetch = λ e. ap (λ x. memory (cond (eqb x 20) 2 3)) e ∙ ap (fetchAdded m (d .change .at)) (operand-by (λ o. o .swap) 20 adds e);
         swap = λ e. ap (λ x. memory (cond (eqb x 20) 2 3)) e
-            ∙ (λ i. swapped m (d .at) (operand-by (λ o. o .compare) 19 swaps e i) (operand-by (λ o. o .swap) 19 swaps e i));
+            ∙ (λ i. swapped m (d .change .at) (operand-by (λ o. o .compare) 19 swaps e i) (operand-by (λ o. o .swap) 19 swaps e i));
         saved =
             act-by
-            (λ a. cond (actsAtomic a) (savedRows (arrival .whole .saved) (q .saved) (d .psn .0) (wordAt m (d .at))) (arrival .whole .saved) ≡ savedRows (arrival .whole .saved) (q .saved) (d .psn .0) (wordAt m (d .at)))
+            (λ a. cond (actsAtomic a) (savedRows (arrival .whole .saved) (q .saved) (d .reply .psn .0) (wordAt m (d .change .at))) (arrival .whole .saved) ≡ savedRows (arrival .whole .saved) (q .saved) (d .reply .psn .0) (wordAt m (d .change .at)))
             refl refl (eqb (k .kind) 20);
       }
     where
       memory : ℕ → List ℕ
       memory a =
           let d = runAtomic (packetIn p) t (q .message) region in
-          cond (eqb a 1) (store m (d .at) (take 0 (drop 0 p)))
-          (cond (eqb a 2) (fetchAdded m (d .at) (d .swap)) (cond (eqb a 3) (swapped m (d .at) (d .compare) (d .swap)) m))
+          cond (eqb a 1) (store m (d .change .at) (take 0 (drop 0 p)))
+          (cond (eqb a 2) (fetchAdded m (d .change .at) (d .change .swap)) (cond (eqb a 3) (swapped m (d .change .at) (d .change .compare) (d .change .swap)) m))
 
   swap-by : (t : OpenMessage) (region : List ℕ) → memoryOffset region (t .address) (t .length) + 8 ≤ q .setup .memory
       → Swaps arrival (L (runAtomic (packetIn p) t (q .message) region))
-  unfolding leftBy runAtomic pairBy pairByNumber statusNumber executedPair readAnswerBy msnBy entriesBy savedRingBy actsAtomic
+  unfolding leftBy runAtomic pairBy pairByNumber statusNumber executedPair readAnswerBy msnBy entriesBy savedRingBy actsAtomic sentBy ackBytes atomicHeader replyHeader headerBytes bthBytes extensionBytes aethBytes
   swap-by t region w =
       record {
         executed = executes-by (runAtomic (packetIn p) t (q .message) region);
@@ -332,15 +288,15 @@ module _ (arrival : Arrival) where
       }
 
   begin-by : (at n : ℕ) → Asks (q .setup .memory) (arrival .whole .regions) (packetIn p) at n → 0 < pieces n (q .setup .pmtu) → Accepts arrival
-      (L (beginRead status.ReadAccepted (q .message) at n (pieces n (q .setup .pmtu)) true (pieces n (q .setup .pmtu)) (bthOf p .psn)))
-  unfolding leftBy pairBy pairByNumber statusNumber executedPair msnBy entriesBy savedRingBy actsAtomic memoryBy savedBy outBy over answerBytes
+      (L (beginRead (q .message) at n (pieces n (q .setup .pmtu)) (bthOf p .psn)))
+  unfolding leftBy pairBy pairByNumber statusNumber executedPair msnBy entriesBy savedRingBy actsAtomic memoryBy savedBy sentBy ackBytes over
   begin-by at n a s =
       let k = pieces n (q .setup .pmtu) in
-      let d = beginRead status.ReadAccepted (q .message) at n k true k (bthOf p .psn) in
+      let d = beginRead (q .message) at n k (bthOf p .psn) in
       record {
         executed = executes-by d;
-        begun = begun-by d (q .read) (msnNext (q .msn)) s refl refl a;
-        expected = ap (psnAfter (q .expected)) (sym (remaining-by d (q .read) (msnNext (q .msn)) s));
+        begun = begun-by (d .reply) (q .read) (msnNext (q .msn)) s refl refl a;
+        expected = ap (psnAfter (q .expected)) (sym (remaining-by (d .reply) (q .read) (msnNext (q .msn)) s));
         msn = refl;
         message = refl;
         entries = refl;
@@ -351,7 +307,7 @@ module _ (arrival : Arrival) where
       }
 
   effect : eqb (q .setup .service) 1 ≡ false → (d : Decision) → Row Quiet (arrival .whole) (packetIn p) d → Effect (d .status) (L d)
-  unfolding leftBy acknowledging pairBy pairByNumber statusNumber memoryBy savedBy actsAtomic noReply storePayload runAtomic outBy over answerBytes readAnswerBy packetOf headerOf
+  unfolding leftBy acknowledging pairBy pairByNumber statusNumber memoryBy savedBy actsAtomic noReply storePayload runAtomic sentBy ackBytes ackHeader atomicHeader replyHeader headerBytes bthBytes extensionBytes aethBytes over readAnswerBy packetOf headerOf
   effect c d (quiet a k) = quiet-by a k
   effect c d ahead =
       record {
@@ -359,7 +315,7 @@ module _ (arrival : Arrival) where
         fixed = fixed-by d (omega arith) (λ e. absurd (omega arith));
         state = refl;
         read = refl;
-        unexecuted = unexecuted-by status.SequenceNak 16 (q .expected) 96 0;
+        unexecuted = unexecuted-by status.SequenceNak (sending 17 (q .expected) 96 0);
         outgoing = refl;
       }
   effect c d invalid =
@@ -368,7 +324,7 @@ module _ (arrival : Arrival) where
         fixed = fixed-by d (omega arith) (λ e. absurd (omega arith));
         nakmark = refl;
         read = refl;
-        unexecuted = unexecuted-by status.InvalidRequestNak 16 (bthOf p .psn) 97 0;
+        unexecuted = unexecuted-by status.InvalidRequestNak (sending 17 (bthOf p .psn) 97 0);
         outgoing = refl;
       }
   effect c d access =
@@ -377,7 +333,7 @@ module _ (arrival : Arrival) where
         fixed = fixed-by d (omega arith) (λ e. absurd (omega arith));
         nakmark = refl;
         read = refl;
-        unexecuted = unexecuted-by status.AccessNak 16 (bthOf p .psn) 98 0;
+        unexecuted = unexecuted-by status.AccessNak (sending 17 (bthOf p .psn) 98 0);
         outgoing = refl;
       }
   effect c d unready =
@@ -386,7 +342,7 @@ module _ (arrival : Arrival) where
         fixed = fixed-by d (omega arith) (λ e. absurd (omega arith));
         state = refl;
         read = refl;
-        unexecuted = unexecuted-by status.NotReadyNak 16 (bthOf p .psn) (32 + q .setup .timer) 0;
+        unexecuted = unexecuted-by status.NotReadyNak (sending 17 (bthOf p .psn) (32 + q .setup .timer) 0);
         outgoing = refl;
       }
   effect c d ackDuplicate =
@@ -394,7 +350,7 @@ module _ (arrival : Arrival) where
         fixed = fixed-by d (omega arith) (λ e. absurd (omega arith));
         state = refl;
         nakmark = refl;
-        unexecuted = unexecuted-by status.DuplicateAnswered 16 (psnBefore (q .expected)) 31 0;
+        unexecuted = unexecuted-by status.DuplicateAnswered (sending 17 (psnBefore (q .expected)) 31 0);
         answer = inl (inl refl, refl);
       }
   effect c d (readDuplicate at n a s) =
@@ -403,27 +359,28 @@ module _ (arrival : Arrival) where
         state = refl;
         nakmark = refl;
         unexecuted = record { memory = refl; saved = refl; completion = silent };
-        answer = inr (refl, refl, begun-by d (q .read) (q .msn) s refl refl a);
+        answer = inr (refl, refl, begun-by (d .reply) (q .read) (q .msn) s refl refl a);
       }
   effect c d (atomicDuplicate v e) =
       record {
         fixed = fixed-by d (omega arith) (λ e. absurd (omega arith));
         state = refl;
         nakmark = refl;
-        unexecuted = unexecuted-by status.DuplicateAnswered 24 (bthOf p .psn) 31 v;
+        unexecuted = unexecuted-by status.DuplicateAnswered (sending 18 (bthOf p .psn) 31 v);
         answer = inl (inr refl, refl);
       }
-  effect c d (stored t entry region w) = stored-by c t entry region w
+  effect c d (stored t entry region w) =
+      stored-by (packetIn p .ackreq) 1 t entry region (λ h. refl) (λ h. absurd (eqb-false (q .setup .service) 1 c h)) w
   effect c d (begin at n a s) = begin-by at n a s
   effect c d (swap t region w) = swap-by t region w
 
   -- and on the unreliable connection
   abandoned : Unexecuted arrival (L (noReply status.Abandoned))
   unfolding noReply
-  abandoned = unexecuted-by status.Abandoned 0 noPsn 0 0
+  abandoned = unexecuted-by status.Abandoned nothingSent
 
   uc-effect : eqb (q .setup .service) 1 ≡ true → (d : Decision) → UcRow Quiet q (packetIn p) d → Effect (d .status) (L d)
-  unfolding leftBy pairBy pairByNumber statusNumber noReply outBy over answerBytes packetOf headerOf
+  unfolding leftBy pairBy pairByNumber statusNumber noReply storePayload sentBy ackBytes over packetOf headerOf
   uc-effect c d (unheard a k) = quiet-by a k
   uc-effect c d (abandon h) =
       record {
@@ -441,7 +398,9 @@ module _ (arrival : Arrival) where
         outgoing = refl;
         out = refl;
       }
-  uc-effect c d (deliver t entry region w) = deliver-by c t entry region w
+  uc-effect c d (deliver t entry region w) =
+      stored-by false (1 + distance (bthOf p .psn .0) (q .expected .0)) t entry region (λ h. absurd (h (eqb-true (q .setup .service) 1 c)))
+      (λ h. number-taken (bthOf p .psn) (q .expected)) w
 
   any-effect : (d : Decision) → AnyRow Quiet (arrival .whole) (packetIn p) d → Effect (d .status) (L d)
   any-effect d (reliable c r) = effect c d r

@@ -59,7 +59,7 @@ module _ (w : Whole) (k : Packet) where
   rc-numbers d (swap t region w) = inr (inr (inr (inl refl)))
 
   uc-numbers : (d : Decision) → UcRow Quiet (w .pair) k d → Uc (statusNumber (d .status))
-  unfolding statusNumber noReply
+  unfolding statusNumber noReply storePayload
   uc-numbers d (unheard a z) = quiet-numbers a z .1
   uc-numbers d (abandon h) = inr (inr (inl refl))
   uc-numbers d (deliver t entry region w) = inl refl

@@ -95,7 +95,7 @@ late Q T f g arrived k d (swap t region w) = g status.AtomicExecuted (omega arit
 
 uc-late : (Q T : Status → Type 0) → ((a : Status) → Q a → T a) → ((a : Status) → statusNumber a ≤ 19 → T a)
     → (q : Pair) (k : Packet) (d : Decision) → UcRow Q q k d → T (d .status)
-unfolding statusNumber noReply
+unfolding statusNumber noReply storePayload
 uc-late Q T f g q k d (unheard a x) = f a x
 uc-late Q T f g q k d (abandon h) = g status.Abandoned (omega arith)
 uc-late Q T f g q k d (deliver t entry region w) = g status.Executed (omega arith)

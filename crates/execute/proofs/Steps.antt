@@ -14,7 +14,7 @@ use Rattle.pair.specs.declared.Status.{Status}
 use Rattle.pair.specs.declared.Status.the-variants as status
 use Rattle.request_spec.specs.Verdict.{carrying, current, requestCheck, expectedCheck, expectedCheckOf, checkAnswer}
 use Rattle.request_spec.specs.declared.Packet.{Packet}
-use Rattle.responder_spec.specs.Decide.{noReply, acknowledging, failed, storePayload, answered, execute, checkedDecision}
+use Rattle.responder_spec.specs.Decide.{noReply, acknowledging, failed, storePayload, execute, checkedDecision}
 use Rattle.responder_spec.specs.Decide.{expectedDecision, orphaned, strays, closedBy, abandoning, ucExecute}
 use Rattle.responder_spec.specs.Decide.{ucCheckedDecision, ucDecision}
 use Rattle.responder_spec.specs.declared.Decision.{Decision}
@@ -51,10 +51,10 @@ pub stored : (uc asked : Bool) (psns : ℕ) (p : Packet) (expected : Psn) (m ope
     → asked ≡ cond uc false (p .ackreq)
     → psns ≡ cond uc (1 + distance (p .psn .0) (expected .0)) 1
     → carrying (p .kind) ≡ true
-    → answered asked psns (storePayload p m entry region) ≡ cond uc (ucExecute p expected m entry region) (execute p m opened entry region pmtu)
+    → storePayload asked psns p m entry region ≡ cond uc (ucExecute p expected m entry region) (execute p m opened entry region pmtu)
 unfolding ucExecute execute storePayload
-stored true asked psns p expected m opened entry region pmtu a n c = rw c (λ i. answered (a i) (n i) (storePayload p m entry region))
-stored false asked psns p expected m opened entry region pmtu a n c = rw c (λ i. answered (a i) (n i) (storePayload p m entry region))
+stored true asked psns p expected m opened entry region pmtu a n c = rw c (λ i. storePayload (a i) (n i) p m entry region)
+stored false asked psns p expected m opened entry region pmtu a n c = rw c (λ i. storePayload (a i) (n i) p m entry region)
 
 -- what carries nothing
 pub bare : (uc : Bool) (p : Packet) (expected : Psn) (m opened : OpenMessage) (entry region : List ℕ) (pmtu : ℕ) (d : Decision)

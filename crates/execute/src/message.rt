@@ -2,15 +2,18 @@
 use pair::OpenMessage;
 use pair::Status;
 use request_spec::Packet;
+use responder_spec::Change;
 use responder_spec::Completion;
 use responder_spec::Decision;
+use responder_spec::Progress;
 ghost use mathlib.Core.Path.{_≡_};
 ghost use mathlib.Core.Bool.{cond};
 ghost use Prim.Native.Nat.{_+_, _<_, _^_};
 ghost use lib.Dec.{eqb};
 ghost use Rattle.opcode.specs.Kind as Kind;
 ghost use Rattle.request_spec.specs.Verdict.{payloadSize};
-ghost use Rattle.responder_spec.specs.Decide.{ackLength, completes, completionOf, messageAfter, targetOffset, storePayload, answered};
+ghost use Rattle.responder_spec.specs.Reply.{noPacket};
+ghost use Rattle.responder_spec.specs.Decide.{completes, completionOf, messageAfter, targetOffset, storePayload};
 ghost use Rattle.execute.specs.Fits.{TargetFits};
 
 fn completes(kind: u8, place: u8, immediate: bool) -> bool
@@ -92,13 +95,13 @@ fn status_of(asked: bool) -> Status
     Status::Executed
 }
 
-fn ack_length(asked: bool) -> usize
-    ensures { λ r. ⌜ r ≡ cond asked ackLength 0 ⌝ }
+fn ack_kind(asked: bool) -> u8
+    ensures { λ r. ⌜ r ≡ cond asked Kind.acknowledge noPacket ⌝ }
 {
     if asked {
-        return reply::ACK_LENGTH;
+        return opcode::ACKNOWLEDGE;
     }
-    0
+    responder_spec::NO_PACKET
 }
 
 // The payload is stored; whether it is acknowledged and how many PSNs are taken, the service says.
@@ -112,33 +115,34 @@ pub(crate) fn store_payload(
 ) -> Decision
     requires { ⌜ m .stored + payloadSize p < 2 ^ 64 ⌝ }
     requires { ⌜ TargetFits (p .kind) m entry region ⌝ }
-    ensures { λ r. ⌜ r ≡ answered asked psns (storePayload p m entry region) ⌝ }
+    ensures { λ r. ⌜ r ≡ storePayload asked psns p m entry region ⌝ }
 {
     let size = number::saturating_sub(p.body, p.pad);
     let at = target_offset(p.kind, m, entry, region);
-    let message = message_after(p.place, m, size);
-    let completion = completion_of(p, m, entry[table::ENTRY_NUMBER]);
-    let ends = opcode::ends(p.place);
-    let status = status_of(asked);
-    let outgoing = ack_length(asked);
-    let psn = p.psn;
-    Decision {
-        status,
+    let change = Change {
         act: responder_spec::STORE,
         at,
         start: p.start,
         size,
         swap: 0,
         compare: 0,
+    };
+    let message = message_after(p.place, m, size);
+    let completion = completion_of(p, m, entry[table::ENTRY_NUMBER]);
+    let ends = opcode::ends(p.place);
+    let progress = Progress {
         message,
         psns,
         ends,
         completion,
-        responses: 0,
-        length: 0,
-        outgoing,
-        psn,
-        syndrome: reply::ACK,
-        value: 0,
+    };
+    let kind = ack_kind(asked);
+    let answer = reply::sending(kind, p.psn, reply::ACK, 0);
+    let status = status_of(asked);
+    Decision {
+        status,
+        change,
+        progress,
+        reply: answer,
     }
 }

@@ -2,13 +2,15 @@
 use pair::OpenMessage;
 use pair::Status;
 use request_spec::Packet;
+use responder_spec::Change;
 use responder_spec::Decision;
+use responder_spec::Progress;
 ghost use mathlib.Core.Path.{_≡_};
 ghost use mathlib.Core.Bool.{cond};
 ghost use lib.Dec.{eqb};
 ghost use Rattle.opcode.specs.Kind as Kind;
 ghost use Rattle.responder_spec.specs.Act as Act;
-ghost use Rattle.responder_spec.specs.Decide.{runAtomic, acceptRead};
+ghost use Rattle.responder_spec.specs.Decide.{wholeMessage, runAtomic, acceptRead};
 ghost use Rattle.execute.specs.Fits.{OffsetFits};
 
 fn atomic_act(kind: u8) -> u8
@@ -18,6 +20,19 @@ fn atomic_act(kind: u8) -> u8
         return responder_spec::FETCH_ADD;
     }
     responder_spec::CMP_SWAP
+}
+
+// A message of one packet ends with it.
+fn whole_message(opened: OpenMessage, psns: usize) -> Progress
+    ensures { λ r. ⌜ r ≡ wholeMessage opened psns ⌝ }
+{
+    let completion = reply::no_completion();
+    Progress {
+        message: opened,
+        psns,
+        ends: true,
+        completion,
+    }
 }
 
 // An atomic is run, and its old value sent.
@@ -32,27 +47,22 @@ pub(crate) fn run_atomic(
 {
     let at = table::memory_offset(region, m.address, m.length);
     let act = atomic_act(p.kind);
-    let completion = reply::no_completion();
-    let status = Status::AtomicExecuted;
-    let psn = p.psn;
-    Decision {
-        status,
+    let change = Change {
         act,
         at,
         start: 0,
         size: 0,
         swap: p.operands.swap,
         compare: p.operands.compare,
-        message: opened,
-        psns: 1,
-        ends: true,
-        completion,
-        responses: 0,
-        length: 0,
-        outgoing: reply::ATOMIC_ACK_LENGTH,
-        psn,
-        syndrome: reply::ACK,
-        value: 0,
+    };
+    let progress = whole_message(opened, 1);
+    let answer = reply::sending(opcode::ATOMIC_ACKNOWLEDGE, p.psn, reply::ACK, 0);
+    let status = Status::AtomicExecuted;
+    Decision {
+        status,
+        change,
+        progress,
+        reply: answer,
     }
 }
 
@@ -69,6 +79,14 @@ pub(crate) fn accept_read(
 {
     let at = table::memory_offset(region, m.address, m.length);
     let count = pmtu::count(m.length, pmtu);
+    let change = reply::no_change();
+    let progress = whole_message(opened, count);
+    let responses = reply::read_begun(at, m.length, count, p.psn);
     let status = Status::ReadAccepted;
-    reply::begin_read(status, opened, at, m.length, count, true, count, p.psn)
+    Decision {
+        status,
+        change,
+        progress,
+        reply: responses,
+    }
 }

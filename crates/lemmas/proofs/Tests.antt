@@ -1,9 +1,10 @@
 -- Laws of the Boolean tests on numbers.
-use Prim.Native.Nat.{ℕ, _≤_}
+use Prim.Native.Nat.{ℕ, _+_, _-_, _≤_, _<_}
 use mathlib.Core.Path.{_≡_, refl, sym, ap, _∙_}
 use mathlib.Core.Bool.{Bool, true, false, cond, not, _&&_, _||_, true≢false}
+use native.Mathlib.Omega.{arith}
 use lib.Dec.{leb, ltb}
-use borrow.Author.Tests.{ltb-true, ltb-false, lt-leb, le-leb}
+use borrow.Author.Tests.{ltb-true, ltb-false, lt-ltb, le-ltb, lt-leb, le-leb}
 
 -- not below is at least
 pub not-ltb : (a b : ℕ) → not (ltb a b) ≡ leb b a
@@ -12,6 +13,14 @@ not-ltb a b = go (ltb a b) refl
     go : (t : Bool) → ltb a b ≡ t → not t ≡ leb b a
     go true e = sym (lt-leb b a (ltb-true a b e))
     go false e = sym (le-leb b a (ltb-false a b e))
+
+-- more than is left is more in all: a test of a sum, made by a difference so that no sum wraps
+pub over-left : (most stored size : ℕ) → stored ≤ most → ltb (most - stored) size ≡ ltb most (stored + size)
+over-left most stored size h = go (ltb (most - stored) size) refl
+  where
+    go : (t : Bool) → ltb (most - stored) size ≡ t → t ≡ ltb most (stored + size)
+    go true e = let l : most - stored < size = ltb-true (most - stored) size e in sym (lt-ltb most (stored + size) (omega arith))
+    go false e = let l : size ≤ most - stored = ltb-false (most - stored) size e in sym (le-ltb most (stored + size) (omega arith))
 
 pub and-true : (b : Bool) → (b && true) ≡ b
 and-true true = refl

@@ -1,14 +1,14 @@
 -- What writing a packet answers and leaves.
-use Prim.Native.Nat.{ℕ, _+_, _≤_}
+use Prim.Native.Nat.{ℕ, _+_, _≤_, _<_}
 use mathlib.Core.Path.{refl, _≡_, sym, ap, subst, _∙_}
 use mathlib.Core.Bool.{Bool, true, not}
 use mathlib.Core.List.{List, _++_, append-assoc}
 use native.Mathlib.Omega.{arith}
-use lib.ListN.{length, drop, replicate, length-append, length-replicate}
+use lib.ListN.{length, take, drop, replicate, length-append, length-replicate}
 use borrow.Author.Tests.{ne-eqb}
 use Rattle.lemmas.proofs.Tests.{not-false}
-use Rattle.memory.specs.Memory.{store}
-use Rattle.memory.proofs.Overwrite.{store-overwrite, store-twice, overwrite-start}
+use Rattle.memory.specs.Memory.{overwrite, store}
+use Rattle.memory.proofs.Overwrite.{store-past, store-overwrite, store-twice, overwrite-start}
 use Rattle.opcode.specs.Opcode.{classOf}
 use Rattle.opcode.specs.declared.OpcodeClass.{OpcodeClass}
 use Rattle.header.specs.Write.{headerBytes, headerFits, headerLength, answerBy, writtenOut}
@@ -16,7 +16,8 @@ use Rattle.header.specs.declared.Header.{Header}
 use Rattle.header.specs.declared.Answer.the-variants.{Done, Refused}
 use Rattle.header.proofs.Lengths.{length-header}
 use Rattle.header.proofs.Writes.{done}
-use Rattle.packet.specs.Packet.{padOf, packetBytes, packetLength, refusalBy, packetAnswer, packetWritten, packetOut}
+use Rattle.packet.specs.Packet.{padOf, payloadOut, packetBytes, packetLength, refusalBy, packetAnswer, packetWritten, packetOut}
+use Rattle.packet.specs.Claims.{PayloadWritten, PayloadLeftOut}
 use Rattle.packet.proofs.Passes.{Passed, passed}
 
 -- a packet's length, if its header is one
@@ -27,6 +28,23 @@ length-packet h d good =
     length-append (headerBytes h) (d ++ z)
     ∙ (ap (λ n. n + length (d ++ z)) (length-header h good)
     ∙ ap (λ n. headerLength h + n) (length-append d z ∙ ap (λ n. length d + n) (length-replicate (padOf (length d)) 0)))
+
+-- a payload that does not fit leaves the output
+pub payload-left-out : PayloadLeftOut
+unfolding payloadOut
+payload-left-out out d at h =
+    let z = replicate {A = ℕ} (padOf (length d)) 0 in
+    ap (λ w. store w (at + length d) z) (store-past out at d h) ∙ store-past out (at + length d) z (omega arith)
+
+-- one that fits stands in it with its pad
+pub payload-written : PayloadWritten
+unfolding payloadOut overwrite
+payload-written out d at h =
+    let z = replicate {A = ℕ} (padOf (length d)) 0 in
+    let lz : length z ≡ padOf (length d) = length-replicate (padOf (length d)) 0 in
+    let l : length (d ++ z) ≡ length d + padOf (length d) = length-append d z ∙ ap (λ n. length d + n) lz in
+    store-twice out at d z (omega arith)
+    ∙ (store-overwrite out at (d ++ z) (omega arith) ∙ ap (λ n. take at out ++ ((d ++ z) ++ drop (at + n) out)) l)
 
 -- written whole: the header, the payload behind it, the pad behind that
 pub three-parts : (h : Header) (d out : List ℕ) → headerFits h ≡ true → packetLength h (length d) ≤ length out
@@ -85,11 +103,10 @@ module _ (h : Header) (d out : List ℕ) (u : Bool) (e : u ≡ not (headerFits h
   pub through : r ≡ 0 → Passed u (h .bth .pad) (k .length) (length d) (length out)
   through z = passed u (h .bth .pad) (k .length) (length d) (length out) (sym q ∙ z)
 
-  pub whole : r ≡ 0 → (a b c : List ℕ) → a ≡ writtenOut h out → b ≡ store a (k .length) d
-      → c ≡ store b (k .length + length d) (replicate (h .bth .pad) 0)
+  pub whole : r ≡ 0 → (a c : List ℕ) → a ≡ writtenOut h out → c ≡ payloadOut a (k .length) d
       → (Done (k .length + length d + h .bth .pad) ≡ packetWritten h (length d) (length out)) × (c ≡ packetOut h d out)
-  unfolding packetLength
-  whole z a b c x y w =
+  unfolding packetLength payloadOut
+  whole z a c x w =
       let P = through z in
       let good : headerFits h ≡ true = not-false (headerFits h) u e (P .good) in
       let pad : h .bth .pad ≡ padOf (length d) = P .pad in
@@ -97,5 +114,5 @@ module _ (h : Header) (d out : List ℕ) (u : Bool) (e : u ≡ not (headerFits h
       let s : k .length + length d + h .bth .pad ≡ headerLength h + (length d + padOf (length d)) = omega (arith, size) in
       let Y = yes h d out (sym number ∙ z) in (
         ap Done s ∙ sym (Y .0),
-        simp (w, y, x, size, pad) (three-parts h d out good room) ∙ sym (Y .1),
+        simp (w, x, size) (three-parts h d out good room) ∙ sym (Y .1),
       )

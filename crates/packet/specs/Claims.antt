@@ -10,7 +10,7 @@ use Rattle.header.specs.Write.{headerFits, headerLength, answerNumber}
 use Rattle.header.specs.declared.Header.{Header}
 use Rattle.header.specs.declared.HeaderRead.the-variants.{Accepted}
 use Rattle.header.specs.declared.Answer.the-variants.{Done, Refused}
-use Rattle.packet.specs.Packet.{padOf, packetBytes, packetLength, packetAnswer, packetWritten, packetOut, payloadOf}
+use Rattle.packet.specs.Packet.{padOf, payloadOut, packetBytes, packetLength, packetAnswer, packetWritten, packetOut, payloadOf}
 
 -- The pad fills up the last word, and no smaller one does.
 abbrev pub PadFills : Type 0
@@ -18,6 +18,16 @@ PadFills = (n : ℕ) → (n + padOf n) % 4 ≡ 0
 
 abbrev pub PadLeast : Type 0
 PadLeast = (n k : ℕ) → (n + k) % 4 ≡ 0 → padOf n ≤ k
+
+-- Behind headers that end at an index: payload and pad, where both fit, and no other byte; nothing where the payload does
+-- not fit.
+abbrev pub PayloadWritten : Type 0
+PayloadWritten =
+    (out d : List ℕ) (at : ℕ) → at + (length d + padOf (length d)) ≤ length out
+    → payloadOut out at d ≡ take at out ++ ((d ++ replicate (padOf (length d)) 0) ++ drop (at + (length d + padOf (length d))) out)
+
+abbrev pub PayloadLeftOut : Type 0
+PayloadLeftOut = (out d : List ℕ) (at : ℕ) → length out < at + length d → payloadOut out at d ≡ out
 
 -- What is written, in any output, reads as the header and the payload it was made of; behind them stands the pad, in
 -- zero bytes.

@@ -4,6 +4,7 @@ use mathlib.Core.Bool.{Bool, cond, not}
 use mathlib.Core.List.{List, _++_}
 use lib.Dec.{ltb, eqb}
 use lib.ListN.{length, take, drop, replicate}
+use Rattle.memory.specs.Memory.{store}
 use Rattle.header.specs.Refusal as Refusal
 use Rattle.header.specs.Read.{headerOf, packetLimit}
 use Rattle.header.specs.Write.{headerBytes, headerFits, headerLength, answerBy}
@@ -14,7 +15,11 @@ use Rattle.header.specs.declared.Answer.{Answer}
 unfoldable pub padOf : ℕ → ℕ
 padOf n = (4 - n % 4) % 4
 
--- the bytes of a packet; pad bytes are zero
+-- a payload and its pad, written into an output from an index on; pad bytes are zero
+unfoldable pub payloadOut : List ℕ → ℕ → List ℕ → List ℕ
+payloadOut out at d = store (store out at d) (at + length d) (replicate (padOf (length d)) 0)
+
+-- the bytes of a packet
 unfoldable pub packetBytes : Header → List ℕ → List ℕ
 packetBytes h d = headerBytes h ++ (d ++ replicate (padOf (length d)) 0)
 

@@ -5,7 +5,7 @@ ghost use mathlib.Core.Path.{_≡_};
 ghost use Prim.Native.Nat.{_≤_};
 ghost use lib.ListN.{length, replicate};
 ghost use Rattle.memory.specs.Memory.{store};
-ghost use Rattle.packet.specs.Packet.{padOf, refusalBy, packetWritten, packetOut};
+ghost use Rattle.packet.specs.Packet.{padOf, payloadOut, refusalBy, packetWritten, packetOut};
 
 // How many pad bytes stand behind a payload of n bytes.
 pub fn pad(n: usize) -> u8
@@ -51,6 +51,22 @@ fn write_pad(out: &mut [u8], at: usize, padcnt: u8)
     memory::store(out, at, &zeros[0..n]);
 }
 
+// A payload from index at on, and its pad behind it. A payload that does not fit is not written, nor its pad; a pad that
+// does not fit is left off.
+pub fn write_payload(out: &mut [u8], at: usize, payload: &[u8])
+    ensures { λ _. ⌜ now (out .exit) ≡ payloadOut (now (out .entry)) at (now (payload .entry)) ⌝ }
+{
+    if out.len() < at {
+        return;
+    }
+    if out.len() - at < payload.len() {
+        return;
+    }
+    memory::store(out, at, payload);
+    let own = pad(payload.len());
+    write_pad(out, at + payload.len(), own);
+}
+
 // Writes the packet of a header and a payload at the start of the output.
 pub fn write(h: Header, payload: &[u8], out: &mut [u8]) -> Answer
     ensures { λ r. ⌜ r ≡ packetWritten h (length (now (payload .entry))) (length (now (out .entry))) ⌝ }
@@ -64,8 +80,6 @@ pub fn write(h: Header, payload: &[u8], out: &mut [u8]) -> Answer
         return Answer::Refused(code);
     }
     encode::write(h, out);
-    memory::store(out, class.length, payload);
-    let at = class.length + payload.len();
-    write_pad(out, at, bth.pad);
-    Answer::Done(at + bth.pad as usize)
+    write_payload(out, class.length, payload);
+    Answer::Done(class.length + payload.len() + bth.pad as usize)
 }

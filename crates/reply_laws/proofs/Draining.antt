@@ -16,7 +16,8 @@ use Rattle.pair.specs.Answer.{statusNumber}
 use Rattle.pair.specs.Claims.{Sound, ReadSound}
 use Rattle.pair.specs.declared.Pair.{Pair}
 use Rattle.responder_spec.specs.Apply.{with}
-use Rattle.responder_spec.specs.Response.{indexOf, responseExtension, responsePayload, responseHeader, responseBytes, oneFewer, nextBytes, nextResponse, nextOut}
+use Rattle.responder_spec.specs.Reply.{readReply, indexOf, responseExtension, responsePayload, responseHeader, responseBytes, replyBytes}
+use Rattle.responder_spec.specs.Response.{oneFewer, nextBytes, nextResponse, nextOut}
 use Rattle.effect_laws.specs.Effects.{Fixed, Begun, AnsweredOr, Table, NextDone}
 use Rattle.response_laws.specs.Responses.{Answering}
 use Rattle.reply_laws.specs.Reads.{Drain, drain, flat, Drains, ReadDrained, ReadServed}
@@ -53,30 +54,30 @@ stays-sound q S = sound-with q (stepped q) S refl refl refl refl refl refl (S .m
 
 -- what one call writes
 packet-of : (q : Pair) (m out : List ℕ) (i : ℕ) → NextDone q m out → i + q .read .remaining ≡ pieces (q .read .length) (q .setup .pmtu)
-    → take (nextResponse q m out .outgoing) (nextOut q m out) ≡ responseBytes (q .setup) (q .read) m i
-unfolding nextBytes indexOf
+    → take (nextResponse q m out .outgoing) (nextOut q m out) ≡ responseBytes (q .setup) (readReply (q .read)) m i
+unfolding nextBytes replyBytes indexOf
 packet-of q m out i D e =
     let b = nextBytes q m out in
     let at : pieces (q .read .length) (q .setup .pmtu) - q .read .remaining ≡ i = omega arith in
     ap (take (nextResponse q m out .outgoing)) (D .out)
     ∙ (take-at b (drop (length b) out) (nextResponse q m out .outgoing) (sym (D .outgoing))
-    ∙ ap (responseBytes (q .setup) (q .read) m) at)
+    ∙ ap (responseBytes (q .setup) (readReply (q .read)) m) at)
 
 -- the last n calls, from response i on
 record From (q : Pair) (bytes : List ℕ) (d : Drain) (n i : ℕ) : Type 0 where
   done : (k : ℕ) → k < n → getD (d .psns) k 1 ≡ 0
-  written : (k : ℕ) → k < n → getD (d .packets) k [] ≡ responseBytes (q .setup) (q .read) bytes (i + k)
+  written : (k : ℕ) → k < n → getD (d .packets) k [] ≡ responseBytes (q .setup) (readReply (q .read)) bytes (i + k)
   none : d .pair .read .remaining ≡ 0
   fixed : Fixed q (d .pair)
   state : d .pair .state ≡ q .state
   nakmark : d .pair .nakmark ≡ q .nakmark
-  whole : flat (map payloadOf (d .packets)) ≡ joined (λ k. payloadOf (responseBytes (q .setup) (q .read) bytes k)) i n
+  whole : flat (map payloadOf (d .packets)) ≡ joined (λ k. payloadOf (responseBytes (q .setup) (readReply (q .read)) bytes k)) i n
 
 abbrev Roomy : Pair → List (List ℕ) → Type 0
 Roomy q outs = (i : ℕ) → i < length outs → 16 + q .setup .pmtu ≤ length (getD outs i [])
 
 -- one call more before them; a response says nothing of how many remain
-more : (q : Pair) (m : List ℕ) (d : Drain) (n i x : ℕ) (b : List ℕ) → x ≡ 0 → b ≡ responseBytes (q .setup) (q .read) m i
+more : (q : Pair) (m : List ℕ) (d : Drain) (n i x : ℕ) (b : List ℕ) → x ≡ 0 → b ≡ responseBytes (q .setup) (readReply (q .read)) m i
     → From (stepped q) m d n (suc i)
     → From q m (record { psns = x ∷ d .psns; packets = b ∷ d .packets; pair = d .pair }) (suc n) i
 unfolding responseBytes responseHeader responsePayload responseExtension joined flat
@@ -103,11 +104,11 @@ more q m d n i x b ex eb I =
     dones zero h = ex
     dones (suc k) h = I .done k (omega arith)
 
-    writes : (k : ℕ) → k < suc n → getD (b ∷ d .packets) k [] ≡ responseBytes (q .setup) (q .read) m (i + k)
-    writes zero h = let e : i ≡ i + 0 = omega arith in eb ∙ ap (responseBytes (q .setup) (q .read) m) e
+    writes : (k : ℕ) → k < suc n → getD (b ∷ d .packets) k [] ≡ responseBytes (q .setup) (readReply (q .read)) m (i + k)
+    writes zero h = let e : i ≡ i + 0 = omega arith in eb ∙ ap (responseBytes (q .setup) (readReply (q .read)) m) e
     writes (suc k) h =
         let e : suc i + k ≡ i + suc k = omega arith in
-        I .written k (omega arith) ∙ ap (responseBytes (q .setup) (q .read) m) e
+        I .written k (omega arith) ∙ ap (responseBytes (q .setup) (readReply (q .read)) m) e
 
 from : (outs : List (List ℕ)) (q : Pair) (m : List ℕ) (i : ℕ) → Sound q → length m ≡ q .setup .memory
     → q .read .remaining ≡ length outs → i + length outs ≡ pieces (q .read .length) (q .setup .pmtu) → Roomy q outs
@@ -135,14 +136,14 @@ read-drained q m outs A all n R =
     let F = from outs q m 0 (A .sound) (A .memory) (sym n) (omega arith) R in
     record {
       done = F .done;
-      written = λ i h. let z : 0 + i ≡ i = omega arith in F .written i h ∙ ap (responseBytes (q .setup) (q .read) m) z;
+      written = λ i h. let z : 0 + i ≡ i = omega arith in F .written i h ∙ ap (responseBytes (q .setup) (readReply (q .read)) m) z;
       none = F .none;
       fixed = F .fixed;
       state = F .state;
       nakmark = F .nakmark;
       whole =
           F .whole
-          ∙ (ap (joined (λ k. payloadOf (responseBytes (q .setup) (q .read) m k)) 0) (n ∙ all) ∙ responses-join q m A .0);
+          ∙ (ap (joined (λ k. payloadOf (responseBytes (q .setup) (readReply (q .read)) m k)) 0) (n ∙ all) ∙ responses-join q m A .0);
     }
 
 pub read-served : ReadServed

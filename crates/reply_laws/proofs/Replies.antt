@@ -8,6 +8,7 @@ use native.Mathlib.Omega.{arith}
 use lib.Dec.{eqb, leb, ltb}
 use lib.ListN.{length, take, drop, getD}
 use lib.Seq.{take-at, drop-at}
+use borrow.Author.Tests.{ne-eqb}
 use Rattle.responder_spec.specs.Arrival.{Arrival, Left}
 use Rattle.responder_spec.specs.Decide.{refusalOf}
 use Rattle.sequence.specs.Sequence.{psnAfter, msnNext}
@@ -20,6 +21,7 @@ use Rattle.header.specs.Read.{bthOf, headerOf, readHeader}
 use Rattle.header.specs.Write.{followsBy, headerBytes, headerFits, headerLength}
 use Rattle.header.specs.Claims.{BthWidths}
 use Rattle.header.specs.declared.Extension.{Extension}
+use Rattle.header.specs.declared.Extension.the-variants.{AtomicAcknowledge}
 use Rattle.header.specs.declared.Header.{Header}
 use Rattle.header.specs.declared.HeaderRead.the-variants.{Accepted}
 use Rattle.header.proofs.Lengths.{length-header}
@@ -43,10 +45,12 @@ use Rattle.pair.specs.declared.Setup.{Setup}
 use Rattle.pair.specs.declared.OpenMessage.{OpenMessage}
 use Rattle.pair.specs.declared.Pair.{Pair}
 use Rattle.request_spec.specs.Packet.{packetOf, packetIn}
+use Rattle.responder_spec.specs.declared.Reply.{Reply}
 use Rattle.responder_spec.specs.declared.Decision.{Decision}
-use Rattle.responder_spec.specs.Apply.{actsAtomic, savedBy, msnBy, executedPair, pairByNumber, pairBy}
-use Rattle.responder_spec.specs.Inbound.{leftBy, inbound}
-use Rattle.reply_laws.specs.Replies.{AckSent, ValueSent, Replies, InboundReplies}
+use Rattle.responder_spec.specs.Apply.{actsAtomic, valueBy, savedBy, msnBy, executedPair, pairByNumber, pairBy}
+use Rattle.responder_spec.specs.Inbound.{replyWith, sentBy, leftBy, inbound}
+use Rattle.response_laws.specs.Responses.{plainHeader}
+use Rattle.reply_laws.specs.Replies.{ReplyPackets, AckSent, ValueSent, Replies, InboundReplies}
 use Rattle.decision_laws.proofs.Rows.Quiet.{dropped, short, range, unfinished}
 use Rattle.decision_laws.proofs.Rows.Late.{unread, outside}
 use Rattle.decision_laws.proofs.Rows.Row.{quiet, ahead, invalid, access, unready, ackDuplicate, readDuplicate, atomicDuplicate, stored, begin, swap}
@@ -55,7 +59,7 @@ use Rattle.decision_laws.proofs.Rows.AnyRow.{reliable, unreliable}
 use Rattle.decision_laws.proofs.Rows.{UcRow, AnyRow, Quiet, Late, Row, either, passed, refusal-quiet, taken-row}
 use Rattle.effect_laws.proofs.Effects.{act-by}
 use Rattle.responder_spec.specs.Decide.{acknowledging, replyOnly, psnBefore, storePayload, runAtomic, noReply, decision}
-use Rattle.responder_spec.specs.Reply.{replyHeader, ackHeader, atomicHeader, answerBytes, valueBy, over, outBy}
+use Rattle.responder_spec.specs.Reply.{sending, replyHeader, ackHeader, atomicHeader, ackBytes, indexOf, replyBytes, over}
 
 -- a header alone, written into an output: it reads back, and the rest stays
 alone : (h : Header) (out : List ℕ) (n : ℕ) → headerFits h ≡ true → headerLength h ≡ n → n ≤ 4128
@@ -68,17 +72,16 @@ alone h out n good e most =
     )
 
 -- the widths of what a reply is made of
-record Wide (s : Setup) (psn : Psn) (syndrome : ℕ) (msn : Msn) : Type 0 where
+record Wide (s : Setup) (r : Reply) : Type 0 where
   pkey : s .pkey < 2 ^ 16
   dest : s .theirs < 2 ^ 24
-  psn24 : psn .0 < 2 ^ 24
-  byte : syndrome < 2 ^ 8
-  msn24 : msn .0 < 2 ^ 24
+  psn : r .psn .0 < 2 ^ 24
+  syndrome : r .syndrome < 2 ^ 8
+  msn : r .msn .0 < 2 ^ 24
 
-bth-widths : (s : Setup) (opcode : ℕ) (psn : Psn) (syndrome : ℕ) (msn : Msn) (e : Extension) → opcode < 64 → Wide s psn syndrome msn
-    → BthWidths (replyHeader s opcode 0 psn e .bth)
+bth-widths : (s : Setup) (opcode : ℕ) (r : Reply) (e : Extension) → opcode < 64 → Wide s r → BthWidths (replyHeader s opcode 0 (r .psn) e .bth)
 unfolding replyHeader
-bth-widths s opcode psn syndrome msn e o w =
+bth-widths s opcode r e o w =
     record {
       opcode = o;
       pad = omega arith;
@@ -87,38 +90,38 @@ bth-widths s opcode psn syndrome msn e o w =
       reserved8 = omega arith;
       dest = w .dest;
       reserved7 = omega arith;
-      psn = w .psn24;
+      psn = w .psn;
     }
 
-ack-fits : (s : Setup) (psn : Psn) (syndrome : ℕ) (msn : Msn) → Wide s psn syndrome msn → headerFits (ackHeader s psn syndrome msn) ≡ true
+ack-fits : (s : Setup) (r : Reply) → Wide s r → headerFits (ackHeader s r) ≡ true
 unfolding ackHeader replyHeader classOf lowClass followsOf followsBy
-ack-fits s psn syndrome msn w =
-    let h = ackHeader s psn syndrome msn in
-    both-fit h (bth-fits (h .bth) (bth-widths s 17 psn syndrome msn (h .extension) (omega arith) w))
-    (extension-fits (classOf 17 .follows) (h .extension) refl (w .byte, w .msn24))
+ack-fits s r w =
+    let h = ackHeader s r in
+    both-fit h (bth-fits (h .bth) (bth-widths s 17 r (h .extension) (omega arith) w))
+    (extension-fits (classOf 17 .follows) (h .extension) refl (w .syndrome, w .msn))
 
-value-fits : (s : Setup) (psn : Psn) (syndrome : ℕ) (msn : Msn) (v : ℕ) → Wide s psn syndrome msn → v < 2 ^ 64
-    → headerFits (atomicHeader s psn syndrome msn v) ≡ true
+value-fits : (s : Setup) (r : Reply) → Wide s r → r .value < 2 ^ 64 → headerFits (atomicHeader s r) ≡ true
 unfolding atomicHeader replyHeader classOf lowClass followsOf followsBy
-value-fits s psn syndrome msn v w b =
-    let h = atomicHeader s psn syndrome msn v in
-    both-fit h (bth-fits (h .bth) (bth-widths s 18 psn syndrome msn (h .extension) (omega arith) w))
-    (extension-fits (classOf 18 .follows) (h .extension) refl ((w .byte, w .msn24), b))
+value-fits s r w b =
+    let h = atomicHeader s r in
+    both-fit h (bth-fits (h .bth) (bth-widths s 18 r (h .extension) (omega arith) w))
+    (extension-fits (classOf 18 .follows) (h .extension) refl ((w .syndrome, w .msn), b))
 
--- what a decision that sends 16 or 24 bytes writes
-ack-out : (s : Setup) (d : Decision) (msn : Msn) (m out : List ℕ) → d .outgoing ≡ 16 → Wide s (d .psn) (d .syndrome) msn
-    → (readHeader (take 16 (outBy s d msn m out)) ≡ Accepted (ackHeader s (d .psn) (d .syndrome) msn))
-    × (drop 16 (outBy s d msn m out) ≡ drop 16 out)
-unfolding outBy answerBytes headerLength ackHeader replyHeader classOf lowClass followsOf lengthOf
-ack-out s d msn m out e w =
-    rw e (alone (ackHeader s (d .psn) (d .syndrome) msn) out 16 (ack-fits s (d .psn) (d .syndrome) msn w) refl (omega arith))
+-- a header alone reads back
+lone : (h : Header) (n : ℕ) → headerFits h ≡ true → headerLength h ≡ n → n ≤ 4128 → readHeader (headerBytes h) ≡ Accepted h
+lone h n good e most = let l : length (headerBytes h) ≡ n = length-header h good ∙ e in
+    ap readHeader (sym (append-nil (headerBytes h))) ∙ read-packet h [] good refl (omega arith)
 
-value-out : (s : Setup) (d : Decision) (msn : Msn) (m out : List ℕ) → d .outgoing ≡ 24 → Wide s (d .psn) (d .syndrome) msn → valueBy d m < 2 ^ 64
-    → (readHeader (take 24 (outBy s d msn m out)) ≡ Accepted (atomicHeader s (d .psn) (d .syndrome) msn (valueBy d m)))
-    × (drop 24 (outBy s d msn m out) ≡ drop 24 out)
-unfolding outBy answerBytes headerLength atomicHeader replyHeader classOf lowClass followsOf lengthOf valueBy
-value-out s d msn m out e w b =
-    rw e (alone (atomicHeader s (d .psn) (d .syndrome) msn (valueBy d m)) out 24 (value-fits s (d .psn) (d .syndrome) msn (valueBy d m) w b) refl (omega arith))
+pub reply-packets : ReplyPackets
+unfolding replyBytes indexOf ackBytes ackHeader atomicHeader replyHeader headerLength classOf lowClass followsOf lengthOf
+reply-packets s r m pkey dest (psn, syndrome, msn, value) =
+    let w : Wide s r = record { pkey = pkey; dest = dest; psn = psn; syndrome = syndrome; msn = msn } in
+    record {
+      ack = λ e. rw e (lone (ackHeader s r) 16 (ack-fits s r w) refl (omega arith));
+      atomic = λ e. rw e (lone (atomicHeader s r) 24 (value-fits s r w value) refl (omega arith));
+      response = λ e. rw e;
+      none = λ a b c. rw (ne-eqb (r .kind) 13 a, ne-eqb (r .kind) 17 b, ne-eqb (r .kind) 18 c);
+    }
 
 -- a saved value has 64 bits
 abbrev Small : Saved → Type 0
@@ -162,7 +165,7 @@ Fine x = x .msn .0 < 2 ^ 24
 
 executed-small : (q : Pair) (d : Decision) → Sound q → Fine (executedPair q d)
 unfolding executedPair msnBy
-executed-small q d S = go (d .ends)
+executed-small q d S = go (d .progress .ends)
   where
     go : (b : Bool) → cond b (msnNext (q .msn)) (q .msn) .0 < 2 ^ 24
     go true = omega arith
@@ -175,26 +178,51 @@ msn-small q d S =
     either Fine (leb n 3) (executed-small q d S)
     (either Fine (eqb n 4) (S .msn) (either Fine (eqb n 16 || eqb n 19) (S .msn) (either Fine (eqb n 17 || eqb n 18) (S .msn) (either Fine (eqb n 6) (S .msn) (S .msn)))))
 
-module _ (arrival : Arrival) (S : Sound (arrival .whole .pair)) (P : arrival .whole .pair .setup .pkey < 2 ^ 16) where
-  wide : (d : Decision) → d .psn .0 < 2 ^ 24 → d .syndrome < 2 ^ 8 → Wide (arrival .whole .pair .setup) (d .psn) (d .syndrome) (pairBy (arrival .whole .pair) d .msn)
-  wide d x y =
-      record { pkey = P; dest = S .setup .0 .theirs; psn24 = x; byte = y; msn24 = msn-small (arrival .whole .pair) d S }
+module _ (arrival : Arrival) (S : Sound (arrival .whole .pair)) (P : arrival .whole .pair .setup .pkey < 2 ^ 16) (d : Decision) where
+  -- the reply as it is sent
+  abbrev sent : Reply
+  sent = replyWith (d .reply) (pairBy (arrival .whole .pair) d .msn) (valueBy (d .change) (d .reply .value) (arrival .memory))
 
-  ack-sent : (d : Decision) → d .outgoing ≡ 16 → d .psn .0 < 2 ^ 24 → d .syndrome < 2 ^ 8
-      → AckSent arrival (leftBy arrival d) (d .psn) (d .syndrome)
-  unfolding leftBy ackHeader replyHeader
-  ack-sent d e x y =
-      let O = ack-out (arrival .whole .pair .setup) d (pairBy (arrival .whole .pair) d .msn) (arrival .memory) (arrival .out) e (wide d x y) in
-      record { outgoing = e; packet = O .0; behind = O .1 }
+  wide : d .reply .psn .0 < 2 ^ 24 → d .reply .syndrome < 2 ^ 8 → Wide (arrival .whole .pair .setup) sent
+  wide x y = record { pkey = P; dest = S .setup .0 .theirs; psn = x; syndrome = y; msn = msn-small (arrival .whole .pair) d S }
 
-  value-sent : (d : Decision) (v : ℕ) → d .outgoing ≡ 24 → d .psn .0 < 2 ^ 24 → d .syndrome ≡ 31 → valueBy d (arrival .memory) ≡ v → v < 2 ^ 64
-      → ValueSent arrival (leftBy arrival d) (d .psn) v
-  unfolding leftBy atomicHeader replyHeader
-  value-sent d v e x y ev b =
-      let O = value-out (arrival .whole .pair .setup) d (pairBy (arrival .whole .pair) d .msn) (arrival .memory) (arrival .out) e (wide d x (omega arith)) (subst (λ z. z < 2 ^ 64) (sym ev) b) in
-      let h : Accepted (atomicHeader (arrival .whole .pair .setup) (d .psn) (d .syndrome) (pairBy (arrival .whole .pair) d .msn) (valueBy d (arrival .memory))) ≡ Accepted (atomicHeader (arrival .whole .pair .setup) (d .psn) 31 (pairBy (arrival .whole .pair) d .msn) v) =
-      λ i. Accepted (atomicHeader (arrival .whole .pair .setup) (d .psn) (y i) (pairBy (arrival .whole .pair) d .msn) (ev i)) in
-      record { outgoing = e; packet = O .0 ∙ h; behind = O .1 }
+  ack-bytes : d .reply .kind ≡ 17 → sentBy arrival d ≡ headerBytes (ackHeader (arrival .whole .pair .setup) sent)
+  unfolding sentBy ackBytes ackHeader
+  ack-bytes e = rw e
+
+  value-bytes : d .reply .kind ≡ 18 → sentBy arrival d ≡ headerBytes (atomicHeader (arrival .whole .pair .setup) sent)
+  unfolding sentBy ackBytes atomicHeader
+  value-bytes e = rw e
+
+  ack-sent : d .reply .kind ≡ 17 → d .reply .psn .0 < 2 ^ 24 → d .reply .syndrome < 2 ^ 8
+      → AckSent arrival (leftBy arrival d) (d .reply .psn) (d .reply .syndrome)
+  unfolding leftBy ackHeader replyHeader headerLength classOf lowClass followsOf lengthOf
+  ack-sent e x y =
+      let h = ackHeader (arrival .whole .pair .setup) sent in
+      let f = ack-fits (arrival .whole .pair .setup) sent (wide x y) in
+      let b = ack-bytes e in
+      let O = alone h (arrival .out) 16 f refl (omega arith) in
+      record {
+        outgoing = ap length b ∙ length-header h f;
+        packet = ap (λ z. readHeader (take 16 (over z (arrival .out)))) b ∙ O .0;
+        behind = ap (λ z. drop 16 (over z (arrival .out))) b ∙ O .1;
+      }
+
+  value-sent : (v : ℕ) → d .reply .kind ≡ 18 → d .reply .psn .0 < 2 ^ 24 → d .reply .syndrome ≡ 31 → valueBy (d .change) (d .reply .value) (arrival .memory) ≡ v → v < 2 ^ 64
+      → ValueSent arrival (leftBy arrival d) (d .reply .psn) v
+  unfolding leftBy atomicHeader replyHeader headerLength classOf lowClass followsOf lengthOf
+  value-sent v e x y ev l =
+      let h = atomicHeader (arrival .whole .pair .setup) sent in
+      let f = value-fits (arrival .whole .pair .setup) sent (wide x (omega arith)) (subst (λ z. z < 2 ^ 64) (sym ev) l) in
+      let b = value-bytes e in
+      let O = alone h (arrival .out) 24 f refl (omega arith) in
+      record {
+        outgoing = ap length b ∙ length-header h f;
+        packet =
+            ap (λ z. readHeader (take 24 (over z (arrival .out)))) b
+            ∙ (O .0 ∙ (λ i. Accepted (plainHeader (arrival .whole .pair .setup) 18 0 (d .reply .psn) (AtomicAcknowledge (record { syndrome = y i; msn = pairBy (arrival .whole .pair) d .msn }) (ev i)))));
+        behind = ap (λ z. drop 24 (over z (arrival .out))) b ∙ O .1;
+      }
 
 -- what each answer sends
 module _ (arrival : Arrival) where
@@ -208,34 +236,34 @@ module _ (arrival : Arrival) where
       AckSent arrival l (psnAfter (arrival .whole .pair .expected) 16777215) 31
       ⊎ (((v : ℕ) × (newestSaved (bthOf (arrival .packet) .psn .0) (arrival .whole .saved) (arrival .whole .pair .saved) ≡ Value v) × ValueSent arrival l (bthOf (arrival .packet) .psn) v) ⊎ (l .outgoing ≡ 0))
 
-  abbrev Reply : Status → Left → Type 0
-  Reply status.Executed l = Unit {0}
-  Reply status.Acknowledged l = AckSent arrival l (bthOf (arrival .packet) .psn) 31
-  Reply status.ReadAccepted l = Unit {0}
-  Reply status.AtomicExecuted l = Swapped l
-  Reply status.DuplicateAnswered l = DuplicateLeaves l
-  Reply status.Dropped l = Unit {0}
-  Reply status.Abandoned l = Unit {0}
-  Reply status.SequenceNak l = AckSent arrival l (arrival .whole .pair .expected) 96
-  Reply status.InvalidRequestNak l = AckSent arrival l (bthOf (arrival .packet) .psn) 97
-  Reply status.AccessNak l = AckSent arrival l (bthOf (arrival .packet) .psn) 98
-  Reply status.NotReadyNak l = AckSent arrival l (bthOf (arrival .packet) .psn) (32 + arrival .whole .pair .setup .timer)
-  Reply status.ReadUnfinished l = Unit {0}
-  Reply status.TableFull l = Unit {0}
-  Reply status.OutOfRange l = Unit {0}
-  Reply status.OutputShort l = Unit {0}
-  Reply status.WrongState l = Unit {0}
-  Reply status.NoSuchKey l = Unit {0}
-  Reply status.KeyInUse l = Unit {0}
-  Reply status.BadNumber l = Unit {0}
+  abbrev Sends : Status → Left → Type 0
+  Sends status.Executed l = Unit {0}
+  Sends status.Acknowledged l = AckSent arrival l (bthOf (arrival .packet) .psn) 31
+  Sends status.ReadAccepted l = Unit {0}
+  Sends status.AtomicExecuted l = Swapped l
+  Sends status.DuplicateAnswered l = DuplicateLeaves l
+  Sends status.Dropped l = Unit {0}
+  Sends status.Abandoned l = Unit {0}
+  Sends status.SequenceNak l = AckSent arrival l (arrival .whole .pair .expected) 96
+  Sends status.InvalidRequestNak l = AckSent arrival l (bthOf (arrival .packet) .psn) 97
+  Sends status.AccessNak l = AckSent arrival l (bthOf (arrival .packet) .psn) 98
+  Sends status.NotReadyNak l = AckSent arrival l (bthOf (arrival .packet) .psn) (32 + arrival .whole .pair .setup .timer)
+  Sends status.ReadUnfinished l = Unit {0}
+  Sends status.TableFull l = Unit {0}
+  Sends status.OutOfRange l = Unit {0}
+  Sends status.OutputShort l = Unit {0}
+  Sends status.WrongState l = Unit {0}
+  Sends status.NoSuchKey l = Unit {0}
+  Sends status.KeyInUse l = Unit {0}
+  Sends status.BadNumber l = Unit {0}
 
   module _ (S : Sound (arrival .whole .pair)) (P : arrival .whole .pair .setup .pkey < 2 ^ 16) (M : Bytes (arrival .memory))
       (B : Bytes (arrival .packet)) (W : SavedSound (arrival .whole .saved) (arrival .whole .pair .saved)) where
     store-reply : (t : OpenMessage) (entry region : List ℕ) (b : Bool) → packetIn (arrival .packet) .ackreq ≡ b
-        → Reply (cond b status.Acknowledged status.Executed) (leftBy arrival (storePayload (packetIn (arrival .packet)) t entry region))
+        → Sends (cond b status.Acknowledged status.Executed) (leftBy arrival (storePayload (packetIn (arrival .packet) .ackreq) 1 (packetIn (arrival .packet)) t entry region))
     unfolding storePayload packetOf headerOf
     store-reply t entry region true e =
-        ack-sent arrival S P (storePayload (packetIn (arrival .packet)) t entry region) (ap (λ b. cond b 16 0) e) (psn-small (arrival .packet) B) (omega arith)
+        ack-sent arrival S P (storePayload (packetIn (arrival .packet) .ackreq) 1 (packetIn (arrival .packet)) t entry region) (ap (λ b. cond b 17 255) e) (psn-small (arrival .packet) B) (omega arith)
     store-reply t entry region false e = tt
 
     swap-reply : (t : OpenMessage) (region : List ℕ) → Swapped (leftBy arrival (runAtomic (packetIn (arrival .packet)) t (arrival .whole .pair .message) region))
@@ -243,14 +271,14 @@ module _ (arrival : Arrival) where
     swap-reply t region =
         let k = packetIn (arrival .packet) in
         let d = runAtomic k t (arrival .whole .pair .message) region in
-        let w = wordAt (arrival .memory) (d .at) in (
-          d .at,
-          value-sent arrival S P d w refl (psn-small (arrival .packet) B) refl (act-by (λ a. cond (actsAtomic a) w 0 ≡ w) refl refl (eqb (k .kind) 20)) (word-below (arrival .memory) (d .at) M),
-          act-by (λ a. cond (actsAtomic a) (savedRows (arrival .whole .saved) (arrival .whole .pair .saved) (d .psn .0) w) (arrival .whole .saved) ≡ savedRows (arrival .whole .saved) (arrival .whole .pair .saved) (d .psn .0) w) refl refl (eqb (k .kind) 20),
+        let w = wordAt (arrival .memory) (d .change .at) in (
+          d .change .at,
+          value-sent arrival S P d w refl (psn-small (arrival .packet) B) refl (act-by (λ a. cond (actsAtomic a) w 0 ≡ w) refl refl (eqb (k .kind) 20)) (word-below (arrival .memory) (d .change .at) M),
+          act-by (λ a. cond (actsAtomic a) (savedRows (arrival .whole .saved) (arrival .whole .pair .saved) (d .reply .psn .0) w) (arrival .whole .saved) ≡ savedRows (arrival .whole .saved) (arrival .whole .pair .saved) (d .reply .psn .0) w) refl refl (eqb (k .kind) 20),
         )
 
-    reply : (d : Decision) → Row Late (arrival .whole) (packetIn (arrival .packet)) d → Reply (d .status) (leftBy arrival d)
-    unfolding noReply acknowledging storePayload runAtomic packetOf headerOf leftBy psnBefore valueBy actsAtomic
+    reply : (d : Decision) → Row Late (arrival .whole) (packetIn (arrival .packet)) d → Sends (d .status) (leftBy arrival d)
+    unfolding noReply acknowledging storePayload runAtomic packetOf headerOf leftBy psnBefore valueBy actsAtomic sentBy ackBytes
     reply d (quiet a unread) = tt
     reply d (quiet a outside) = tt
     reply d ahead = ack-sent arrival S P (acknowledging status.SequenceNak (arrival .whole .pair .expected) 96) refl (S .expected) (omega arith)
@@ -266,7 +294,7 @@ module _ (arrival : Arrival) where
         inr (inl (
           v,
           e,
-          value-sent arrival S P (replyOnly status.DuplicateAnswered 24 (bthOf (arrival .packet) .psn) 31 v) v refl (psn-small (arrival .packet) B)
+          value-sent arrival S P (replyOnly status.DuplicateAnswered (sending 18 (bthOf (arrival .packet) .psn) 31 v)) v refl (psn-small (arrival .packet) B)
               refl refl (subst Small e (saved-small (bthOf (arrival .packet) .psn .0) (arrival .whole .saved) (arrival .whole .pair .saved) W)),
         ))
     reply d (stored t entry region w) = store-reply t entry region (packetIn (arrival .packet) .ackreq) refl
@@ -274,28 +302,28 @@ module _ (arrival : Arrival) where
     reply d (swap t region w) = swap-reply t region
 
     -- the unreliable connection sends nothing
-    uc-reply : (d : Decision) → UcRow Late (arrival .whole .pair) (packetIn (arrival .packet)) d → Reply (d .status) (leftBy arrival d)
-    unfolding noReply
+    uc-reply : (d : Decision) → UcRow Late (arrival .whole .pair) (packetIn (arrival .packet)) d → Sends (d .status) (leftBy arrival d)
+    unfolding noReply storePayload
     uc-reply d (unheard a unread) = tt
     uc-reply d (unheard a outside) = tt
     uc-reply d (abandon h) = tt
     uc-reply d (deliver t entry region w) = tt
 
-    any-reply : (d : Decision) → AnyRow Late (arrival .whole) (packetIn (arrival .packet)) d → Reply (d .status) (leftBy arrival d)
+    any-reply : (d : Decision) → AnyRow Late (arrival .whole) (packetIn (arrival .packet)) d → Sends (d .status) (leftBy arrival d)
     any-reply d (reliable e r) = reply d r
     any-reply d (unreliable e r) = uc-reply d r
 
   -- refused at once, nothing is sent
-  quiet-reply : (a : Status) (l : Left) → Quiet a → Reply a l
+  quiet-reply : (a : Status) (l : Left) → Quiet a → Sends a l
   quiet-reply a l dropped = tt
   quiet-reply a l short = tt
   quiet-reply a l range = tt
   quiet-reply a l unfinished = tt
 
-  is : (a : Status) (l : Left) (n : ℕ) → statusNumber a ≡ n → Reply a l → Reply (statusOf n) l
-  is a l n e x = subst (λ b. Reply b l) (sym (number-back a) ∙ ap statusOf e) x
+  is : (a : Status) (l : Left) (n : ℕ) → statusNumber a ≡ n → Sends a l → Sends (statusOf n) l
+  is a l n e x = subst (λ b. Sends b l) (sym (number-back a) ∙ ap statusOf e) x
 
-  replies : (a : Status) (l : Left) → l .number ≡ statusNumber a → Reply a l → Replies arrival l
+  replies : (a : Status) (l : Left) → l .number ≡ statusNumber a → Sends a l → Replies arrival l
   unfolding statusOf
   replies a l e x =
       record {
@@ -319,10 +347,10 @@ inbound-replies a P M B W = replies a (d .status) (leftBy a d) refl (go (execute
     d : Decision
     d = decision a
 
-    go : (b : Bool) → executed (refusalOf a) ≡ b → Reply a (d .status) (leftBy a d)
+    go : (b : Bool) → executed (refusalOf a) ≡ b → Sends a (d .status) (leftBy a d)
     go true e =
         any-reply a (passed (a .whole .pair) (length (a .memory)) (length (a .out)) e .1) P M B W d
         (taken-row Late unread a (record { rc = λ region z. outside; uc = λ region z. outside }) e)
     go false e =
-        subst (λ s. Reply a s (leftBy a d)) (sym (refused-status a e))
+        subst (λ s. Sends a s (leftBy a d)) (sym (refused-status a e))
         (quiet-reply a (refusalOf a) (leftBy a d) (refusal-quiet (a .whole .pair) (length (a .memory)) (length (a .out)) e))

@@ -12,7 +12,8 @@ use Rattle.pmtu.specs.Pieces.{pieces}
 use Rattle.pair.specs.Answer.{statusNumber}
 use Rattle.pair.specs.Claims.{Sound}
 use Rattle.pair.specs.declared.Pair.{Pair}
-use Rattle.responder_spec.specs.Response.{responseBytes, nextResponse, nextOut}
+use Rattle.responder_spec.specs.Reply.{readReply, responseBytes}
+use Rattle.responder_spec.specs.Response.{nextResponse, nextOut}
 use Rattle.response_laws.specs.Responses.{Answering, asked}
 use Rattle.effect_laws.specs.Effects.{Fixed}
 
@@ -39,7 +40,7 @@ flat (d ∷ ds) = d ++ flat ds
 -- the pair has moved, and the payloads are the bytes asked for.
 pub record Drains (q : Pair) (bytes : List ℕ) (outs : List (List ℕ)) : Type 0 where
   pub done : (i : ℕ) → i < length outs → getD (drain q bytes outs .psns) i 1 ≡ 0
-  pub written : (i : ℕ) → i < length outs → getD (drain q bytes outs .packets) i [] ≡ responseBytes (q .setup) (q .read) bytes i
+  pub written : (i : ℕ) → i < length outs → getD (drain q bytes outs .packets) i [] ≡ responseBytes (q .setup) (readReply (q .read)) bytes i
   pub none : drain q bytes outs .pair .read .remaining ≡ 0
   pub fixed : Fixed q (drain q bytes outs .pair)
   pub state : drain q bytes outs .pair .state ≡ q .state

@@ -1,7 +1,7 @@
 -- The packet of an answer, read back; and what stands behind it in the output.
-use Prim.Native.Nat.{ℕ, _+_, _^_, _<_}
+use Prim.Native.Nat.{ℕ, _+_, _-_, _^_, _<_}
 use mathlib.Core.Path.{_≡_}
-use mathlib.Core.List.{List}
+use mathlib.Core.List.{List, []}
 use mathlib.Core.Logic.{_⊎_}
 use lib.ListN.{take, drop}
 use Rattle.responder_spec.specs.Arrival.{Arrival, Left}
@@ -16,8 +16,29 @@ use Rattle.memory.specs.Word.{wordAt}
 use Rattle.table.specs.Claims.{SavedSound}
 use Rattle.table.specs.View.{newestSaved, savedRows}
 use Rattle.table.specs.declared.Saved.the-variants.{Value}
+use Rattle.pmtu.specs.Pieces.{pieces}
+use Rattle.pair.specs.declared.Setup.{Setup}
 use Rattle.pair.specs.declared.Pair.{Pair}
+use Rattle.responder_spec.specs.declared.Reply.{Reply}
+use Rattle.responder_spec.specs.Reply.{responseBytes, replyBytes}
 use Rattle.response_laws.specs.Responses.{plainHeader}
+
+-- The packet of any reply: the kind is its opcode, an Acknowledge's or an Atomic Acknowledge's, and the record says the
+-- rest; of a READ it is the first response of those that are left; any other kind has none.
+pub record Packets (s : Setup) (r : Reply) (bytes : List ℕ) : Type 0 where
+  pub ack : r .kind ≡ 17
+      → readHeader (replyBytes s r bytes) ≡ Accepted (plainHeader s 17 0 (r .psn) (Acknowledge (record { syndrome = r .syndrome; msn = r .msn })))
+  pub atomic : r .kind ≡ 18
+      → readHeader (replyBytes s r bytes)
+      ≡ Accepted (plainHeader s 18 0 (r .psn) (AtomicAcknowledge (record { syndrome = r .syndrome; msn = r .msn }) (r .value)))
+  pub response : r .kind ≡ 13 → replyBytes s r bytes ≡ responseBytes s r bytes (pieces (r .length) (s .pmtu) - r .remaining)
+  pub none : (r .kind ≡ 13 → ⊥) → (r .kind ≡ 17 → ⊥) → (r .kind ≡ 18 → ⊥) → replyBytes s r bytes ≡ []
+
+abbrev pub ReplyPackets : Type 0
+ReplyPackets =
+    (s : Setup) (r : Reply) (m : List ℕ) → s .pkey < 2 ^ 16 → s .theirs < 2 ^ 24
+    → (r .psn .0 < 2 ^ 24) × (r .syndrome < 2 ^ 8) × (r .msn .0 < 2 ^ 24) × (r .value < 2 ^ 64)
+    → Packets s r m
 
 -- 16 bytes: an Acknowledge, opcode 17, with the MSN of the pair as it is now. Output past it is unchanged.
 pub record AckSent (a : Arrival) (l : Left) (psn : Psn) (syndrome : ℕ) : Type 0 where

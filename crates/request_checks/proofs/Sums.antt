@@ -7,16 +7,9 @@ use native.Mathlib.Omega.{arith}
 use lib.Dec.{eqb, ltb, leb}
 use lib.ListN.{getD}
 use borrow.Author.Tests.{ltb-true, ltb-false, lt-ltb, le-ltb, eqb-true, eqb-false, eq-eqb, ne-eqb, leb-true, leb-false}
+use Rattle.lemmas.proofs.Tests.{over-left}
 use Rattle.table.specs.Table.{addresses, outside, pastTop}
 use Rattle.request_spec.specs.Verdict.{lacks}
-
--- more than is left is more in all
-pub over-left : (most stored size : ℕ) → stored ≤ most → ltb (most - stored) size ≡ ltb most (stored + size)
-over-left most stored size h = go (ltb (most - stored) size) refl
-  where
-    go : (t : Bool) → ltb (most - stored) size ≡ t → t ≡ ltb most (stored + size)
-    go true e = let l : most - stored < size = ltb-true (most - stored) size e in sym (lt-ltb most (stored + size) (omega arith))
-    go false e = let l : size ≤ most - stored = ltb-false (most - stored) size e in sym (le-ltb most (stored + size) (omega arith))
 
 -- just what is left is all
 pub equal-left : (length stored size : ℕ) → stored ≤ length → eqb (length - stored) size ≡ eqb (stored + size) length

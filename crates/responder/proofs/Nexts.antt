@@ -1,19 +1,13 @@
 -- The next response step by step: from what each function answered to what the definitions say.
-use Prim.Native.Nat.{ℕ, _+_, _-_, _^_, _≤_, _<_, min}
-use mathlib.Core.Path.{_≡_, refl, sym, ap, subst, _∙_}
+use Prim.Native.Nat.{ℕ, _+_, _≤_, _<_}
+use mathlib.Core.Path.{_≡_, refl, sym, ap, _∙_}
 use mathlib.Core.Bool.{Bool, true, false, cond, not, true≢false}
 use mathlib.Core.List.{List}
 use native.Mathlib.Omega.{arith}
 use lib.Dec.{eqb, ltb}
-use lib.ListN.{length, take, drop, length-take, length-drop}
-use borrow.Author.Tests.{eq-eqb, ne-eqb, eqb-true, eqb-false, ltb-false}
-use Rattle.header.specs.declared.Header.{Header}
-use Rattle.header.specs.declared.Answer.{Answer}
-use Rattle.header.specs.declared.Answer.the-variants.{Done}
-use Rattle.packet.specs.Packet.{packetWritten, packetOut}
-use Rattle.pmtu.specs.Pieces.{partAt}
-use Rattle.pmtu.specs.declared.Range.{Range}
-use Rattle.pmtu.proofs.Cuts.{parts-within, part-of}
+use lib.ListN.{length}
+use borrow.Author.Tests.{eq-eqb, ne-eqb, le-ltb, eqb-true, eqb-false, ltb-false}
+use Rattle.pmtu.proofs.Counting.{pmtus}
 use Rattle.pair.specs.Answer.{statusNumber, executed}
 use Rattle.pair.specs.Sound.{pairUnsound}
 use Rattle.pair.specs.Claims.{Sound}
@@ -25,11 +19,11 @@ use Rattle.pair.proofs.Known.{one-number}
 use Rattle.responder_spec.specs.declared.Outcome.{Outcome}
 use Rattle.responder_spec.specs.Decide.{noCompletion}
 use Rattle.responder_spec.specs.Apply.{with}
-use Rattle.responder_spec.specs.Reply.{over}
-use Rattle.response_laws.specs.Responses.{Answering}
-use Rattle.responder_spec.specs.Response.{indexOf, responsePayload, responseHeader, responseBytes, nextStatus, oneFewer, nextBytes, nextResponse, nextOut}
-use Rattle.response_laws.proofs.Responses.{live, written}
-use Rattle.header.specs.Write.{doneBytes}
+use Rattle.responder_spec.specs.declared.Reply.{Reply}
+use Rattle.responder_spec.specs.Reply.{readReply, replyBytes, over}
+use Rattle.responder_spec.specs.Response.{nextStatus, oneFewer, nextBytes, nextResponse, nextOut}
+use Rattle.response_laws.proofs.Responses.{live}
+use Rattle.acknowledge.specs.Sendable.{unsendableResponse, unsendable}
 use Rattle.responder.specs.Unchanged.{unchanged, responded}
 
 abbrev pub Leaves : Pair → List ℕ → List ℕ → Outcome → List ℕ → Type 0
@@ -76,56 +70,38 @@ module _ (q : Pair) (m out : List ℕ) (t : Status) (is : t ≡ nextStatus q (le
               sound = tested q .0 z;
             }
 
-    -- the part of memory that a response carries lies in it
-    pub inside : (i : ℕ) (x : Range) → x ≡ partAt (q .read .length) (q .setup .pmtu) i
-        → (x .start ≤ x .end) × (q .read .offset + x .end ≤ length m) × (length m ≤ 1048576)
-    inside i x e =
+    -- so the response can be sent
+    sendable : unsendable (q .setup) (readReply (q .read)) (length m) (length out) ≡ false
+    unfolding unsendable unsendableResponse
+    sendable =
         let W = willing in
-        let P = subst (λ y. (y .start ≤ y .end) × (y .end ≤ q .read .length)) (sym e) (parts-within (q .read .length) (q .setup .pmtu) i) in
-        let L = live q (W .sound) (W .some) .within in
-        (P .0, omega (arith, W .memory, L, P .1), omega (arith, W .memory, W .sound .setup .1))
+        let within : q .read .offset + q .read .length ≤ length m = omega (arith, W .memory, live q (W .sound) (W .some) .within) in
+        rw (
+          pmtus (q .setup .pmtu) .1 (W .sound .setup .0 .pmtu),
+          le-ltb (length out) (16 + q .setup .pmtu) (W .room),
+          le-ltb (length m) (q .read .offset + q .read .length) within,
+        )
 
-    module _ (pkey : q .setup .pkey < 2 ^ 16) (i : ℕ) (at : i ≡ indexOf (q .read) (q .setup .pmtu)) (x : Range)
-        (part : x ≡ partAt (q .read .length) (q .setup .pmtu) i) where
-      bytes : List ℕ
-      bytes = take (q .read .offset + x .end - (q .read .offset + x .start)) (drop (q .read .offset + x .start) m)
+    executes : status.Executed ≡ nextStatus q (length m) (length out)
+    unfolding statusNumber
+    executes = one-number status.Executed (nextStatus q (length m) (length out)) (sym (eqb-true (statusNumber (nextStatus q (length m) (length out))) 0 taken))
 
-      carried : bytes ≡ responsePayload (q .read) (q .setup .pmtu) m i
-      unfolding bytes responsePayload
-      carried = let W = willing in part-of m (q .read .offset) (q .read .length) (q .setup .pmtu) i (omega (arith, W .memory, live q (W .sound) (W .some) .within)) x part
-
-      answering : Answering q m
-      answering = let W = willing in record { sound = W .sound; pkey = pkey; some = W .some; memory = W .memory }
-
-      -- as many bytes as the part has
-      many : length (responsePayload (q .read) (q .setup .pmtu) m i) ≡ x .end - x .start
-      unfolding bytes
-      many =
-          let I = inside i x part in
-          let l : length bytes ≡ min (q .read .offset + x .end - (q .read .offset + x .start)) (length m - (q .read .offset + x .start)) =
-          length-take (q .read .offset + x .end - (q .read .offset + x .start)) (drop (q .read .offset + x .start) m)
-          ∙ ap (min (q .read .offset + x .end - (q .read .offset + x .start))) (length-drop (q .read .offset + x .start) m) in
-          sym (ap length carried) ∙ omega (arith, l, I .0, I .1)
-
-      executes : status.Executed ≡ nextStatus q (length m) (length out)
-      unfolding statusNumber
-      executes = one-number status.Executed (nextStatus q (length m) (length out)) (sym (eqb-true (statusNumber (nextStatus q (length m) (length out))) 0 taken))
-
-      pub outgoing : (h : Header) → h ≡ responseHeader (q .setup) (q .read) i (x .end - x .start)
-          → (a : Answer) → a ≡ packetWritten h (length (take (q .read .offset + x .end - (q .read .offset + x .start)) (drop (q .read .offset + x .start) m))) (length out)
-          → (out' : List ℕ) → out' ≡ packetOut h (take (q .read .offset + x .end - (q .read .offset + x .start)) (drop (q .read .offset + x .start) m)) out
-          → (size : ℕ) → size ≡ doneBytes a
-          → (next : Pair) → next ≡ with q (q .state) (q .nakmark) (oneFewer (q .read))
-          → (o : Outcome) → o ≡ responded next size → Leaves q m out o out'
-      unfolding bytes nextBytes nextResponse nextOut executed
-      outgoing h head a writes out' output size count next one o outcomeWith =
-          let W = written q m answering i out (willing .room) in
-          let is-h : h ≡ responseHeader (q .setup) (q .read) i (length (responsePayload (q .read) (q .setup .pmtu) m i)) = head ∙ ap (responseHeader (q .setup) (q .read) i) (sym many) in
-          let is-a : a ≡ Done (length (responseBytes (q .setup) (q .read) m i)) = writes ∙ ((λ z. packetWritten (is-h z) (length (carried z)) (length out)) ∙ W .0) in
-          let is-out : out' ≡ over (responseBytes (q .setup) (q .read) m i) out = output ∙ ((λ z. packetOut (is-h z) (carried z) out) ∙ W .1) in
-          let is-size : size ≡ length (responseBytes (q .setup) (q .read) m (indexOf (q .read) (q .setup .pmtu))) =
-          count ∙ (ap doneBytes is-a ∙ ap (λ k. length (responseBytes (q .setup) (q .read) m k)) at) in
-          rw taken (
-            outcomeWith ∙ (λ z. record { status = executes z; pair = one z; completion = noCompletion; outgoing = is-size z }),
-            is-out ∙ ap (λ k. over (responseBytes (q .setup) (q .read) m k) out) at,
-          )
+    pub outgoing : (r : Reply) → r ≡ readReply (q .read)
+        → (size : ℕ) → size ≡ cond (unsendable (q .setup) r (length m) (length out)) 0 (length (replyBytes (q .setup) r m))
+        → (out' : List ℕ) → out' ≡ cond (unsendable (q .setup) r (length m) (length out)) out (over (replyBytes (q .setup) r m) out)
+        → (next : Pair) → next ≡ with q (q .state) (q .nakmark) (oneFewer (q .read))
+        → (o : Outcome) → o ≡ responded next size → Leaves q m out o out'
+    unfolding nextBytes nextResponse nextOut executed
+    outgoing r reply size count out' output next one o outcomeWith =
+        let is-size : size ≡ length (replyBytes (q .setup) (readReply (q .read)) m) =
+        count
+        ∙ (ap (λ x. cond (unsendable (q .setup) x (length m) (length out)) 0 (length (replyBytes (q .setup) x m))) reply
+        ∙ ap (λ b. cond b 0 (length (replyBytes (q .setup) (readReply (q .read)) m))) sendable) in
+        let is-out : out' ≡ over (replyBytes (q .setup) (readReply (q .read)) m) out =
+        output
+        ∙ (ap (λ x. cond (unsendable (q .setup) x (length m) (length out)) out (over (replyBytes (q .setup) x m) out)) reply
+        ∙ ap (λ b. cond b out (over (replyBytes (q .setup) (readReply (q .read)) m) out)) sendable) in
+        rw taken (
+          outcomeWith ∙ (λ z. record { status = executes z; pair = one z; completion = noCompletion; outgoing = is-size z }),
+          is-out,
+        )

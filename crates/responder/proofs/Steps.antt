@@ -2,11 +2,11 @@
 use Prim.Native.Nat.{ℕ, _≤_}
 use mathlib.Core.Path.{_≡_, refl, sym, ap, subst, _∙_}
 use mathlib.Core.Bool.{Bool, true, false, cond, not, _&&_, _||_, true≢false}
-use mathlib.Core.List.{List}
+use mathlib.Core.List.{List, []}
 use lib.Dec.{eqb, ltb}
 use lib.ListN.{length}
 use borrow.Author.Tests.{eqb-true, eq-eqb, ne-eqb, le-ltb}
-use Rattle.sequence.specs.declared.Msn.{Msn}
+use Rattle.sequence.specs.declared.Psn.{Psn}
 use Rattle.opcode.specs.Opcode.{placeOf, lowClass, classOf}
 use Rattle.header.specs.Check.{admitted}
 use Rattle.header.specs.declared.Header.{Header}
@@ -28,13 +28,15 @@ use Rattle.request_spec.specs.declared.Admission.{Admission}
 use Rattle.request_spec.specs.declared.Admission.the-variants as found
 use Rattle.decision_laws.proofs.Codes.{Bare, class-is}
 use Rattle.decision_laws.proofs.Codes.Bare.{reads, swaps, adds}
+use Rattle.responder_spec.specs.declared.Change.{Change}
+use Rattle.responder_spec.specs.declared.Reply.{Reply}
 use Rattle.responder_spec.specs.declared.Decision.{Decision}
 use Rattle.responder_spec.specs.declared.Outcome.{Outcome}
 use Rattle.responder_spec.specs.Arrival.{Arrival, leaving}
 use Rattle.responder_spec.specs.Decide.{noReply, packetDecision, orDrop, inboundRefusal, refusalOf, checkedHeader, decision}
-use Rattle.responder_spec.specs.Apply.{memoryBy, actsAtomic, savedBy, pairBy}
-use Rattle.responder_spec.specs.Reply.{answerBytes, valueBy, over, outBy}
-use Rattle.responder_spec.specs.Inbound.{Leaves, leftBy, inbound}
+use Rattle.responder_spec.specs.Apply.{memoryBy, actsAtomic, valueBy, savedBy, pairBy}
+use Rattle.responder_spec.specs.Reply.{ackBytes, over}
+use Rattle.responder_spec.specs.Inbound.{Leaves, replyWith, sentBy, leftBy, inbound}
 use Rattle.decision_laws.proofs.Rows.{passed}
 use Rattle.execute.specs.Fits.{unformed}
 use Rattle.responder.specs.Unchanged.{outcomeWith}
@@ -125,12 +127,12 @@ module _ (a : Arrival) (t : Status) (is : t ≡ refusalOf a) (n : ℕ) (number :
         ∙ sym (decision-passes ∙ passes (checkedHeader a) (length (a .packet)) k (sym e ∙ g) (packetDecision (a .whole))))
 
 -- an atomic saves the value that it answers
-saved-value : (ring : Ring) (d : Decision) (saved : List (List ℕ)) (m : List ℕ)
-    → cond (actsAtomic (d .act)) (savedRows saved ring (d .psn .0) (valueBy d m)) saved ≡ savedBy ring d saved m
+saved-value : (ring : Ring) (c : Change) (psn : Psn) (value : ℕ) (saved : List (List ℕ)) (m : List ℕ)
+    → cond (actsAtomic (c .act)) (savedRows saved ring (psn .0) (valueBy c value m)) saved ≡ savedBy ring c psn saved m
 unfolding savedBy valueBy
-saved-value ring d saved m = go (actsAtomic (d .act))
+saved-value ring c psn value saved m = go (actsAtomic (c .act))
   where
-    go : (b : Bool) → cond b (savedRows saved ring (d .psn .0) (cond b (wordAt m (d .at)) (d .value))) saved ≡ cond b (savedRows saved ring (d .psn .0) (wordAt m (d .at))) saved
+    go : (b : Bool) → cond b (savedRows saved ring (psn .0) (cond b (wordAt m (c .at)) value)) saved ≡ cond b (savedRows saved ring (psn .0) (wordAt m (c .at))) saved
     go true = refl
     go false = refl
 
@@ -139,42 +141,54 @@ short-decided : (a : Arrival) → ltb (length (a .out)) 24 ≡ true → decision
 unfolding decision inboundRefusal executed statusNumber
 short-decided a e = rw e
 
-no-answer : (q : Pair) (m out : List ℕ) → out ≡ outBy (q .setup) (noReply status.OutputShort) (pairBy q (noReply status.OutputShort) .msn) m out
-unfolding noReply outBy answerBytes over
-no-answer q m out = refl
+none-sent : (a : Arrival) → sentBy a (noReply status.OutputShort) ≡ []
+unfolding noReply sentBy ackBytes
+none-sent a = refl
+
+writes : (x out : List ℕ) (b : Bool) → (b ≡ true → x ≡ []) → (cond b 0 (length x) ≡ length x) × (cond b out (over x out) ≡ over x out)
+unfolding over
+writes x out true h = rw (h refl) (refl, refl)
+writes x out false h = (refl, refl)
 
 -- what the decision does to everything that was lent, from what each function answered
-module _ (a : Arrival) (d : Decision) (i : d ≡ decision a) (value : ℕ) (v : value ≡ valueBy d (a .memory)) where
+module _ (a : Arrival) (d : Decision) (i : d ≡ decision a) (value : ℕ) (v : value ≡ valueBy (d .change) (d .reply .value) (a .memory)) where
   abbrev q : Pair
   q = a .whole .pair
 
-  kept : (saved' : List (List ℕ)) → saved' ≡ cond (actsAtomic (d .act)) (savedRows (a .whole .saved) (q .saved) (d .psn .0) value) (a .whole .saved)
-      → saved' ≡ savedBy (q .saved) d (a .whole .saved) (a .memory)
+  kept : (saved' : List (List ℕ)) → saved' ≡ cond (actsAtomic (d .change .act)) (savedRows (a .whole .saved) (q .saved) (d .reply .psn .0) value) (a .whole .saved)
+      → saved' ≡ savedBy (q .saved) (d .change) (d .reply .psn) (a .whole .saved) (a .memory)
   kept saved' b =
       b
-      ∙ (ap (λ x. cond (actsAtomic (d .act)) (savedRows (a .whole .saved) (q .saved) (d .psn .0) x) (a .whole .saved)) v
-      ∙ saved-value (q .saved) d (a .whole .saved) (a .memory))
+      ∙ (ap (λ x. cond (actsAtomic (d .change .act)) (savedRows (a .whole .saved) (q .saved) (d .reply .psn .0) x) (a .whole .saved)) v
+      ∙ saved-value (q .saved) (d .change) (d .reply .psn) (d .reply .value) (a .whole .saved) (a .memory))
 
-  answered : (msn : Msn) → msn ≡ pairBy q d .msn
-      → (out' : List ℕ) → out' ≡ cond (ltb (length (a .out)) 24) (a .out) (over (answerBytes (q .setup) d msn value) (a .out))
-      → out' ≡ outBy (q .setup) d (pairBy q d .msn) (a .memory) (a .out)
-  unfolding outBy
-  answered msn j out' c = c ∙ go (ltb (length (a .out)) 24) refl
-    where
-      none : ltb (length (a .out)) 24 ≡ true → a .out ≡ outBy (q .setup) d (pairBy q d .msn) (a .memory) (a .out)
-      none e = subst (λ y. a .out ≡ outBy (q .setup) y (pairBy q y .msn) (a .memory) (a .out)) (sym (i ∙ short-decided a e)) (no-answer q (a .memory) (a .out))
+  -- nothing is sent where there is no room
+  room : ltb (length (a .out)) 24 ≡ true → sentBy a d ≡ []
+  room e = ap (sentBy a) (i ∙ short-decided a e) ∙ none-sent a
 
-      go : (b : Bool) → ltb (length (a .out)) 24 ≡ b
-          → cond b (a .out) (over (answerBytes (q .setup) d msn value) (a .out)) ≡ over (answerBytes (q .setup) d (pairBy q d .msn) (valueBy d (a .memory))) (a .out)
-      go true e = none e
-      go false e = λ k. over (answerBytes (q .setup) d (j k) (v k)) (a .out)
+  module _ (next : Pair) (j : next ≡ pairBy q d) (r : Reply) (at : r ≡ replyWith (d .reply) (next .msn) value) where
+    packet : ackBytes (q .setup) r ≡ sentBy a d
+    unfolding sentBy
+    packet = ap (ackBytes (q .setup)) at ∙ (λ k. ackBytes (q .setup) (replyWith (d .reply) (j k .msn) (v k)))
 
-  pub whole : (m' : List ℕ) → m' ≡ memoryBy d (a .memory) (a .packet)
-      → (saved' : List (List ℕ)) → saved' ≡ cond (actsAtomic (d .act)) (savedRows (a .whole .saved) (q .saved) (d .psn .0) value) (a .whole .saved)
-      → (next : Pair) → next ≡ pairBy q d
-      → (out' : List ℕ) → out' ≡ cond (ltb (length (a .out)) 24) (a .out) (over (answerBytes (q .setup) d (next .msn) value) (a .out))
-      → (o : Outcome) → o ≡ outcomeWith next d → Leaves a o saved' m' out'
-  unfolding inbound leftBy
-  whole m' m saved' b next j out' c o t =
-      (λ k. leaving a ((t ∙ ap (λ x. outcomeWith x d) j) k) (kept saved' b k) (m k) (answered (next .msn) (ap (λ x. x .msn) j) out' c k))
-      ∙ ap (leftBy a) i
+    sent : (n : ℕ) → n ≡ cond (ltb (length (a .out)) 24) 0 (length (ackBytes (q .setup) r)) → n ≡ length (sentBy a d)
+    sent n e =
+        e
+        ∙ (ap (λ x. cond (ltb (length (a .out)) 24) 0 (length x)) packet
+        ∙ writes (sentBy a d) (a .out) (ltb (length (a .out)) 24) room .0)
+
+    output : (out' : List ℕ) → out' ≡ cond (ltb (length (a .out)) 24) (a .out) (over (ackBytes (q .setup) r) (a .out)) → out' ≡ over (sentBy a d) (a .out)
+    output out' e =
+        e
+        ∙ (ap (λ x. cond (ltb (length (a .out)) 24) (a .out) (over x (a .out))) packet
+        ∙ writes (sentBy a d) (a .out) (ltb (length (a .out)) 24) room .1)
+
+    pub whole : (m' : List ℕ) → m' ≡ memoryBy (d .change) (a .memory) (a .packet)
+        → (saved' : List (List ℕ)) → saved' ≡ cond (actsAtomic (d .change .act)) (savedRows (a .whole .saved) (q .saved) (d .reply .psn .0) value) (a .whole .saved)
+        → (n : ℕ) → n ≡ cond (ltb (length (a .out)) 24) 0 (length (ackBytes (q .setup) r))
+        → (out' : List ℕ) → out' ≡ cond (ltb (length (a .out)) 24) (a .out) (over (ackBytes (q .setup) r) (a .out))
+        → (o : Outcome) → o ≡ outcomeWith next d n → Leaves a o saved' m' out'
+    unfolding inbound leftBy
+    whole m' m saved' b n c out' w o t =
+        (λ k. leaving a ((t ∙ (λ z. outcomeWith (j z) d (sent n c z))) k) (kept saved' b k) (m k) (output out' w k))
+        ∙ ap (leftBy a) i

@@ -11,9 +11,9 @@ use Rattle.responder_spec.specs.declared.Outcome.{Outcome}
 abbrev pub unchanged : Status → Pair → Outcome
 unchanged answer q = record { status = answer; pair = q; completion = noCompletion; outgoing = 0 }
 
--- what a decision answers, with the pair that it left
-abbrev pub outcomeWith : Pair → Decision → Outcome
-outcomeWith q d = record { status = d .status; pair = q; completion = d .completion; outgoing = d .outgoing }
+-- what a decision answers, with the pair that it left and the bytes sent
+abbrev pub outcomeWith : Pair → Decision → ℕ → Outcome
+outcomeWith q d n = record { status = d .status; pair = q; completion = d .progress .completion; outgoing = n }
 
 -- done, and n bytes sent
 abbrev pub responded : Pair → ℕ → Outcome

@@ -28,17 +28,17 @@ pub(crate) fn unchanged(status: Status, pair: Pair) -> Outcome
     }
 }
 
-// The report of a decision to the caller, with the pair that it left.
-fn outcome_with(pair: Pair, d: Decision) -> Outcome
-    ensures { λ r. ⌜ r ≡ outcomeWith pair d ⌝ }
+// The report of a decision to the caller, with the pair that it left and the bytes that are sent.
+fn outcome_with(pair: Pair, d: Decision, outgoing: usize) -> Outcome
+    ensures { λ r. ⌜ r ≡ outcomeWith pair d outgoing ⌝ }
 {
     let status = d.status;
-    let completion = d.completion;
+    let completion = d.progress.completion;
     Outcome {
         status,
         pair,
         completion,
-        outgoing: d.outgoing,
+        outgoing,
     }
 }
 
@@ -86,9 +86,10 @@ pub fn inbound(
     ensures { λ r. ⌜ Leaves (arriving pair (now (regions .entry)) (now (entries .entry)) (now (saved .entry)) (now (mem .entry)) (now (packet .entry)) (now (out .entry))) r (now (saved .exit)) (now (mem .exit)) (now (out .exit)) ⌝ }
 {
     let d = decided(pair, regions, entries, saved, mem, packet, out);
-    let value = apply::change(mem, packet, d);
-    apply::keep(saved, pair.saved, d.act, d.psn, value);
+    let value = apply::change(mem, packet, d.change, d.reply.value);
+    apply::keep(saved, pair.saved, d.change.act, d.reply.psn, value);
     let next = apply::pair_after(pair, d);
-    acknowledge::write(out, pair.setup, d, next.msn, value);
-    outcome_with(next, d)
+    let reply = acknowledge::reply_with(d.reply, next.msn, value);
+    let outgoing = acknowledge::write_ack(out, pair.setup, reply);
+    outcome_with(next, d, outgoing)
 }

@@ -15,7 +15,7 @@ fn reads_full(pair: Pair) -> bool
 pub(crate) fn refusal(pair: Pair, memory: usize, room: usize) -> Status
     ensures { λ r. ⌜ r ≡ inboundRefusal pair memory room ⌝ }
 {
-    if room < reply::ATOMIC_ACK_LENGTH {
+    if room < opcode::WITH_AETH_ATOMIC_ACK {
         return Status::OutputShort;
     }
     if memory != pair.setup.memory {

@@ -5,6 +5,7 @@ use mathlib.Core.List.{List}
 use lib.Dec.{eqb, leb}
 use lib.ListN.{take, drop}
 use Rattle.sequence.specs.Sequence.{psnAfter, msnNext}
+use Rattle.sequence.specs.declared.Psn.{Psn}
 use Rattle.sequence.specs.declared.Msn.{Msn}
 use Rattle.memory.specs.Memory.{store}
 use Rattle.memory.specs.Word.{wordAt, fetchAdded, swapped}
@@ -17,22 +18,28 @@ use Rattle.pair.specs.State as State
 use Rattle.pair.specs.Pair.{noMessage}
 use Rattle.pair.specs.declared.ReadAnswer.{ReadAnswer}
 use Rattle.pair.specs.declared.Pair.{Pair}
+use Rattle.responder_spec.specs.declared.Change.{Change}
+use Rattle.responder_spec.specs.declared.Reply.{Reply}
 use Rattle.responder_spec.specs.declared.Decision.{Decision}
 use Rattle.responder_spec.specs.Act as Act
 
 -- memory after the packet p, by the act
-unfoldable pub memoryBy : Decision → List ℕ → List ℕ → List ℕ
-memoryBy d m p =
-    cond (eqb (d .act) Act.store) (store m (d .at) (take (d .size) (drop (d .start) p)))
-    (cond (eqb (d .act) Act.fetchAdd) (fetchAdded m (d .at) (d .swap))
-    (cond (eqb (d .act) Act.cmpSwap) (swapped m (d .at) (d .compare) (d .swap)) m))
+unfoldable pub memoryBy : Change → List ℕ → List ℕ → List ℕ
+memoryBy c m p =
+    cond (eqb (c .act) Act.store) (store m (c .at) (take (c .size) (drop (c .start) p)))
+    (cond (eqb (c .act) Act.fetchAdd) (fetchAdded m (c .at) (c .swap))
+    (cond (eqb (c .act) Act.cmpSwap) (swapped m (c .at) (c .compare) (c .swap)) m))
 
 unfoldable pub actsAtomic : ℕ → Bool
 actsAtomic act = eqb act Act.fetchAdd || eqb act Act.cmpSwap
 
+-- the value that is answered: an atomic's is the word that it finds, a duplicate one's the value saved
+unfoldable pub valueBy : Change → ℕ → List ℕ → ℕ
+valueBy c value m = cond (actsAtomic (c .act)) (wordAt m (c .at)) value
+
 -- an atomic's old value is saved with its PSN
-unfoldable pub savedBy : Ring → Decision → List (List ℕ) → List ℕ → List (List ℕ)
-savedBy ring d saved m = cond (actsAtomic (d .act)) (savedRows saved ring (d .psn .0) (wordAt m (d .at))) saved
+unfoldable pub savedBy : Ring → Change → Psn → List (List ℕ) → List ℕ → List (List ℕ)
+savedBy ring c psn saved m = cond (actsAtomic (c .act)) (savedRows saved ring (psn .0) (wordAt m (c .at))) saved
 
 unfoldable pub savedRingBy : Ring → ℕ → Ring
 savedRingBy ring act = cond (actsAtomic act) (savedRing ring) ring
@@ -49,10 +56,10 @@ unfoldable pub msnBy : Bool → Msn → Msn
 msnBy ends msn = cond ends (msnNext msn) msn
 
 -- a READ that begins to be answered carries the MSN as it is after the packet
-unfoldable pub readAnswerBy : Decision → ReadAnswer → Msn → ReadAnswer
-readAnswerBy d old msn =
-    cond (eqb (d .responses) 0) old
-    (record { remaining = d .responses; offset = d .at; length = d .length; psn = d .psn; msn = msn })
+unfoldable pub readAnswerBy : Reply → ReadAnswer → Msn → ReadAnswer
+readAnswerBy r old msn =
+    cond (eqb (r .remaining) 0) old
+    (record { remaining = r .remaining; offset = r .offset; length = r .length; psn = r .psn; msn = msn })
 
 -- executed: the expected PSN moves on, and the NAK mark is cleared
 unfoldable pub executedPair : Pair → Decision → Pair
@@ -60,13 +67,13 @@ executedPair q d =
     record {
       setup = q .setup;
       state = q .state;
-      expected = psnAfter (q .expected) (d .psns);
-      msn = msnBy (d .ends) (q .msn);
+      expected = psnAfter (q .expected) (d .progress .psns);
+      msn = msnBy (d .progress .ends) (q .msn);
       nakmark = false;
-      message = d .message;
-      entries = entriesBy (d .completion .some) (q .entries);
-      read = readAnswerBy d (q .read) (msnBy (d .ends) (q .msn));
-      saved = savedRingBy (q .saved) (d .act);
+      message = d .progress .message;
+      entries = entriesBy (d .progress .completion .some) (q .entries);
+      read = readAnswerBy (d .reply) (q .read) (msnBy (d .progress .ends) (q .msn));
+      saved = savedRingBy (q .saved) (d .change .act);
     }
 
 -- the same pair with another state, NAK mark and READ being answered
@@ -104,7 +111,7 @@ closing q =
 unfoldable pub pairByNumber : Pair → Decision → ℕ → Pair
 pairByNumber q d number =
     cond (leb number Number.atomicExecuted) (executedPair q d)
-    (cond (eqb number Number.duplicateAnswered) (with q (q .state) (q .nakmark) (readAnswerBy d (q .read) (q .msn)))
+    (cond (eqb number Number.duplicateAnswered) (with q (q .state) (q .nakmark) (readAnswerBy (d .reply) (q .read) (q .msn)))
     (cond (eqb number Number.sequenceNak || eqb number Number.notReadyNak) (with q (q .state) true (q .read))
     (cond (eqb number Number.invalidRequestNak || eqb number Number.accessNak)
     (with q State.error (q .nakmark) (q .read))

@@ -10,7 +10,6 @@ use Rattle.sequence.specs.declared.Class.{Class}
 use Rattle.sequence.specs.declared.Class.the-variants as class
 use Rattle.opcode.specs.Kind as Kind
 use Rattle.opcode.specs.Service as Service
-use Rattle.opcode.specs.Length as Length
 use Rattle.header.specs.Check.{admitted}
 use Rattle.header.specs.declared.Header.{Header}
 use Rattle.header.specs.declared.HeaderRead.{HeaderRead}
@@ -38,54 +37,37 @@ use Rattle.request_spec.specs.Verdict.{carrying, notEnabled, overLimit, keyFail
 use Rattle.request_spec.specs.RequestCheck as RequestCheck
 use Rattle.request_spec.specs.declared.Packet.{Packet}
 use Rattle.responder_spec.specs.declared.Completion.{Completion}
+use Rattle.responder_spec.specs.declared.Change.{Change}
+use Rattle.responder_spec.specs.declared.Progress.{Progress}
+use Rattle.responder_spec.specs.declared.Reply.{Reply}
 use Rattle.responder_spec.specs.declared.Decision.{Decision}
 use Rattle.responder_spec.specs.Arrival.{Arrival}
 use Rattle.responder_spec.specs.Act as Act
 use Rattle.responder_spec.specs.Syndrome as Syndrome
+use Rattle.responder_spec.specs.Reply.{noPacket, nothingSent, sending, readBegun, atomicAckLength}
 
 abbrev pub noCompletion : Completion
 noCompletion = record { some = false; number = 0; length = 0; immediate = false; value = 0 }
 
-abbrev pub noPsn : Psn
-noPsn = record { 0 = 0 }
+-- memory stays
+abbrev pub noChange : Change
+noChange = record { act = Act.nothing; at = 0; start = 0; size = 0; swap = 0; compare = 0 }
 
--- nothing executed: the answer, and the packet that is sent
-abbrev pub replyOnly : Status → ℕ → Psn → ℕ → ℕ → Decision
-replyOnly answer outgoing psn syndrome value =
-    record {
-      status = answer;
-      act = Act.nothing;
-      at = 0;
-      start = 0;
-      size = 0;
-      swap = 0;
-      compare = 0;
-      message = noMessage;
-      psns = 0;
-      ends = false;
-      completion = noCompletion;
-      responses = 0;
-      length = 0;
-      outgoing = outgoing;
-      psn = psn;
-      syndrome = syndrome;
-      value = value;
-    }
+-- the pair does not move on
+abbrev pub noProgress : Progress
+noProgress = record { message = noMessage; psns = 0; ends = false; completion = noCompletion }
+
+-- nothing executed: the answer, and what is sent
+abbrev pub replyOnly : Status → Reply → Decision
+replyOnly answer reply = record { status = answer; change = noChange; progress = noProgress; reply = reply }
 
 -- nothing is sent
 unfoldable pub noReply : Status → Decision
-noReply answer = replyOnly answer 0 noPsn 0 0
-
--- the lengths of an Acknowledge and of an Atomic Acknowledge
-abbrev pub ackLength : ℕ
-ackLength = Length.bth + Length.aeth
-
-abbrev pub atomicAckLength : ℕ
-atomicAckLength = ackLength + Length.atomicAckEth
+noReply answer = replyOnly answer nothingSent
 
 -- an ACK or a NAK is sent
 unfoldable pub acknowledging : Status → Psn → ℕ → Decision
-acknowledging answer psn syndrome = replyOnly answer ackLength psn syndrome 0
+acknowledging answer psn syndrome = replyOnly answer (sending Kind.acknowledge psn syndrome 0)
 
 -- Ahead: the first time a sequence NAK with the expected PSN, while the NAK mark stands nothing
 unfoldable pub aheadDecision : Bool → Psn → Decision
@@ -128,83 +110,69 @@ targetOffset kind m entry region =
     cond (eqb kind Kind.send) (EntryRow.offset entry + m .stored)
     (memoryOffset region (m .address + m .stored) (bytesToCome (m .length) (m .stored)))
 
--- SEND and WRITE, of the message m: acknowledged if AckReq
-unfoldable pub storePayload : Packet → OpenMessage → List ℕ → List ℕ → Decision
-storePayload p m entry region =
+-- SEND and WRITE, of the message m: acknowledged if asked; it takes psns PSNs
+unfoldable pub storePayload : Bool → ℕ → Packet → OpenMessage → List ℕ → List ℕ → Decision
+storePayload asked psns p m entry region =
     record {
-      status = cond (p .ackreq) status.Acknowledged status.Executed;
-      act = Act.store;
-      at = targetOffset (p .kind) m entry region;
-      start = p .start;
-      size = payloadSize p;
-      swap = 0;
-      compare = 0;
-      message = messageAfter (p .place) m (payloadSize p);
-      psns = 1;
-      ends = ends (p .place);
-      completion = completionOf p m (EntryRow.number entry);
-      responses = 0;
-      length = 0;
-      outgoing = cond (p .ackreq) ackLength 0;
-      psn = p .psn;
-      syndrome = Syndrome.ack;
-      value = 0;
+      status = cond asked status.Acknowledged status.Executed;
+      change =
+          record {
+            act = Act.store;
+            at = targetOffset (p .kind) m entry region;
+            start = p .start;
+            size = payloadSize p;
+            swap = 0;
+            compare = 0;
+          };
+      progress =
+          record {
+            message = messageAfter (p .place) m (payloadSize p);
+            psns = psns;
+            ends = ends (p .place);
+            completion = completionOf p m (EntryRow.number entry);
+          };
+      reply = sending (cond asked Kind.acknowledge noPacket) (p .psn) Syndrome.ack 0;
     }
 
--- CmpSwap and FetchAdd; that no message is open stays as it is
+-- a READ or an atomic is a message of one packet; that no message is open stays as it is
+abbrev pub wholeMessage : OpenMessage → ℕ → Progress
+wholeMessage opened psns = record { message = opened; psns = psns; ends = true; completion = noCompletion }
+
+-- CmpSwap and FetchAdd
 unfoldable pub runAtomic : Packet → OpenMessage → OpenMessage → List ℕ → Decision
 runAtomic p m opened region =
     record {
       status = status.AtomicExecuted;
-      act = cond (eqb (p .kind) Kind.fetchAdd) Act.fetchAdd Act.cmpSwap;
-      at = memoryOffset region (m .address) (m .length);
-      start = 0;
-      size = 0;
-      swap = p .operands .swap;
-      compare = p .operands .compare;
-      message = opened;
-      psns = 1;
-      ends = true;
-      completion = noCompletion;
-      responses = 0;
-      length = 0;
-      outgoing = atomicAckLength;
-      psn = p .psn;
-      syndrome = Syndrome.ack;
-      value = 0;
+      change =
+          record {
+            act = cond (eqb (p .kind) Kind.fetchAdd) Act.fetchAdd Act.cmpSwap;
+            at = memoryOffset region (m .address) (m .length);
+            start = 0;
+            size = 0;
+            swap = p .operands .swap;
+            compare = p .operands .compare;
+          };
+      progress = wholeMessage opened 1;
+      reply = sending Kind.atomicAcknowledge (p .psn) Syndrome.ack 0;
     }
 
--- a READ begins to be answered: its responses, from where in memory, with which PSNs
-abbrev pub beginRead : Status → OpenMessage → ℕ → ℕ → ℕ → Bool → ℕ → Psn → Decision
-beginRead answer opened at length psns ends responses psn =
+-- a READ takes a PSN for each of its responses
+abbrev pub beginRead : OpenMessage → ℕ → ℕ → ℕ → Psn → Decision
+beginRead opened offset length responses psn =
     record {
-      status = answer;
-      act = Act.nothing;
-      at = at;
-      start = 0;
-      size = 0;
-      swap = 0;
-      compare = 0;
-      message = opened;
-      psns = psns;
-      ends = ends;
-      completion = noCompletion;
-      responses = responses;
-      length = length;
-      outgoing = 0;
-      psn = psn;
-      syndrome = 0;
-      value = 0;
+      status = status.ReadAccepted;
+      change = noChange;
+      progress = wholeMessage opened responses;
+      reply = readBegun offset length responses psn;
     }
 
 unfoldable pub acceptRead : Packet → OpenMessage → OpenMessage → List ℕ → ℕ → Decision
 acceptRead p m opened region pmtu =
-    beginRead status.ReadAccepted opened (memoryOffset region (m .address) (m .length)) (m .length)
-    (pieces (m .length) pmtu) true (pieces (m .length) pmtu) (p .psn)
+    beginRead opened (memoryOffset region (m .address) (m .length)) (m .length) (pieces (m .length) pmtu) (p .psn)
 
 unfoldable pub execute : Packet → OpenMessage → OpenMessage → List ℕ → List ℕ → ℕ → Decision
 execute p m opened entry region pmtu =
-    cond (carrying (p .kind)) (storePayload p m entry region)
+    cond (carrying (p .kind)) (storePayload (p .ackreq) 1 p m entry region)
     (cond (eqb (p .kind) Kind.read) (acceptRead p m opened region pmtu) (runAtomic p m opened region))
 
 unfoldable pub checkedDecision : ℕ → Packet → Setup → OpenMessage → List ℕ → List ℕ → Decision
@@ -235,11 +203,11 @@ duplicateReadFails p s m expected region =
 unfoldable pub duplicateRead : Packet → Setup → OpenMessage → Psn → List ℕ → Decision
 duplicateRead p s m expected region =
     cond (duplicateReadFails p s m expected region) (noReply status.Dropped)
-    (beginRead status.DuplicateAnswered noMessage (memoryOffset region (m .address) (m .length)) (m .length) 0 false (pieces (m .length) (s .pmtu)) (p .psn))
+    (replyOnly status.DuplicateAnswered (readBegun (memoryOffset region (m .address) (m .length)) (m .length) (pieces (m .length) (s .pmtu)) (p .psn)))
 
 -- A duplicate atomic is answered from what was saved, or not at all
 abbrev pub duplicateAtomic : Saved → Psn → Decision
-duplicateAtomic (Value v) psn = replyOnly status.DuplicateAnswered atomicAckLength psn Syndrome.ack v
+duplicateAtomic (Value v) psn = replyOnly status.DuplicateAnswered (sending Kind.atomicAcknowledge psn Syndrome.ack v)
 duplicateAtomic Nothing psn = noReply status.Dropped
 
 -- an atomic's kind
@@ -296,39 +264,12 @@ abandoning check opened =
     cond (eqb (checkAnswer check) Number.outOfRange) (noReply status.OutOfRange)
     (cond (eqb opened closed) (noReply status.Dropped) (noReply status.Abandoned))
 
--- the decision acknowledged or not, and with so many PSNs taken
-abbrev pub answered : Bool → ℕ → Decision → Decision
-answered asked psns d =
-    record {
-      status = cond asked status.Acknowledged status.Executed;
-      act = d .act;
-      at = d .at;
-      start = d .start;
-      size = d .size;
-      swap = d .swap;
-      compare = d .compare;
-      message = d .message;
-      psns = psns;
-      ends = d .ends;
-      completion = d .completion;
-      responses = d .responses;
-      length = d .length;
-      outgoing = cond asked ackLength 0;
-      psn = d .psn;
-      syndrome = d .syndrome;
-      value = d .value;
-    }
-
--- no reply is sent, whatever AckReq says
-abbrev pub unanswered : ℕ → Decision → Decision
-unanswered psns d = answered false psns d
-
 -- Executed: the PSNs from the expected one up to the packet's own count as taken, so that the one behind it is expected
--- next. Only SEND and WRITE pass the header checks
+-- next; no reply is sent, whatever AckReq says. Only SEND and WRITE pass the header checks
 unfoldable pub ucExecute : Packet → Psn → OpenMessage → List ℕ → List ℕ → Decision
 ucExecute p expected m entry region =
-    cond (carrying (p .kind))
-    (unanswered (1 + distance (p .psn .0) (expected .0)) (storePayload p m entry region)) (noReply status.Dropped)
+    cond (carrying (p .kind)) (storePayload false (1 + distance (p .psn .0) (expected .0)) p m entry region)
+    (noReply status.Dropped)
 
 unfoldable pub ucCheckedDecision : ℕ → Packet → Psn → OpenMessage → List ℕ → List ℕ → Decision
 ucCheckedDecision check p expected opened entry region =

@@ -1,9 +1,9 @@
 pub mod Act
 pub mod Syndrome
 pub mod Arrival
+pub mod Reply
 pub mod Decide
 pub mod Apply
-pub mod Reply
 pub mod Inbound
 pub mod Response
 pub mod Calls

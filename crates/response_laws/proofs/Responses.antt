@@ -14,22 +14,20 @@ use Rattle.header.specs.Write.{followsBy, headerFits, headerLength}
 use Rattle.header.specs.Claims.{Widths}
 use Rattle.header.specs.declared.Header.{Header}
 use Rattle.header.specs.declared.HeaderRead.the-variants.{Accepted}
-use Rattle.header.specs.declared.Answer.the-variants.{Done}
 use Rattle.header.proofs.Widths.{bth-fits, extension-fits}
 use Rattle.header.proofs.Writes.{both-fit}
-use Rattle.packet.specs.Packet.{padOf, packetBytes, packetLength, packetWritten, packetOut, payloadOf}
+use Rattle.packet.specs.Packet.{padOf, packetLength, payloadOf}
 use Rattle.packet.specs.Claims.{Found}
 use Rattle.packet.proofs.Bytes.{length-packet}
 use Rattle.packet.proofs.Pads.{pad-small}
-use Rattle.packet.proofs.ReadBack.{found, writes}
+use Rattle.packet.proofs.ReadBack.{found}
 use Rattle.pmtu.specs.Pieces.{pieces, placeAt, pieceAt, joined}
 use Rattle.pmtu.proofs.Counting.{bounds}
 use Rattle.pmtu.proofs.Cuts.{joins, at-most, places}
 use Rattle.pair.specs.Claims.{Sound}
 use Rattle.pair.specs.declared.Pair.{Pair}
 use Rattle.pair.specs.declared.ReadAnswer.{ReadAnswer}
-use Rattle.responder_spec.specs.Reply.{replyHeader, over}
-use Rattle.responder_spec.specs.Response.{responseOpcode, responseExtension, responsePayload, responseHeader, responseBytes}
+use Rattle.responder_spec.specs.Reply.{readReply, replyHeader, responseOpcode, responseExtension, responsePayload, responseHeader, responseBytes}
 use Rattle.response_laws.specs.Responses.{plainHeader, Answering, asked, ReadsAs, ResponsesRead, ResponsesJoin}
 
 -- a place is First, Middle, Last or Only
@@ -46,9 +44,9 @@ by-place P first middle last only count i = go (eqb count 1) (eqb i 0) (eqb (i +
 -- what opcode and headers have in common at a place
 record Shape (a : ReadAnswer) (place : ℕ) : Type 0 where
   small : responseOpcode place < 64
-  follows : classOf (responseOpcode place) .follows ≡ followsBy (responseExtension place a)
+  follows : classOf (responseOpcode place) .follows ≡ followsBy (responseExtension place (readReply a))
   size : classOf (responseOpcode place) .length ≤ 16
-  widths : a .msn .0 < 2 ^ 24 → Widths (responseExtension place a)
+  widths : a .msn .0 < 2 ^ 24 → Widths (responseExtension place (readReply a))
 
 shape : (a : ReadAnswer) (count i : ℕ) → Shape a (placeAt count i)
 unfolding responseOpcode responseExtension classOf lowClass followsOf lengthOf followsBy
@@ -75,11 +73,11 @@ live q S h = go (S .read)
     go (inl z) = absurd (omega arith)
     go (inr z) = record { within = z .1; psn = z .2; msn = z .3 }
 
-header-fits : (q : Pair) (m : List ℕ) → Answering q m → (i n : ℕ) → headerFits (responseHeader (q .setup) (q .read) i n) ≡ true
+header-fits : (q : Pair) (m : List ℕ) → Answering q m → (i n : ℕ) → headerFits (responseHeader (q .setup) (readReply (q .read)) i n) ≡ true
 unfolding responseHeader replyHeader
 header-fits q m A i n =
     let H = shape (q .read) (pieces (q .read .length) (q .setup .pmtu)) i in
-    let h = responseHeader (q .setup) (q .read) i n in
+    let h = responseHeader (q .setup) (readReply (q .read)) i n in
     both-fit h
     (bth-fits (h .bth) (record {
       opcode = H .small;
@@ -100,10 +98,10 @@ body n pmtu h e = omega arith
 
 module _ (q : Pair) (m : List ℕ) (A : Answering q m) (i : ℕ) where
   payload : List ℕ
-  payload = responsePayload (q .read) (q .setup .pmtu) m i
+  payload = responsePayload (readReply (q .read)) (q .setup .pmtu) m i
 
   h : Header
-  h = responseHeader (q .setup) (q .read) i (length payload)
+  h = responseHeader (q .setup) (readReply (q .read)) i (length payload)
 
   good : headerFits h ≡ true
   unfolding h
@@ -124,42 +122,29 @@ module _ (q : Pair) (m : List ℕ) (A : Answering q m) (i : ℕ) where
   short : packetLength h (length payload) ≤ 4128
   short = omega (arith, size, bounds (q .setup .pmtu) (A .sound .setup .0 .pmtu) .1)
 
-  reads : Found h payload (responseBytes (q .setup) (q .read) m i)
+  reads : Found h payload (responseBytes (q .setup) (readReply (q .read)) m i)
   unfolding h payload responseBytes
   reads = found h payload good pad short
 
-  pub payload-is : payloadOf (responseBytes (q .setup) (q .read) m i) ≡ pieceAt (asked (q .read) m) (q .setup .pmtu) i
+  pub payload-is : payloadOf (responseBytes (q .setup) (readReply (q .read)) m i) ≡ pieceAt (asked (q .read) m) (q .setup .pmtu) i
   unfolding payload responsePayload
   payload-is = reads .payload
 
-  pub room-for : length (responseBytes (q .setup) (q .read) m i) ≤ 16 + q .setup .pmtu
+  pub room-for : length (responseBytes (q .setup) (readReply (q .read)) m i) ≤ 16 + q .setup .pmtu
   unfolding h payload responseBytes
   room-for = omega (arith, length-packet h payload good, size)
 
-  -- the packet writer accepts it, and writes it whole
-  pub written : (out : List ℕ) → 16 + q .setup .pmtu ≤ length out
-      → (packetWritten (responseHeader (q .setup) (q .read) i (length (responsePayload (q .read) (q .setup .pmtu) m i)))
-      (length (responsePayload (q .read) (q .setup .pmtu) m i)) (length out)
-      ≡ Done (length (responseBytes (q .setup) (q .read) m i)))
-      × (packetOut (responseHeader (q .setup) (q .read) i (length (responsePayload (q .read) (q .setup .pmtu) m i))) (responsePayload (q .read) (q .setup .pmtu) m i) out
-      ≡ over (responseBytes (q .setup) (q .read) m i) out)
-  unfolding h payload responseBytes over
-  written out room =
-      let W = writes h payload out good pad short (omega (arith, size)) in
-      let n = length-packet h payload good in
-      (W .0 ∙ ap Done (sym n), W .1 ∙ ap (λ k. packetBytes h payload ++ drop k out) (sym n))
-
   -- by its place
   reads-as : (place : ℕ) → placeAt (pieces (q .read .length) (q .setup .pmtu)) i ≡ place
-      → ReadsAs q m i (responseOpcode place) (responseExtension place (q .read))
+      → ReadsAs q m i (responseOpcode place) (responseExtension place (readReply (q .read)))
   unfolding h payload responseHeader replyHeader pieceAt
   reads-as place e =
       record {
         payload = payload-is;
         header =
             reads .header
-            ∙ (ap (λ x. Accepted (plainHeader (q .setup) (responseOpcode x) (padOf (length payload)) (psnAfter (q .read .psn) i) (responseExtension x (q .read)))) e
-            ∙ ap (λ d. Accepted (plainHeader (q .setup) (responseOpcode place) (padOf (length d)) (psnAfter (q .read .psn) i) (responseExtension place (q .read)))) (sym (reads .payload)));
+            ∙ (ap (λ x. Accepted (plainHeader (q .setup) (responseOpcode x) (padOf (length payload)) (psnAfter (q .read .psn) i) (responseExtension x (readReply (q .read))))) e
+            ∙ ap (λ d. Accepted (plainHeader (q .setup) (responseOpcode place) (padOf (length d)) (psnAfter (q .read .psn) i) (responseExtension place (readReply (q .read))))) (sym (reads .payload)));
         room = room-for;
       }
 
@@ -191,7 +176,7 @@ responses-join q m A =
     let n : length (asked (q .read) m) ≡ q .read .length = asked-length q m A in
     let B : 256 ≤ q .setup .pmtu = bounds (q .setup .pmtu) (A .sound .setup .0 .pmtu) .0 in
     let pos : 0 < q .setup .pmtu = omega arith in (
-      same-joined (λ i. payloadOf (responseBytes (q .setup) (q .read) m i)) (pieceAt (asked (q .read) m) (q .setup .pmtu)) (payload-is q m A) 0 (pieces (q .read .length) (q .setup .pmtu))
+      same-joined (λ i. payloadOf (responseBytes (q .setup) (readReply (q .read)) m i)) (pieceAt (asked (q .read) m) (q .setup .pmtu)) (payload-is q m A) 0 (pieces (q .read .length) (q .setup .pmtu))
           ∙ (ap (λ k. joined (pieceAt (asked (q .read) m) (q .setup .pmtu)) 0 (pieces k (q .setup .pmtu))) (sym n)
           ∙ joins (asked (q .read) m) (q .setup .pmtu) pos),
       n,

@@ -18,7 +18,7 @@ use Rattle.pair.specs.Claims.{Sound}
 use Rattle.pair.specs.declared.Setup.{Setup}
 use Rattle.pair.specs.declared.Pair.{Pair}
 use Rattle.pair.specs.declared.ReadAnswer.{ReadAnswer}
-use Rattle.responder_spec.specs.Response.{responseBytes}
+use Rattle.responder_spec.specs.Reply.{readReply, responseBytes}
 
 -- A header of ours, every field written out: our P_Key, their queue pair number, all flags clear.
 abbrev pub plainHeader : Setup → ℕ → ℕ → Psn → Extension → Header
@@ -58,10 +58,10 @@ acceptance a = Acknowledge (record { syndrome = 31; msn = a .msn })
 
 -- Response i reads as a packet with this opcode and these headers, and carries piece i of the bytes.
 pub record ReadsAs (q : Pair) (bytes : List ℕ) (i opcode : ℕ) (extension : Extension) : Type 0 where
-  pub payload : payloadOf (responseBytes (q .setup) (q .read) bytes i) ≡ take (q .setup .pmtu) (drop (i * q .setup .pmtu) (asked (q .read) bytes))
-  pub header : readHeader (responseBytes (q .setup) (q .read) bytes i)
-      ≡ Accepted (plainHeader (q .setup) opcode (padOf (length (payloadOf (responseBytes (q .setup) (q .read) bytes i)))) (psnAfter (q .read .psn) i) extension)
-  pub room : length (responseBytes (q .setup) (q .read) bytes i) ≤ 16 + q .setup .pmtu
+  pub payload : payloadOf (responseBytes (q .setup) (readReply (q .read)) bytes i) ≡ take (q .setup .pmtu) (drop (i * q .setup .pmtu) (asked (q .read) bytes))
+  pub header : readHeader (responseBytes (q .setup) (readReply (q .read)) bytes i)
+      ≡ Accepted (plainHeader (q .setup) opcode (padOf (length (payloadOf (responseBytes (q .setup) (readReply (q .read)) bytes i)))) (psnAfter (q .read .psn) i) extension)
+  pub room : length (responseBytes (q .setup) (readReply (q .read)) bytes i) ≤ 16 + q .setup .pmtu
 
 -- First, Middle, Last and Only are opcodes 13 to 16; a Middle has no AETH.
 pub record Responses (q : Pair) (bytes : List ℕ) (count : ℕ) : Type 0 where
@@ -77,5 +77,5 @@ ResponsesRead = (q : Pair) (m : List ℕ) → Answering q m → Responses q m (p
 abbrev pub ResponsesJoin : Type 0
 ResponsesJoin =
     (q : Pair) (m : List ℕ) → Answering q m
-    → (joined (λ i. payloadOf (responseBytes (q .setup) (q .read) m i)) 0 (pieces (q .read .length) (q .setup .pmtu)) ≡ asked (q .read) m)
+    → (joined (λ i. payloadOf (responseBytes (q .setup) (readReply (q .read)) m i)) 0 (pieces (q .read .length) (q .setup .pmtu)) ≡ asked (q .read) m)
     × (length (asked (q .read) m) ≡ q .read .length)

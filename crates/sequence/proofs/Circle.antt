@@ -102,3 +102,7 @@ unfolding psnClass classAt
 too-far-behind start =
     let d : distance (after start 0) (after start 8388608) ≡ 8388608 = omega arith in
     rw d
+
+-- a count of numbers may be cut to its remainder
+pub after-rest : (x n : ℕ) → (x + n % 16777216) % 16777216 ≡ (x + n) % 16777216
+after-rest x n = omega arith

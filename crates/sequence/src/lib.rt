@@ -39,6 +39,13 @@ impl Psn {
         Psn((self.0 % Psn::SPACE + n % Psn::SPACE) % Psn::SPACE)
     }
 
+    // The same for any count.
+    pub fn after_count(self, n: usize) -> Psn
+        ensures { λ r. ⌜ r ≡ psnAfter self n ⌝ }
+    {
+        self.after((n % Psn::SPACE as usize) as u32)
+    }
+
     // The next number: after the last comes the first.
     pub fn next(self) -> Psn
         ensures { λ r. ⌜ r ≡ psnAfter self 1 ⌝ }

@@ -34,7 +34,7 @@ use Rattle.responder_spec.specs.Syndrome as Syndrome
 use Rattle.responder_spec.specs.Decide.{aheadDecision, failed, checkedDecision, expectedDecision, psnBefore}
 use Rattle.responder_spec.specs.Decide.{duplicateReadFails, duplicateRead, duplicateAtomic, isAtomic}
 use Rattle.responder_spec.specs.Decide.{duplicateDecision, regionFor, headEntry, decisionByClass, rcDecision}
-use Rattle.responder_spec.specs.Decide.{orphaned, strays, closedBy, abandoning, unanswered, storePayload}
+use Rattle.responder_spec.specs.Decide.{orphaned, strays, closedBy, abandoning, storePayload}
 use Rattle.responder_spec.specs.Decide.{ucExecute, ucCheckedDecision, ucDecision, packetDecision, orDrop}
 use Rattle.responder_spec.specs.Decide.{readsFull, inboundRefusal, decision}
 use Rattle.responder_spec.specs.Steady.{Steady}
@@ -97,16 +97,14 @@ module _ (w : Whole) (W : Steady w) (p : Packet) where
       (regionFor (p .kind) (m .key) (w .regions))
       → carrying (p .kind) ≡ true
       → Does w
-      (unanswered (1 + distance (p .psn .0) (w .pair .expected .0))
-      (storePayload p m (headEntry (w .pair) (w .entries)) (regionFor (p .kind) (m .key) (w .regions))))
+      (storePayload false (1 + distance (p .psn .0) (w .pair .expected .0)) p m (headEntry (w .pair) (w .entries)) (regionFor (p .kind) (m .key) (w .regions)))
 
   took-closed : At (current (closedBy (p .place) (w .pair .message)) p)
-  unfolding statusNumber
   took-closed C c =
       let D =
       storing-does (withPair w (viewed (p .place) (w .pair))) (viewed-steady w W (p .place)) p
-      C c in
-      record { number = refl; entry = D .entry; message = D .message; read = D .read; psn = D .psn }
+      C false (1 + distance (p .psn .0) (w .pair .expected .0)) c in
+      record { number = D .number; entry = D .entry; message = D .message; read = D .read; psn = D .psn }
 
   took : At (current (w .pair .message) p)
   took = subst At (current-closed (w .pair .message) p) took-closed
@@ -126,7 +124,7 @@ module _ (w : Whole) (W : Steady w) where
 
   atomic-leads : (s : Saved) (psn : Psn) → Leads w (duplicateAtomic s psn)
   unfolding statusNumber
-  atomic-leads (Value v) psn = reply-only-leads w W status.DuplicateAnswered 24 psn Syndrome.ack v refl
+  atomic-leads (Value v) psn = reply-only-leads w W status.DuplicateAnswered 18 psn Syndrome.ack v refl
   atomic-leads Nothing psn = quiet-leads w W status.Dropped refl
 
   module _ (p : Packet) (n : p .psn .0 < 2 ^ 24) (s : p .kind ≡ 12 → starts (p .place) ≡ true) where

@@ -200,11 +200,11 @@ module _ (w : Whole) (W : Steady w) where
               let a = write-fits k c e in
               inr (inr (same-kind ∙ k, a, write-limit k, write-top k a))
 
-      pub storing-does : carrying (p .kind) ≡ true → Does w (storePayload p message entry region)
+      pub storing-does : (asked : Bool) (psns : ℕ) → carrying (p .kind) ≡ true → Does w (storePayload asked psns p message entry region)
       unfolding storePayload completionOf actsAtomic statusNumber
-      storing-does c =
+      storing-does asked psns c =
           record {
-            number = acks (p .ackreq);
+            number = acks asked;
             entry = λ e. done-entry (sym (same (completes (p .kind) (p .place) (p .operands .immediate)) _) ∙ e);
             message = subst (λ t. Opens w t (messageAfter (p .place) message (payloadSize p))) (sym (same (completes (p .kind) (p .place) (p .operands .immediate)) _)) (opens c);
             read = inl refl;
@@ -252,5 +252,5 @@ module _ (w : Whole) (W : Steady w) where
         pub execute-leads : Leads w (execute p message (w .pair .message) entry region (w .pair .setup .pmtu))
         unfolding execute
         execute-leads =
-            branch w (carrying (p .kind)) _ _ (λ c. does-leads w W _ (storing-does c))
+            branch w (carrying (p .kind)) _ _ (λ c. does-leads w W _ (storing-does (p .ackreq) 1 c))
             (λ c. branch w (eqb (p .kind) 12) _ _ (λ e. does-leads w W _ (read-does (eqb-true (p .kind) 12 e))) (λ e. does-leads w W _ atomic-does))

@@ -69,16 +69,16 @@ psn-below p B = omega (arith, B 9, B (9 + 1), B (9 + 1 + 1))
 
 -- what is saved after a decision: as before, or one atomic more, of a PSN of 24 bits and a word of memory
 saved-sound : (w : Whole) (d : Decision) (m : List ℕ) → Bytes m → WholeSound w → Leads w d
-    → SavedSound (savedBy (w .pair .saved) d (w .saved) m) (pairBy (w .pair) d .saved)
+    → SavedSound (savedBy (w .pair .saved) (d .change) (d .reply .psn) (w .saved) m) (pairBy (w .pair) d .saved)
 unfolding savedBy savedRingBy
 saved-sound w d m B W L =
-    subst (SavedSound (savedBy (w .pair .saved) d (w .saved) m)) (sym (L .saved)) (go (actsAtomic (d .act)) refl)
+    subst (SavedSound (savedBy (w .pair .saved) (d .change) (d .reply .psn) (w .saved) m)) (sym (L .saved)) (go (actsAtomic (d .change .act)) refl)
   where
-    go : (b : Bool) → actsAtomic (d .act) ≡ b
-        → SavedSound (cond b (savedRows (w .saved) (w .pair .saved) (d .psn .0) (wordAt m (d .at))) (w .saved)) (cond b (savedRing (w .pair .saved)) (w .pair .saved))
+    go : (b : Bool) → actsAtomic (d .change .act) ≡ b
+        → SavedSound (cond b (savedRows (w .saved) (w .pair .saved) (d .reply .psn .0) (wordAt m (d .change .at))) (w .saved)) (cond b (savedRing (w .pair .saved)) (w .pair .saved))
     go true e =
         let r = W .pair .saved in
-        saves-sound (w .saved) (w .pair .saved) (d .psn .0) (wordAt m (d .at)) (W .saved) (r .0) (r .1) (L .psn e) (word-below m (d .at) B) .0
+        saves-sound (w .saved) (w .pair .saved) (d .reply .psn .0) (wordAt m (d .change .at)) (W .saved) (r .0) (r .1) (L .psn e) (word-below m (d .change .at) B) .0
     go false e = W .saved
 
 pub inbound-sound : InboundSound

@@ -27,7 +27,8 @@ use Rattle.pair.specs.declared.Status.{Status}
 use Rattle.pair.specs.declared.Status.the-variants as status
 use Rattle.pair.specs.Pair.{noMessage}
 use Rattle.responder_spec.specs.declared.Decision.{Decision}
-use Rattle.responder_spec.specs.Decide.{noPsn, replyOnly, noReply, acknowledging, beginRead, headEntry}
+use Rattle.responder_spec.specs.Reply.{noPsn, sending, readBegun}
+use Rattle.responder_spec.specs.Decide.{replyOnly, noReply, acknowledging, headEntry}
 use Rattle.responder_spec.specs.Apply.{actsAtomic, savedRingBy, ringTaken, entriesBy, msnBy, readAnswerBy, executedPair, with, closing, pairByNumber, pairBy}
 use Rattle.responder_spec.specs.Steady.{Steady}
 use Rattle.decision_laws.proofs.Views.{closes, sound-with}
@@ -36,9 +37,9 @@ use Rattle.decision_laws.proofs.Views.{closes, sound-with}
 -- its PSN has 24 bits
 pub record Leads (w : Whole) (d : Decision) : Type 0 where
   pub steady : Steady (withPair w (pairBy (w .pair) d))
-  pub entry : d .completion .some ≡ true → 1 ≤ w .pair .entries .count
-  pub saved : pairBy (w .pair) d .saved ≡ savedRingBy (w .pair .saved) (d .act)
-  pub psn : actsAtomic (d .act) ≡ true → d .psn .0 < 2 ^ 24
+  pub entry : d .progress .completion .some ≡ true → 1 ≤ w .pair .entries .count
+  pub saved : pairBy (w .pair) d .saved ≡ savedRingBy (w .pair .saved) (d .change .act)
+  pub psn : actsAtomic (d .change .act) ≡ true → d .reply .psn .0 < 2 ^ 24
 
 pub branch : (w : Whole) (b : Bool) (x y : Decision) → (b ≡ true → Leads w x) → (b ≡ false → Leads w y) → Leads w (cond b x y)
 branch w true x y f g = f refl
@@ -101,13 +102,13 @@ module _ (w : Whole) (W : Steady w) where
   lasts : (state : ℕ) (nakmark : Bool) → state ≤ 2 → Lasting w (with (w .pair) state nakmark (w .pair .read))
   lasts state nakmark h = record { steady = with-steady w state nakmark (w .pair .read) W h (W .pair .read); saved = refl }
 
-  pub reply-only-leads : (s : Status) (outgoing : ℕ) (psn : Psn) (syndrome value : ℕ) → leb (statusNumber s) 3 ≡ false
-      → Leads w (replyOnly s outgoing psn syndrome value)
+  pub reply-only-leads : (s : Status) (kind : ℕ) (psn : Psn) (syndrome value : ℕ) → leb (statusNumber s) 3 ≡ false
+      → Leads w (replyOnly s (sending kind psn syndrome value))
   unfolding pairBy pairByNumber readAnswerBy savedRingBy actsAtomic
-  reply-only-leads s outgoing psn syndrome value h =
+  reply-only-leads s kind psn syndrome value h =
       record { steady = L .steady; entry = λ e. absurd (true≢false (sym e)); saved = L .saved; psn = λ e. absurd (true≢false (sym e)) }
     where
-      L : Lasting w (pairBy (w .pair) (replyOnly s outgoing psn syndrome value))
+      L : Lasting w (pairBy (w .pair) (replyOnly s (sending kind psn syndrome value)))
       L =
           rw h
           (either w (eqb (statusNumber s) 4) _ _ (lasts (w .pair .state) _ (W .pair .state))
@@ -117,16 +118,16 @@ module _ (w : Whole) (W : Steady w) where
 
   pub quiet-leads : (s : Status) → leb (statusNumber s) 3 ≡ false → Leads w (noReply s)
   unfolding noReply
-  quiet-leads s h = reply-only-leads s 0 noPsn 0 0 h
+  quiet-leads s h = reply-only-leads s 255 noPsn 0 0 h
 
   pub ack-leads : (s : Status) (psn : Psn) (syndrome : ℕ) → leb (statusNumber s) 3 ≡ false → Leads w (acknowledging s psn syndrome)
   unfolding acknowledging
-  ack-leads s psn syndrome h = reply-only-leads s 16 psn syndrome 0 h
+  ack-leads s psn syndrome h = reply-only-leads s 17 psn syndrome 0 h
 
   -- a duplicate READ answered
   pub duplicate-read-leads : (at length responses : ℕ) (psn : Psn)
       → responses ≤ pieces length (w .pair .setup .pmtu) → at + length ≤ w .pair .setup .memory → psn .0 < 2 ^ 24
-      → Leads w (beginRead status.DuplicateAnswered noMessage at length 0 false responses psn)
+      → Leads w (replyOnly status.DuplicateAnswered (readBegun at length responses psn))
   unfolding pairBy pairByNumber readAnswerBy savedRingBy actsAtomic statusNumber
   duplicate-read-leads at length responses psn a b c =
       record {
@@ -151,11 +152,11 @@ Opens w some m =
 
 pub record Does (w : Whole) (d : Decision) : Type 0 where
   pub number : leb (statusNumber (d .status)) 3 ≡ true
-  pub entry : d .completion .some ≡ true → 1 ≤ w .pair .entries .count
-  pub message : Opens w (d .completion .some) (d .message)
-  pub read : (d .responses ≡ 0)
-      ⊎ ((d .responses ≤ pieces (d .length) (w .pair .setup .pmtu)) × (d .at + d .length ≤ w .pair .setup .memory) × (d .psn .0 < 2 ^ 24))
-  pub psn : actsAtomic (d .act) ≡ true → d .psn .0 < 2 ^ 24
+  pub entry : d .progress .completion .some ≡ true → 1 ≤ w .pair .entries .count
+  pub message : Opens w (d .progress .completion .some) (d .progress .message)
+  pub read : (d .reply .remaining ≡ 0)
+      ⊎ ((d .reply .remaining ≤ pieces (d .reply .length) (w .pair .setup .pmtu)) × (d .reply .offset + d .reply .length ≤ w .pair .setup .memory) × (d .reply .psn .0 < 2 ^ 24))
+  pub psn : actsAtomic (d .change .act) ≡ true → d .reply .psn .0 < 2 ^ 24
 
 -- the rings stay within their tables, and the entries behind the one taken are as they were
 saved-within : (r : Ring) (act : ℕ) → (r .head < savedCapacity) × (r .count ≤ savedCapacity)
@@ -192,12 +193,12 @@ module _ (w : Whole) (W : Steady w) (d : Decision) (D : Does w d) where
 
   done-message : MessageSound done
   unfolding executedPair entriesBy
-  done-message = go (d .completion .some) (D .message)
+  done-message = go (d .progress .completion .some) (D .message)
     where
-      go : (t : Bool) → Opens w t (d .message)
-          → (d .message .kind ≡ 255)
-          ⊎ (((d .message .kind ≡ 0) × (1 ≤ cond t (ringTaken (w .pair .entries)) (w .pair .entries) .count) × (d .message .stored ≤ 1048576))
-          ⊎ ((d .message .kind ≡ 6) × (d .message .stored < d .message .length) × (d .message .length ≤ 1048576) × (d .message .address + d .message .stored < 2 ^ 64)))
+      go : (t : Bool) → Opens w t (d .progress .message)
+          → (d .progress .message .kind ≡ 255)
+          ⊎ (((d .progress .message .kind ≡ 0) × (1 ≤ cond t (ringTaken (w .pair .entries)) (w .pair .entries) .count) × (d .progress .message .stored ≤ 1048576))
+          ⊎ ((d .progress .message .kind ≡ 6) × (d .progress .message .stored < d .progress .message .length) × (d .progress .message .length ≤ 1048576) × (d .progress .message .address + d .progress .message .stored < 2 ^ 64)))
       go t (inl e) = inl e
       go true (inr (inl (e, f, x, y, z))) = absurd (true≢false f)
       go false (inr (inl (e, f, x, y, z))) = inr (inl (e, x, y))
@@ -205,10 +206,10 @@ module _ (w : Whole) (W : Steady w) (d : Decision) (D : Does w d) where
 
   done-held : done .message .kind ≡ 0 → done .message .stored ≤ getD (headEntry done (w .entries)) 2 0
   unfolding executedPair entriesBy
-  done-held k = go (d .completion .some) (D .message)
+  done-held k = go (d .progress .completion .some) (D .message)
     where
-      go : (t : Bool) → Opens w t (d .message)
-          → d .message .stored ≤ getD (getD (w .entries) (entrySlot (cond t (ringTaken (w .pair .entries)) (w .pair .entries) .head) 0) []) 2 0
+      go : (t : Bool) → Opens w t (d .progress .message)
+          → d .progress .message .stored ≤ getD (getD (w .entries) (entrySlot (cond t (ringTaken (w .pair .entries)) (w .pair .entries) .head) 0) []) 2 0
       go t (inl e) = absurd (omega arith)
       go true (inr (inl (e, f, x, y, z))) = absurd (true≢false f)
       go false (inr (inl (e, f, x, y, z))) = z
@@ -216,17 +217,17 @@ module _ (w : Whole) (W : Steady w) (d : Decision) (D : Does w d) where
 
   done-read : ReadSound done
   unfolding executedPair readAnswerBy
-  done-read = go (eqb (d .responses) 0) refl (D .read)
+  done-read = go (eqb (d .reply .remaining) 0) refl (D .read)
     where
-      go : (t : Bool) → eqb (d .responses) 0 ≡ t
-          → (d .responses ≡ 0)
-          ⊎ ((d .responses ≤ pieces (d .length) (w .pair .setup .pmtu)) × (d .at + d .length ≤ w .pair .setup .memory) × (d .psn .0 < 2 ^ 24))
+      go : (t : Bool) → eqb (d .reply .remaining) 0 ≡ t
+          → (d .reply .remaining ≡ 0)
+          ⊎ ((d .reply .remaining ≤ pieces (d .reply .length) (w .pair .setup .pmtu)) × (d .reply .offset + d .reply .length ≤ w .pair .setup .memory) × (d .reply .psn .0 < 2 ^ 24))
           → Answering (w .pair)
           (cond t (w .pair .read)
-          (record { remaining = d .responses; offset = d .at; length = d .length; psn = d .psn; msn = msnBy (d .ends) (w .pair .msn) }))
+          (record { remaining = d .reply .remaining; offset = d .reply .offset; length = d .reply .length; psn = d .reply .psn; msn = msnBy (d .progress .ends) (w .pair .msn) }))
       go true e r = W .pair .read
-      go false e (inl z) = absurd (eqb-false (d .responses) 0 e z)
-      go false e (inr (a, b, c)) = inr (a, b, c, msn-below (d .ends) (w .pair .msn) (W .pair .msn))
+      go false e (inl z) = absurd (eqb-false (d .reply .remaining) 0 e z)
+      go false e (inr (a, b, c)) = inr (a, b, c, msn-below (d .progress .ends) (w .pair .msn) (W .pair .msn))
 
   done-steady : Steady (withPair w done)
   unfolding executedPair
@@ -237,15 +238,15 @@ module _ (w : Whole) (W : Steady w) (d : Decision) (D : Does w d) where
             record {
               setup = S .setup;
               state = S .state;
-              expected = after-below (w .pair .expected) (d .psns);
-              msn = msn-below (d .ends) (w .pair .msn) (S .msn);
-              entries = entries-within (w .pair .entries) (d .completion .some) (S .entries);
-              saved = saved-within (w .pair .saved) (d .act) (S .saved);
+              expected = after-below (w .pair .expected) (d .progress .psns);
+              msn = msn-below (d .progress .ends) (w .pair .msn) (S .msn);
+              entries = entries-within (w .pair .entries) (d .progress .completion .some) (S .entries);
+              saved = saved-within (w .pair .saved) (d .change .act) (S .saved);
               message = done-message;
               read = done-read;
             };
         regions = W .regions;
-        entries = entries-kept (w .pair .setup .memory) (w .entries) (w .pair .entries) (d .completion .some) (W .entries);
+        entries = entries-kept (w .pair .setup .memory) (w .entries) (w .pair .entries) (d .progress .completion .some) (W .entries);
         held = done-held;
       }
 

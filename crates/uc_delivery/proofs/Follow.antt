@@ -25,7 +25,7 @@ use Rattle.cut_spec.specs.declared.Request.{Request}
 use Rattle.cut_spec.specs.declared.Request.the-variants.{Send, SendImmediate, Write, WriteImmediate, Read, CmpSwap, FetchAdd}
 use Rattle.request_spec.specs.Verdict.{carrying, usesEntry, payloadSize, current, requestCheck, expectedCheck}
 use Rattle.responder_spec.specs.declared.Decision.{Decision}
-use Rattle.responder_spec.specs.Decide.{decision, regionFor, closedBy, orphaned, strays, completionOf, messageAfter, storePayload, unanswered}
+use Rattle.responder_spec.specs.Decide.{decision, regionFor, closedBy, orphaned, strays, completionOf, messageAfter, storePayload}
 use Rattle.responder_spec.specs.Apply.{memoryBy, entriesBy, msnBy}
 use Rattle.answer_laws.specs.Answers.{Willing}
 use Rattle.responder_spec.specs.Steady.{Steady}
@@ -254,19 +254,19 @@ module _ (w : Whole) (m : Message) (first : Psn) (P : Permitted (w .pair .setup)
         (sym (same-code (w .pair .setup) u (cutPacket t) E (w .pair .entries .count) entry region (F .stray)) ∙ code-zero)
 
     abbrev d : Decision
-    d = storePayload (cutPacket (slot i)) M entry region
+    d = storePayload false (1 + distance (cutPacket t .psn .0) (E .0)) (cutPacket t) M entry region
 
     W : (out : List ℕ) → 24 ≤ length out → Willing (handing x (packetAt t) out)
     W out o = record { room = o; memory = ml; sound = Y .pair; idle = idle }
 
     decides : (out : List ℕ) → 24 ≤ length out
-        → decision (handing x (packetAt t) out) ≡ unanswered (1 + distance (cutPacket t .psn .0) (E .0)) d
+        → decision (handing x (packetAt t) out) ≡ d
     decides out o =
         let c = current-closed u (cutPacket t) in
         decided-is x out t (W out o) uc ready (H .outgoing)
         ∙ (delivers (cutPacket t) (w .pair .setup) E u (w .pair .entries .count) entry (regionFor (kindNumber (m .request)) (current u (cutPacket t) .key) (w .regions))
         (F .orphan) (F .stray) (code-is (current u (cutPacket t)) c) (carries-bytes (m .request) Cr)
-        ∙ ap (λ y. unanswered (1 + distance (cutPacket t .psn .0) (E .0)) (storePayload (cutPacket t) y entry (regionFor (kindNumber (m .request)) (y .key) (w .regions)))) (sym c))
+        ∙ ap (λ y. storePayload false (1 + distance (cutPacket t .psn .0) (E .0)) (cutPacket t) y entry (regionFor (kindNumber (m .request)) (y .key) (w .regions))) (sym c))
 
     C : Carries (m .request)
     C = kinds (m .request) Cr .0
@@ -274,8 +274,8 @@ module _ (w : Whole) (m : Message) (first : Psn) (P : Permitted (w .pair .setup)
     abbrev piece : List ℕ
     piece = pieceAt (m .bytes) (m .connection .pmtu) i
 
-    memory-is : Sends (m .request) ⊎ Writes (m .request) → memoryBy d mem (packetAt t) ≡ overwrite mem (target (m .request) (w .regions) (firstWaiting w) + i * m .connection .pmtu) piece
-    unfolding outside
+    memory-is : Sends (m .request) ⊎ Writes (m .request) → memoryBy (d .change) mem (packetAt t) ≡ overwrite mem (target (m .request) (w .regions) (firstWaiting w) + i * m .connection .pmtu) piece
+    unfolding outside storePayload
     memory-is (inl Z) =
         let o : getD entry 1 0 + getD entry 2 0 ≤ w .pair .setup .memory =
         ltb-false (w .pair .setup .memory) (getD entry 1 0 + getD entry 2 0) (entry-fits (w .pair .setup .memory) (w .entries) (w .pair .entries) (Y .entries) (sup .some (Z .takesEntry))) in
@@ -304,7 +304,7 @@ module _ (w : Whole) (m : Message) (first : Psn) (P : Permitted (w .pair .setup)
     unfolding storePayload
     steps out o =
         let k = kinds (m .request) Cr .1 in
-        taken-is x (packetAt t) out (unanswered (1 + distance (cutPacket t .psn .0) (E .0)) d) (decides out o)
+        taken-is x (packetAt t) out d (decides out o)
         ∙ (stored-out w E n b u (w .pair .entries) mem cs (packetAt t) (cutPacket t) M entry region
         ∙ λ j.
         at w (psnAfter (psnAfter first i) 1) (msnBy (ends-is (w .pair .setup) (w .regions) f t H v (held i) (F .opened) j) n) false (messageAfter (placeFor t) M (payloadSize (cutPacket t)))

@@ -24,7 +24,7 @@ use Rattle.cut_spec.specs.Claims.{Carrier, InLimit, kindNumber}
 use Rattle.cut_spec.specs.declared.Request.{Request}
 use Rattle.cut_spec.specs.declared.Request.the-variants.{Send, SendImmediate, Write, WriteImmediate, Read, CmpSwap, FetchAdd}
 use Rattle.request_spec.specs.Verdict.{carrying, current, requestCheck, checkAnswer}
-use Rattle.responder_spec.specs.Decide.{decision, headEntry, regionFor, noReply, orphaned, strays, closedBy, abandoning, completes, completionOf, storePayload, unanswered, ucExecute, ucCheckedDecision, ucDecision}
+use Rattle.responder_spec.specs.Decide.{decision, headEntry, regionFor, noReply, orphaned, strays, closedBy, abandoning, completes, completionOf, storePayload, ucExecute, ucCheckedDecision, ucDecision}
 use Rattle.responder_spec.specs.Apply.{executedPair, pairBy, pairByNumber, readAnswerBy, entriesBy, msnBy}
 use Rattle.responder_spec.specs.Inbound.{inbound, leftBy}
 use Rattle.responder_spec.specs.declared.Decision.{Decision}
@@ -51,7 +51,7 @@ same a b h k e = omega arith
 pub data Went (q : Pair) (t : Slot) : Decision → Type 0 where
   nothing : q .message .kind ≡ 255 → Went q t (noReply status.Dropped)
   shut : Went q t (noReply status.Abandoned)
-  ran : (u : OpenMessage) (entry region : List ℕ) → Went q t (unanswered (1 + distance (cutPacket t .psn .0) (q .expected .0)) (storePayload (cutPacket t) u entry region))
+  ran : (u : OpenMessage) (entry region : List ℕ) → Went q t (storePayload false (1 + distance (cutPacket t .psn .0) (q .expected .0)) (cutPacket t) u entry region)
   outside : Went q t (noReply status.OutOfRange)
 
 module _ (outs : ℕ → List ℕ) (m : Message) (first : Psn) (x : Run) (K : MayCome outs m first x) (i : ℕ) (h : i < packetCount m) where

@@ -17,7 +17,7 @@ use Rattle.pair.specs.declared.Pair.{Pair}
 use Rattle.cut_spec.specs.Claims.{kindNumber}
 use Rattle.request_spec.specs.Verdict.{carrying, current, requestCheck}
 use Rattle.request_spec.specs.declared.Packet.{Packet}
-use Rattle.responder_spec.specs.Decide.{decision, packetDecision, headEntry, regionFor, orphaned, strays, closedBy, storePayload, unanswered, ucExecute, ucCheckedDecision, ucDecision}
+use Rattle.responder_spec.specs.Decide.{decision, packetDecision, headEntry, regionFor, orphaned, strays, closedBy, storePayload, ucExecute, ucCheckedDecision, ucDecision}
 use Rattle.responder_spec.specs.Apply.{executedPair, pairBy, memoryBy, savedBy, savedRingBy, entriesBy, msnBy, readAnswerBy, actsAtomic, pairByNumber}
 use Rattle.answer_laws.specs.Answers.{Willing}
 use Rattle.responder_spec.specs.Calls.{reports}
@@ -85,15 +85,15 @@ at w expected msn nakmark message entries memory completions =
 -- a payload stored, and no answer sent
 pub stored-out : (w : Whole) (e : Psn) (n : Msn) (b : Bool) (u : OpenMessage) (r : Ring) (m : List ℕ) (cs : List Completion)
     (p : List ℕ) (k : Packet) (t : OpenMessage) (entry region : List ℕ)
-    → let d = storePayload k t entry region in
-    stepBy (at w e n b u r m cs) (unanswered (1 + distance (k .psn .0) (e .0)) d) p
-    ≡ at w (psnAfter (k .psn) 1) (msnBy (d .ends) n) false (d .message) (entriesBy (d .completion .some) r) (memoryBy d m p) (cs ++ reports (d .completion))
+    → let d = storePayload false (1 + distance (k .psn .0) (e .0)) k t entry region in
+    stepBy (at w e n b u r m cs) d p
+    ≡ at w (psnAfter (k .psn) 1) (msnBy (d .progress .ends) n) false (d .progress .message) (entriesBy (d .progress .completion .some) r) (memoryBy (d .change) m p) (cs ++ reports (d .progress .completion))
 unfolding pairBy pairByNumber statusNumber executedPair storePayload readAnswerBy savedRingBy savedBy actsAtomic memoryBy
 stored-out w e n b u r m cs p k t entry region =
+    let d = storePayload false (1 + distance (k .psn .0) (e .0)) k t entry region in
     ap
-    (λ x. at w x (msnBy (storePayload k t entry region .ends) n) false (storePayload k t entry region .message)
-    (entriesBy (storePayload k t entry region .completion .some) r) (memoryBy (storePayload k t entry region) m p)
-    (cs ++ reports (storePayload k t entry region .completion)))
+    (λ x. at w x (msnBy (d .progress .ends) n) false (d .progress .message) (entriesBy (d .progress .completion .some) r)
+    (memoryBy (d .change) m p) (cs ++ reports (d .progress .completion)))
     (number-taken (k .psn) e)
 
 -- what the rules decide of a SEND or WRITE that follows and passes the checks
@@ -103,6 +103,6 @@ pub delivers : (p : Packet) (s : Setup) (expected : Psn) (opened : OpenMessage) 
     → requestCheck s (closedBy (p .place) opened) p count entry region ≡ 0
     → carrying (p .kind) ≡ true
     → ucDecision p s expected opened count entry region
-    ≡ unanswered (1 + distance (p .psn .0) (expected .0)) (storePayload p (current opened p) entry region)
+    ≡ storePayload false (1 + distance (p .psn .0) (expected .0)) p (current opened p) entry region
 unfolding ucDecision ucCheckedDecision ucExecute
 delivers p s expected opened count entry region o t z c = rw (o, t, z, c)

@@ -113,11 +113,11 @@ fn put_executed(w: &mut [u64], next: Pair, d: Decision)
     let message = next.message;
     put_message(w, message);
     let entries = next.entries;
-    put_entries_if(w, d.completion.some, entries);
+    put_entries_if(w, d.progress.completion.some, entries);
     let read = next.read;
-    put_read_if(w, d.responses, read);
+    put_read_if(w, d.reply.remaining, read);
     let saved = next.saved;
-    put_saved_if(w, d.act, saved);
+    put_saved_if(w, d.change.act, saved);
 }
 
 // Writes the pair that a decision leaves, by its answer: executed, a duplicate that may begin a READ's answer, an
@@ -133,7 +133,7 @@ pub(crate) fn put_left(w: &mut [u64], next: Pair, d: Decision)
     }
     if number == 4 {
         let read = next.read;
-        put_read_if(w, d.responses, read);
+        put_read_if(w, d.reply.remaining, read);
         return;
     }
     if number == 6 {

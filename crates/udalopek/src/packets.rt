@@ -38,12 +38,12 @@ pub extern "C" fn udalopek_inbound(
     let stray = abi::strays(pair);
     let q = abi::pair_said(stray, pair);
     let d = responder::decided(q, regions, entries, saved, mem, packet, out);
-    let value = apply::change(mem, packet, d);
-    apply::keep(saved, q.saved, d.act, d.psn, value);
+    let value = apply::change(mem, packet, d.change, d.reply.value);
+    apply::keep(saved, q.saved, d.change.act, d.reply.psn, value);
     let next = apply::pair_after(q, d);
-    acknowledge::write(out, q.setup, d, next.msn, value);
-    let completion = d.completion;
-    *report = report_words(d.outgoing, completion);
+    let reply = acknowledge::reply_with(d.reply, next.msn, value);
+    let outgoing = acknowledge::write_ack(out, q.setup, reply);
+    *report = report_words(outgoing, d.progress.completion);
     left::put_left(pair, next, d);
     let status = d.status;
     status.number()

@@ -68,9 +68,9 @@ module _ (q : Pair) (e : Psn) (n : Msn) (m : OpenMessage) (r s : Ring) (a : Read
 executed-is : (q : Pair) (d : Decision) → executedPut (pairWords q) (executedPair q d) d ≡ pairWords (executedPair q d)
 unfolding executedPut entriesPutIf readPutIf savedPutIf executedPair entriesBy readAnswerBy savedRingBy
 executed-is q d =
-    written-is q (psnAfter (q .expected) (d .psns)) (msnBy (d .ends) (q .msn)) (d .message) (ringTaken (q .entries)) (savedRing (q .saved))
-    (record { remaining = d .responses; offset = d .at; length = d .length; psn = d .psn; msn = msnBy (d .ends) (q .msn) })
-    (d .completion .some) (eqb (d .responses) 0) (actsAtomic (d .act))
+    written-is q (psnAfter (q .expected) (d .progress .psns)) (msnBy (d .progress .ends) (q .msn)) (d .progress .message) (ringTaken (q .entries)) (savedRing (q .saved))
+    (record { remaining = d .reply .remaining; offset = d .reply .offset; length = d .reply .length; psn = d .reply .psn; msn = msnBy (d .progress .ends) (q .msn) })
+    (d .progress .completion .some) (eqb (d .reply .remaining) 0) (actsAtomic (d .change .act))
 
 put-read : (q : Pair) (a : ReadAnswer)
     → readPut (pairWords q) a
@@ -81,10 +81,10 @@ put-read q a = refl
 -- a duplicate
 duplicate-is : (q : Pair) (d : Decision) → putByNumber (pairWords q) (pairByNumber q d 4) d 4 ≡ pairWords (pairByNumber q d 4)
 unfolding putByNumber readPutIf pairByNumber readAnswerBy
-duplicate-is q d = go (eqb (d .responses) 0)
+duplicate-is q d = go (eqb (d .reply .remaining) 0)
   where
     a : ReadAnswer
-    a = record { remaining = d .responses; offset = d .at; length = d .length; psn = d .psn; msn = q .msn }
+    a = record { remaining = d .reply .remaining; offset = d .reply .offset; length = d .reply .length; psn = d .reply .psn; msn = q .msn }
 
     left : ReadAnswer → Pair
     left r =

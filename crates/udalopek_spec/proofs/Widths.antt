@@ -54,8 +54,8 @@ zero-small = omega arith
 
 -- of a decision: the message that it leaves open, and its PSN
 pub record Narrow (d : Decision) : Type 0 where
-  pub key : Small (d .message .key)
-  pub psn : Small (d .psn .0)
+  pub key : Small (d .progress .message .key)
+  pub psn : Small (d .reply .psn .0)
 
 either : (b : Bool) (x y : Decision) → Narrow x → Narrow y → Narrow (cond b x y)
 either true x y f g = f
@@ -78,15 +78,15 @@ module _ (p : Packet) (k : Small (p .operands .key)) (n : Small (p .psn .0)) whe
   unfolding current
   current-small m h = key-either (starts (p .place)) _ m k h
 
-  stores : (m : OpenMessage) (entry region : List ℕ) → Small (m .key) → Narrow (Decide.storePayload p m entry region)
+  stores : (asked : Bool) (psns : ℕ) (m : OpenMessage) (entry region : List ℕ) → Small (m .key) → Narrow (Decide.storePayload asked psns p m entry region)
   unfolding Decide.storePayload Decide.messageAfter
-  stores m entry region h = record { key = key-either (ends (p .place)) _ _ zero-small h; psn = n }
+  stores asked psns m entry region h = record { key = key-either (ends (p .place)) _ _ zero-small h; psn = n }
 
   executes : (m opened : OpenMessage) (entry region : List ℕ) (pmtu : ℕ) → Small (m .key) → Small (opened .key)
       → Narrow (Decide.execute p m opened entry region pmtu)
   unfolding Decide.execute Decide.acceptRead Decide.runAtomic
   executes m opened entry region pmtu h o =
-      either (carrying (p .kind)) _ _ (stores m entry region h) (either (eqb (p .kind) Kind.read) _ _ (record { key = o; psn = n }) (record { key = o; psn = n }))
+      either (carrying (p .kind)) _ _ (stores (p .ackreq) 1 m entry region h) (either (eqb (p .kind) Kind.read) _ _ (record { key = o; psn = n }) (record { key = o; psn = n }))
 
   fails : (check timer : ℕ) → Narrow (Decide.failed check (p .psn) timer)
   unfolding Decide.failed Decide.acknowledging
@@ -113,9 +113,6 @@ module _ (p : Packet) (k : Small (p .operands .key)) (n : Small (p .psn .0)) whe
       (either (eqb (p .kind) Kind.read) _ _ (either (Decide.duplicateReadFails p s m expected region) _ _ (quiet _) (record { key = zero-small; psn = n }))
       (either (Decide.isAtomic (p .kind)) _ _ (saved-answers v) (quiet _)))
 
-  unacked : (psns : ℕ) (d : Decision) → Narrow d → Narrow (Decide.unanswered psns d)
-  unacked psns d N = record { key = N .key; psn = N .psn }
-
   uc-decides : (s : Setup) (expected : Psn) (m : OpenMessage) (count : ℕ) (entry region : List ℕ) → Small (m .key)
       → Narrow (Decide.ucDecision p s expected m count entry region)
   unfolding Decide.ucDecision Decide.ucCheckedDecision Decide.ucExecute Decide.abandoning
@@ -123,7 +120,7 @@ module _ (p : Packet) (k : Small (p .operands .key)) (n : Small (p .psn .0)) whe
       let check = requestCheck s (Decide.closedBy (p .place) m) p count entry region in
       either (Decide.orphaned (p .place) (m .kind)) _ _ (quiet _)
       (either (Decide.strays p expected (m .kind)) _ _ (quiet _)
-      (either (eqb check 0) _ _ (either (carrying (p .kind)) _ _ (unacked _ _ (stores (current m p) entry region (current-small m h))) (quiet _))
+      (either (eqb check 0) _ _ (either (carrying (p .kind)) _ _ (stores false _ (current m p) entry region (current-small m h)) (quiet _))
       (either (eqb (checkAnswer check) 34) _ _ (quiet _) (either (eqb (m .kind) 255) _ _ (quiet _) (quiet _)))))
 
   by-class : (c : Class) (q : Pair) (entry region : List ℕ) (v : Saved) → Small (q .message .key) → Small (q .expected .0)
@@ -204,8 +201,8 @@ pair-wide : (q : Pair) (d : Decision) → TypeWidths q → Small (q .msn .0) →
 unfolding pairBy pairByNumber executedPair readAnswerBy
 pair-wide q d t m N =
     let r : Held (q .read) = record { psn = t .2; msn = t .3 } in
-    let x = answer-either (eqb (d .responses) 0) (q .read) _ r (record { psn = N .psn; msn = msn-small (d .ends) (q .msn) m }) in
-    let y = answer-either (eqb (d .responses) 0) (q .read) _ r (record { psn = N .psn; msn = m }) in
+    let x = answer-either (eqb (d .reply .remaining) 0) (q .read) _ r (record { psn = N .psn; msn = msn-small (d .progress .ends) (q .msn) m }) in
+    let y = answer-either (eqb (d .reply .remaining) 0) (q .read) _ r (record { psn = N .psn; msn = m }) in
     let k = statusNumber (d .status) in
     pair-either (leb k 3) _ _ (record { widths = (t .0, N .key, x .psn, x .msn) })
     (pair-either (eqb k 4) _ _ (record { widths = (t .0, t .1, y .psn, y .msn) })

@@ -52,14 +52,14 @@ savedPutIf w act r = cond (actsAtomic act) (savedPut w r) w
 unfoldable pub executedPut : List ℕ → Pair → Decision → List ℕ
 executedPut w next d =
     savedPutIf
-    (readPutIf (entriesPutIf (messagePut (countersPut w (next .expected) (next .msn)) (next .message)) (d .completion .some) (next .entries)) (d .responses) (next .read))
-    (d .act) (next .saved)
+    (readPutIf (entriesPutIf (messagePut (countersPut w (next .expected) (next .msn)) (next .message)) (d .progress .completion .some) (next .entries)) (d .reply .remaining) (next .read))
+    (d .change .act) (next .saved)
 
 -- by the answer: executed, a duplicate that may begin a READ's answer, an abandoned message, a NAK
 unfoldable pub putByNumber : List ℕ → Pair → Decision → ℕ → List ℕ
 putByNumber w next d number =
     cond (leb number Number.atomicExecuted) (executedPut w next d)
-    (cond (eqb number Number.duplicateAnswered) (readPutIf w (d .responses) (next .read))
+    (cond (eqb number Number.duplicateAnswered) (readPutIf w (d .reply .remaining) (next .read))
     (cond (eqb number Number.abandoned) (messagePut w (next .message))
     (cond (ltb number Number.sequenceNak) w
     (cond (leb number Number.notReadyNak) (statePut w (next .state) (next .nakmark)) w))))

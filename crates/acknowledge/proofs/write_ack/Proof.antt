@@ -1,57 +1,60 @@
-use mathlib.Core.Path.{sym, ap, _∙_}
+use Rattle.acknowledge.proofs.Steps.{acked, none}
+use Rattle.responder_spec.specs.Reply.{replyAeth, over}
+use Rattle.header.specs.Write.{bthBytes, aethBytes}
+use borrow.Author.Tests.{lt-ltb, le-ltb}
 use mathlib.Core.List.{_++_}
-use lib.ListN.{length}
-use Rattle.header.specs.Write.{bthBytes, aethBytes, extensionBytes, headerBytes}
-use Rattle.responder_spec.specs.Reply.{replyHeader, ackHeader}
-use Rattle.acknowledge.proofs.Steps.{in-two}
+use mathlib.Core.Path.{sym, ap, _∙_}
 use borrow.Author.Needs.{needs}
 use Rattle.acknowledge.proofs.write_ack.Statement.{statement}
 use Rattle.acknowledge.proofs.write_ack.Tie as tie
+use Rattle.acknowledge.proofs.acknowledges.Reads as acknowledges-reads
+use Rattle.acknowledge.proofs.reply_bth.Reads as reply-bth-reads
+use Rattle.acknowledge.proofs.write_bth_aeth.Reads as write-bth-aeth-reads
+use Rattle.acknowledge.proofs.write_value.Reads as write-value-reads
+
+returns : tie.Need-returns
+returns c = let n = lt-ltb _ _ (c .if1 .taken) in (simp n, simp n)
+
+acknowledges-requires : tie.Need-acknowledges-requires
+acknowledges-requires c κs = search needs
 
 reply-bth-requires : tie.Need-reply-bth-requires
 reply-bth-requires c κs = search needs
 
-bth-bytes-requires : tie.Need-bth-bytes-requires
-bth-bytes-requires c κs = search needs
+write-bth-aeth-requires : tie.Need-write-bth-aeth-requires
+write-bth-aeth-requires c κs = search needs
 
-slice-aggregate-store : tie.Need-slice-aggregate-store
-slice-aggregate-store c = search needs
-
-store-requires : tie.Need-store-requires
-store-requires c κs = search needs
-
-aeth-bytes-requires : tie.Need-aeth-bytes-requires
-aeth-bytes-requires c κs = search needs
-
-slice-aggregate-store-2 : tie.Need-slice-aggregate-store-2
-slice-aggregate-store-2 c = search needs
-
-store-requires-2 : tie.Need-store-requires-2
-store-requires-2 c κs = search needs
+write-value-requires : tie.Need-write-value-requires
+write-value-requires c κs = search needs
 
 same-length : tie.Need-same-length
 same-length c = search needs
 
-returns : tie.Need-returns
-unfolding bthBytes aethBytes extensionBytes headerBytes replyHeader ackHeader
-returns c =
-    let c2 = c .before .before in let c5 = c2 .before .before .before in let c8 = c5 .before .before .before in
-    let c11 = c8 .before .before .before in let c12 = c11 .before in let c14 = c12 .before .before in
-    let A = c14 .args in
-    let eb = c11 .bth-bytes .ensures ∙ ap bthBytes (c12 .reply-bth .ensures) in
-    let ea = c5 .aeth-bytes .ensures in
-    in-two (A .out .now) _ _ _ _ (ap length eb) (ap length ea) (c8 .store .ensures) (c2 .store2 .ensures) _ (λ i. sym eb i ++ sym ea i) (c14 .pre)
+returns-2 : tie.Need-returns-2
+returns-2 c =
+    let A = c .before .before .before .before .before .before .before .before .before .before .before .before .before .args in
+    let first = c .before .before .before .before .before .before .write-bth-aeth .ensures ∙ ap (λ b. over (bthBytes b ++ aethBytes (replyAeth (A .r))) (A .out .now)) (c .before .before .before .before .before .before .before .before .reply-bth .ensures) in
+    let W = acked (A .s) (A .r) (A .out .now) _ _ _ (sym (c .before .before .before .before .before .before .before .before .before .before .acknowledges .ensures) ∙ c .before .before .before .before .before .before .before .before .before .if2 .taken) first (c .before .before .write-value .ensures .0) (c .before .before .write-value .ensures .1) (c .before .before .before .before .before .before .before .before .before .before .before .if1 .left) in
+    let n = le-ltb _ _ (c .before .before .before .before .before .before .before .before .before .before .before .if1 .left) in
+    (simp n (W .0), simp n (W .1))
+
+returns-3 : tie.Need-returns-3
+unfolding over
+returns-3 c =
+    let A = c .before .before .before .before .args in
+    let z = none (A .s) (A .r) (sym (c .before .acknowledges .ensures) ∙ c .if2 .left) in
+    let n = le-ltb _ _ (c .before .before .if1 .left) in
+    (simp (n, z), simp (n, z))
 
 pub write-ack-spec : {M : Type 1} → statement M
 write-ack-spec =
     tie.close
     (tie.spec
+    returns
+    acknowledges-requires
     reply-bth-requires
-    bth-bytes-requires
-    slice-aggregate-store
-    store-requires
-    aeth-bytes-requires
-    slice-aggregate-store-2
-    store-requires-2
+    write-bth-aeth-requires
+    write-value-requires
     same-length
-    returns)
+    returns-2
+    returns-3)

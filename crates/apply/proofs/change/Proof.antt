@@ -1,6 +1,5 @@
 use borrow.Author.Tests.{eq-eqb, ne-eqb}
-use Rattle.responder_spec.specs.Apply.{memoryBy, actsAtomic}
-use Rattle.responder_spec.specs.Reply.{valueBy}
+use Rattle.responder_spec.specs.Apply.{memoryBy, valueBy, actsAtomic}
 use borrow.Author.Needs.{needs}
 use Rattle.apply.proofs.change.Statement.{statement}
 use Rattle.apply.proofs.change.Tie as tie

@@ -7,9 +7,9 @@ use borrow.Author.Needs.{needs}
 use Rattle.duplicate.proofs.duplicate_read.Statement.{statement}
 use Rattle.duplicate.proofs.duplicate_read.Tie as tie
 use Rattle.duplicate.proofs.duplicate_read_fails.Reads as duplicate-read-fails-reads
-use Rattle.pair.proofs.no_message.Reads as no-message-reads
 use Rattle.pmtu.proofs.count.Reads as count-reads
-use Rattle.reply.proofs.begin_read.Reads as begin-read-reads
+use Rattle.reply.proofs.read_begun.Reads as read-begun-reads
+use Rattle.reply.proofs.reply_only.Reads as reply-only-reads
 use Rattle.reply.proofs.no_reply.Reads as no-reply-reads
 use Rattle.table.proofs.memory_offset.Reads as memory-offset-reads
 
@@ -29,11 +29,11 @@ memory-offset-requires c κs = search needs
 count-requires : tie.Need-count-requires
 count-requires c κs = search needs
 
-no-message-requires : tie.Need-no-message-requires
-no-message-requires c κs = search needs
+read-begun-requires : tie.Need-read-begun-requires
+read-begun-requires c κs = search needs
 
-begin-read-requires : tie.Need-begin-read-requires
-begin-read-requires c κs = search needs
+reply-only-requires : tie.Need-reply-only-requires
+reply-only-requires c κs = search needs
 
 returns-2 : tie.Need-returns-2
 unfolding duplicateRead
@@ -44,7 +44,7 @@ returns-2 c =
     let c6 = c5 .before in
     let at = c3 .memory-offset .ensures
     ∙ answered-offset (A .p) (A .s) (A .m) (A .expected) (A .region) (c5 .duplicate-read-fails .result) (c5 .duplicate-read-fails .ensures) (c4 .if1 .left) memory (c6 .pre) in
-    simp (← c5 .duplicate-read-fails .ensures, c4 .if1 .left, ← at, ← c2 .count .ensures, ← c1 .no-message .ensures, ← c .begin-read .ensures)
+    simp (← c5 .duplicate-read-fails .ensures, c4 .if1 .left, ← at, ← c2 .count .ensures, ← c1 .read-begun .ensures, ← c .reply-only .ensures)
 
 pub duplicate-read-spec : {M : Type 1} → statement M
 duplicate-read-spec =
@@ -55,6 +55,6 @@ duplicate-read-spec =
     returns
     memory-offset-requires
     count-requires
-    no-message-requires
-    begin-read-requires
+    read-begun-requires
+    reply-only-requires
     returns-2)

@@ -16,27 +16,28 @@ keep-requires c κs = search needs
 pair-after-requires : tie.Need-pair-after-requires
 pair-after-requires c κs = search needs
 
-write-requires : tie.Need-write-requires
-write-requires c κs = search needs
+reply-with-requires : tie.Need-reply-with-requires
+reply-with-requires c κs = search needs
+
+write-ack-requires : tie.Need-write-ack-requires
+write-ack-requires c κs = search needs
 
 outcome-with-requires : tie.Need-outcome-with-requires
 outcome-with-requires c κs = search needs
 
 same-length : tie.Need-same-length
-same-length c = search needs
+same-length c = c .before .before .before .before .before .before .before .before .before .before .mem .given
 
 same-length-2 : tie.Need-same-length-2
 same-length-2 c = search needs
 
 returns : tie.Need-returns
 returns c =
-    let c3 = c .before .before .before in let c5 = c3 .before .before in let c6 = c5 .before in
-    let c10 = c6 .before .before .before .before in let c12 = c10 .before .before in
-    let A = c12 .before .before .before .before .before .before .before .args in
+    let A = c .before .before .before .before .before .before .before .before .before .before .before .before .before .before .before .before .before .before .before .before .args in
     whole (arriving (A .pair) (A .regions .now) (A .entries .now) (A .saved .now) (A .mem .now) (A .packet .now) (A .out .now))
-    (c12 .decided .result) (c12 .decided .ensures) (c10 .change .result) (c10 .change .ensures .0)
-    _ (c10 .change .ensures .1) _ (c6 .keep .ensures)
-    (c5 .pair-after .result) (c5 .pair-after .ensures) _ (c3 .write .ensures) (c .outcome-with .result) (c .outcome-with .ensures)
+    (c .before .before .before .before .before .before .before .before .before .before .before .before .before .decided .result) (c .before .before .before .before .before .before .before .before .before .before .before .before .before .decided .ensures) (c .before .before .before .before .before .before .before .before .before .before .before .change .result) (c .before .before .before .before .before .before .before .before .before .before .before .change .ensures .0)
+    (c .before .before .before .before .before .before .pair-after .result) (c .before .before .before .before .before .before .pair-after .ensures) (c .before .before .before .before .before .reply-with .result) (c .before .before .before .before .before .reply-with .ensures) _ (c .before .before .before .before .before .before .before .before .before .before .before .change .ensures .1) _ (c .before .before .before .before .before .before .before .keep .ensures)
+    (c .before .before .before .write-ack .result) (c .before .before .before .write-ack .ensures .0) _ (c .before .before .before .write-ack .ensures .1) (c .outcome-with .result) (c .outcome-with .ensures)
 
 pub inbound-spec : {M : Type 1} → statement M
 inbound-spec =
@@ -46,7 +47,8 @@ inbound-spec =
     change-requires
     keep-requires
     pair-after-requires
-    write-requires
+    reply-with-requires
+    write-ack-requires
     outcome-with-requires
     same-length
     same-length-2

@@ -3,8 +3,8 @@ use borrow.Author.Needs.{needs}
 use Rattle.apply.proofs.state.executed_pair.Statement.{statement}
 use Rattle.apply.proofs.state.executed_pair.Tie as tie
 
-psn-after-requires : tie.Need-psn-after-requires
-psn-after-requires c κs = search needs
+after-count-requires : tie.Need-after-count-requires
+after-count-requires c κs = search needs
 
 msn-by-requires : tie.Need-msn-by-requires
 msn-by-requires c κs = search needs
@@ -21,15 +21,15 @@ saved-ring-by-requires c κs = search needs
 returns : tie.Need-returns
 unfolding executedPair
 returns c =
-    let c1 = c .before in let c3 = c1 .before .before in let c5 = c3 .before .before in let c7 = c5 .before .before in
-    let c8 = c7 .before in
-    simp (c8 .psn-after .ensures, ← c7 .msn-by .ensures, ← c5 .entries-by .ensures, ← c3 .read-answer-by .ensures, ← c1 .saved-ring-by .ensures)
+    let c1 = c .before in let c3 = c1 .before .before in let c6 = c3 .before .before .before in
+    let c8 = c6 .before .before in let c9 = c8 .before in
+    simp (c9 .after-count .ensures, ← c8 .msn-by .ensures, ← c6 .entries-by .ensures, ← c3 .read-answer-by .ensures, ← c1 .saved-ring-by .ensures)
 
 pub executed-pair-spec : {M : Type 1} → statement M
 executed-pair-spec =
     tie.close
     (tie.spec
-    psn-after-requires
+    after-count-requires
     msn-by-requires
     entries-by-requires
     read-answer-by-requires

@@ -28,8 +28,8 @@ read-answer-by-requires c κs = search needs
 returns-2 : tie.Need-returns-2
 unfolding statusNumber pairByNumber pairBy
 returns-2 c =
-    let c2 = c .before .before in let c3 = c2 .before in let c4 = c3 .before in let c5 = c4 .before in
-    simp (← c5 .executes .ensures, c4 .if1 .left, ← c3 .is .ensures, c2 .if2 .taken, ← c .read-answer-by .ensures)
+    let c3 = c .before .before .before in let c4 = c3 .before in let c5 = c4 .before in
+    simp (← c5 .before .executes .ensures, c5 .if1 .left, ← c4 .is .ensures, c3 .if2 .taken, ← c .read-answer-by .ensures)
 
 is-requires-2 : tie.Need-is-requires-2
 is-requires-2 c κs = search needs

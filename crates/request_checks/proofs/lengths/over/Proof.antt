@@ -2,7 +2,7 @@ use Prim.Native.Nat.{_+_}
 use mathlib.Core.Path.{sym}
 use native.Mathlib.Omega.{arith}
 use borrow.Author.Tests.{lt-ltb}
-use Rattle.request_checks.proofs.Sums.{over-left}
+use Rattle.lemmas.proofs.Tests.{over-left}
 use Rattle.request_checks.proofs.lengths.over.Statement.{statement}
 use Rattle.request_checks.proofs.lengths.over.Tie as tie
 

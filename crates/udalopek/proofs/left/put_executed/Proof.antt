@@ -32,9 +32,9 @@ returns c =
     let d = A .d in
     let n = A .next in
     let m = c17 .put-message .ensures ∙ ap (λ v. messagePut v (n .message)) (c22 .put-counters .ensures) in
-    let e = c12 .put-entries-if .ensures ∙ ap (λ v. entriesPutIf v (d .completion .some) (n .entries)) m in
-    let r = c7 .put-read-if .ensures ∙ ap (λ v. readPutIf v (d .responses) (n .read)) e in
-    c .before .before .put-saved-if .ensures ∙ ap (λ v. savedPutIf v (d .act) (n .saved)) r
+    let e = c12 .put-entries-if .ensures ∙ ap (λ v. entriesPutIf v (d .progress .completion .some) (n .entries)) m in
+    let r = c7 .put-read-if .ensures ∙ ap (λ v. readPutIf v (d .reply .remaining) (n .read)) e in
+    c .before .before .put-saved-if .ensures ∙ ap (λ v. savedPutIf v (d .change .act) (n .saved)) r
 
 pub put-executed-spec : {M : Type 1} → statement M
 put-executed-spec =

@@ -31,8 +31,11 @@ keep-requires c κs = search needs
 pair-after-requires : tie.Need-pair-after-requires
 pair-after-requires c κs = search needs
 
-write-requires : tie.Need-write-requires
-write-requires c κs = search needs
+reply-with-requires : tie.Need-reply-with-requires
+reply-with-requires c κs = search needs
+
+write-ack-requires : tie.Need-write-ack-requires
+write-ack-requires c κs = search needs
 
 report-words-requires : tie.Need-report-words-requires
 report-words-requires c κs = search needs
@@ -55,10 +58,7 @@ same-length-3 c = search needs
 returns-2 : tie.Need-returns-2
 unfolding inboundReturned
 returns-2 c =
-    let c3 = c .before .before .before in let c5 = c3 .before .before in let c9 = c5 .before .before .before .before in
-    let c11 = c9 .before .before in let c12 = c11 .before in let c16 = c12 .before .before .before .before in
-    let c18 = c16 .before .before in let c22 = c18 .before .before .before .before in let c24 = c22 .before .before in
-    let c26 = c24 .before .before in
+    let c11 = c .before .before .before .before .before .before .before .before .before .before .before in let c16 = c11 .before .before .before .before .before in let c18 = c16 .before .before in let c22 = c18 .before .before .before .before in let c24 = c22 .before .before in let c26 = c24 .before .before in
     let A = c26 .before .before .before .before .before .args in
     let n = many (A .pair .now) (c26 .if1 .left) in
     let q = c22 .pair-said .result in
@@ -67,15 +67,17 @@ returns-2 c =
     let d = c18 .decided .result in
     let i = c18 .decided .ensures in
     let next = c11 .pair-after .result in
+    let j = c11 .pair-after .ensures in
+    let w = c .before .before .before .before .before .before .before .before .write-ack in
     let r =
-    whole (arrivalWith l q) d i (c16 .change .result) (c16 .change .ensures .0) _ (c16 .change .ensures .1) _ (c12 .keep .ensures)
-    next (c11 .pair-after .ensures) _ (c9 .write .ensures) (outcomeWith next d) refl
+    whole (arrivalWith l q) d i (c16 .change .result) (c16 .change .ensures .0) next j (c .before .before .before .before .before .before .before .before .before .before .reply-with .result) (c .before .before .before .before .before .before .before .before .before .before .reply-with .ensures)
+    _ (c16 .change .ensures .1) _ (c11 .before .keep .ensures) (w .result) (w .ensures .0) _ (w .ensures .1) (outcomeWith next d (w .result)) refl
     ∙ ap (λ x. inbound (arrivalWith l x)) o in
     (λ k. returned
     ((c .number .ensures ∙ ap (λ x. x .number) r) k)
-    (left-words l n q o d i next (c11 .pair-after .ensures) _ (c3 .put-left .ensures) k)
+    (left-words l n q o d i next j _ (c .before .before .before .put-left .ensures) k)
     (r k .whole .saved) (r k .memory) (r k .out)
-    ((c5 .report-words .ensures ∙ ap (λ x. reportWords (x .outgoing) (x .completion)) r) k))
+    ((c .before .before .before .before .before .report-words .ensures ∙ ap (λ x. reportWords (x .outgoing) (x .completion)) r) k))
     ∙ second _ (refusedWith 34 l) (returning (wordsLeft l) (inboundOf l)) n
 
 pub udalopek-inbound-spec : {M : Type 1} → statement M
@@ -89,7 +91,8 @@ udalopek-inbound-spec =
     change-requires
     keep-requires
     pair-after-requires
-    write-requires
+    reply-with-requires
+    write-ack-requires
     report-words-requires
     put-left-requires
     number-requires

@@ -1,7 +1,7 @@
-use Rattle.responder_spec.specs.Response.{indexOf}
+use Rattle.responder_spec.specs.Reply.{indexOf}
 use borrow.Author.Needs.{needs}
-use Rattle.responder.proofs.response.index_of.Statement.{statement}
-use Rattle.responder.proofs.response.index_of.Tie as tie
+use Rattle.acknowledge.proofs.response.index_of.Statement.{statement}
+use Rattle.acknowledge.proofs.response.index_of.Tie as tie
 
 count-requires : tie.Need-count-requires
 count-requires c κs = search needs

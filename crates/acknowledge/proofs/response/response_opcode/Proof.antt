@@ -1,8 +1,8 @@
 use Rattle.lemmas.proofs.Auto.{tested}
-use Rattle.responder_spec.specs.Response.{responseOpcode}
+use Rattle.responder_spec.specs.Reply.{responseOpcode}
 use borrow.Author.Needs.{needs}
-use Rattle.responder.proofs.response.response_opcode.Statement.{statement}
-use Rattle.responder.proofs.response.response_opcode.Tie as tie
+use Rattle.acknowledge.proofs.response.response_opcode.Statement.{statement}
+use Rattle.acknowledge.proofs.response.response_opcode.Tie as tie
 
 returns : tie.Need-returns
 unfolding responseOpcode

@@ -1,10 +1,10 @@
-use Rattle.request_checks.proofs.Sums.{over-left}
+use Rattle.lemmas.proofs.Tests.{over-left}
 use borrow.Author.Tests.{lt-ltb}
 use native.Mathlib.Omega.{arith}
 use mathlib.Core.Path.{sym}
 use Prim.Native.Nat.{_+_}
-use Rattle.responder.proofs.response.no_room.Statement.{statement}
-use Rattle.responder.proofs.response.no_room.Tie as tie
+use Rattle.acknowledge.proofs.response.no_room.Statement.{statement}
+use Rattle.acknowledge.proofs.response.no_room.Tie as tie
 
 returns : tie.Need-returns
 returns c = sym (lt-ltb (c .before .args .room) (16 + c .before .args .pmtu) (omega arith))
