@@ -1,14 +1,15 @@
 /* The transport side of an InfiniBand queue pair, as a static library.
  *
- * Every function but udalopek_read_header answers a number of the rules; those from 32 on are refusals, and a refusal
- * changes nothing that was lent, but for report, which is then all 0. No function keeps anything between calls,
- * allocates, or calls out. Two calls may run at once unless they are lent the same bytes or words.
+ * Every function answers a number of the rules; those from 32 on are refusals, and a refusal changes nothing that was
+ * lent, but for report, which is then all 0. No function keeps anything between calls, allocates, or calls out. Two
+ * calls may run at once unless they are lent the same bytes or words.
  *
  * The state of a pair is 30 words and three tables, all lent by the caller. They are tested, so that no words can make
  * a call read or write outside what it is lent:
  * - not 30 words: 34, before all else, in every call that is lent the words;
- * - a word out of its range, or words that are no sound pair: 34, at its turn in the call's order of checks, and in reset
- *   at once; what is tested before that turn is read modulo its range. Remove region looks at no word;
+ * - a word out of its range, or words that are no sound pair: 34, at its turn in the call's order of checks; what is
+ *   tested before that turn is read modulo its range. Remove region looks at no word. Reset looks at
+ *   ranges and at the numbers of the set-up, which it brings back, and mends everything else;
  * - a row of the regions whose range is not in memory, or ends at 2^64 or above, holds nothing, so that a packet which
  *   names its key is answered as for a key that no row has; rows are not tested otherwise;
  * - an entry's row whose range is not in memory: 34 by the packet that would take it.
@@ -55,7 +56,8 @@ uint8_t udalopek_set_up(uint64_t *pair, size_t pair_words, uint64_t regions[16][
                         uint32_t ours, uint32_t theirs, uint16_t pkey, uint32_t start, uint8_t timer, bool send,
                         bool write, bool read, bool atomic, size_t memory);
 
-/* Back to Init with the numbers of the set-up, empty tables and MSN 0. */
+/* Back to Init with the numbers of the set-up, empty tables and MSN 0, in any state. 34: a word out of its range, or
+ * numbers that set-up refuses. */
 uint8_t udalopek_reset(uint64_t *pair, size_t pair_words, uint64_t regions[16][7]);
 
 /* The pair takes packets from now on. 36 unless Init. */
@@ -86,11 +88,13 @@ uint8_t udalopek_inbound(uint64_t *pair, size_t pair_words, uint64_t regions[16]
 uint8_t udalopek_next_response(uint64_t *pair, size_t pair_words, const uint8_t *memory, size_t memory_length,
                                uint8_t *out, size_t out_length, uint64_t report[1]);
 
-/* Reads a header. Answers 0, or the check that failed first: 1 length, 2 TVer, 5 service, 8 too short; then nothing is
- * written. bth: opcode, SE, MigReq, PadCnt, TVer, P_Key, reserved 8, DestQP, AckReq, reserved 7, PSN. extension: which
- * headers follow (0 none, 1 RETH, 2 RETH and Immediate, 3 Immediate, 4 AtomicETH, 5 AETH, 6 AETH and AtomicAckETH),
- * address, R_Key, DMA length, swap-or-add, compare, syndrome, MSN, value, immediate; 0 for what is not there. */
-uint8_t udalopek_read_header(const uint8_t *packet, size_t packet_length, uint64_t bth[11], uint64_t extension[10]);
+/* Reads a header. 5: it does not read, and bth and extension are as they were. report: 0, or with 5 the check that
+ * failed first: 1 length, 2 TVer, 5 service, 8 too short. bth: opcode, SE, MigReq, PadCnt, TVer, P_Key, reserved 8,
+ * DestQP, AckReq, reserved 7, PSN. extension: which headers follow (0 none, 1 RETH, 2 RETH and Immediate, 3 Immediate, 4
+ * AtomicETH, 5 AETH, 6 AETH and AtomicAckETH), address, R_Key, DMA length, swap-or-add, compare, syndrome, MSN, value,
+ * immediate; 0 for what is not there. */
+uint8_t udalopek_read_header(const uint8_t *packet, size_t packet_length, uint64_t bth[11], uint64_t extension[10],
+                             uint64_t report[1]);
 
 /* Writes a header from such words. 39: no such header; 35: out too short. report: bytes written. */
 uint8_t udalopek_write_header(const uint64_t bth[11], const uint64_t extension[10], uint8_t *out, size_t out_length,

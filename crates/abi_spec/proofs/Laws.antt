@@ -18,7 +18,7 @@ use Rattle.pair.specs.declared.Pair.{Pair}
 use Rattle.pair.proofs.Tests.{tested}
 use Rattle.abi_spec.specs.Words.{word, eqWords, overwriteWords, flag}
 use Rattle.abi_spec.specs.Pair.{otherLength, numbersStray, flagsStray, headsStray, fieldsStray, strays, timerSaid, setupSaid, messageOf, readOf, narrowed, saidBy, pairOf, pairWords}
-use Rattle.abi_spec.specs.Claims.{SameIs, InRange, RangesTested, WordsSaid, StrayUnsound, SetupFields, PairFields, PairBack, SaidFits, WordsAt, SoundFits}
+use Rattle.abi_spec.specs.Claims.{SameIs, InRange, RangesTested, WordsSaid, StrayUnsound, SetupFields, PairFields, PairBack, SaidFits, SoundFits}
 
 pub same-self : (a : List ℕ) → eqWords a a ≡ true
 unfolding eqWords
@@ -217,6 +217,14 @@ stray-timer w h e =
 pub stray-setup : (w : List ℕ) → length w ≡ 30 → strays w ≡ true → SetupSound (pairOf w .setup) → ⊥
 stray-setup w h e s = let t = stray-timer w h e in let u = s .0 .timer in omega (arith, t, u)
 
+-- so words that say numbers of a set-up are in range
+pub set-up-words : (w : List ℕ) → length w ≡ 30 → SetupSound (pairOf w .setup) → strays w ≡ false
+set-up-words w h s = go (strays w) refl
+  where
+    go : (b : Bool) → strays w ≡ b → strays w ≡ false
+    go true e = absurd (stray-setup w h e s)
+    go false e = e
+
 pub stray-unsound : StrayUnsound
 stray-unsound w h n s = go (strays w) refl
   where
@@ -264,8 +272,8 @@ words-in-range q f = record {
   psn = f .psn;
   answered = f .answered;
   saved = f .saved;
-  expected = f .expected;
-  msn = f .msn;
+  expected = omega (arith, f .expected, f .msn);
+  msn = omega (arith, f .expected, f .msn);
   state = f .state;
   nakmark = bit-fits (q .nakmark);
 }
@@ -328,22 +336,22 @@ narrow : (w : List ℕ) → PairFields (narrowed false w)
 unfolding setupSaid timerSaid messageOf readOf
 narrow w = record {
   setup = record {
-    ours = mod-lt (word w 2) (omega arith);
-    theirs = mod-lt (word w 3) (omega arith);
-    start = mod-lt (word w 4) (omega arith);
-    pkey = mod-lt (word w 5) (omega arith);
-    service = mod-lt (word w 6) (omega arith);
-    timer = mod-lt (word w 7) (omega arith);
+    ours = mod-lt _ (omega arith);
+    theirs = mod-lt _ (omega arith);
+    start = mod-lt _ (omega arith);
+    pkey = mod-lt _ (omega arith);
+    service = mod-lt _ (omega arith);
+    timer = mod-lt _ (omega arith);
   };
-  kind = mod-lt (word w 12) (omega arith);
-  key = mod-lt (word w 15) (omega arith);
-  entries = mod-lt (word w 17) (omega arith);
-  psn = mod-lt (word w 22) (omega arith);
-  answered = mod-lt (word w 23) (omega arith);
-  saved = mod-lt (word w 24) (omega arith);
-  expected = mod-lt (word w 26) (omega arith);
-  msn = mod-lt (word w 27) (omega arith);
-  state = mod-lt (word w 28) (omega arith);
+  kind = mod-lt _ (omega arith);
+  key = mod-lt _ (omega arith);
+  entries = mod-lt _ (omega arith);
+  psn = mod-lt _ (omega arith);
+  answered = mod-lt _ (omega arith);
+  saved = mod-lt _ (omega arith);
+  expected = mod-lt _ (omega arith);
+  msn = mod-lt _ (omega arith);
+  state = mod-lt _ (omega arith);
 }
 
 pub said-fits : SaidFits
@@ -351,44 +359,6 @@ unfolding saidBy
 said-fits w r =
     subst PairFields
     (sym (said-by w (r .words) false (no-stray w r) ∙ ap (λ n. cond (ltb n 30) blankPair (narrowed false w)) (r .words))) (narrow w)
-
-flag-at : (b : Bool) → (b ≡ true → bit b ≡ 1) × (b ≡ false → bit b ≡ 0)
-flag-at b = (λ e. ap bit e, λ e. ap bit e)
-
-pub words-at : WordsAt
-unfolding pairWords
-words-at q = record {
-  setup = record {
-    pmtu = refl;
-    memory = refl;
-    ours = refl;
-    theirs = refl;
-    start = refl;
-    pkey = refl;
-    service = refl;
-    timer = refl;
-    send = flag-at (q .setup .send);
-    write = flag-at (q .setup .write);
-    read = flag-at (q .setup .read);
-    atomic = flag-at (q .setup .atomic);
-  };
-  kind = refl;
-  stored = refl;
-  address = refl;
-  key = refl;
-  length = refl;
-  entries = (refl, refl);
-  remaining = refl;
-  offset = refl;
-  bytes = refl;
-  psn = refl;
-  answered = refl;
-  saved = (refl, refl);
-  expected = refl;
-  msn = refl;
-  state = refl;
-  nakmark = flag-at (q .nakmark);
-}
 
 pub sound-fits : SoundFits
 sound-fits q s pkey key psn msn = record {

@@ -4,6 +4,8 @@ use mathlib.Core.Path.{_≡_}
 use mathlib.Core.Bool.{Bool, true, false}
 use mathlib.Core.List.{List}
 use lib.ListN.{length, getD}
+use Rattle.header.specs.Claims.{Writable}
+use Rattle.header.specs.declared.Header.{Header}
 use Rattle.header.specs.declared.Bth.{Bth}
 use Rattle.header.specs.declared.Reth.{Reth}
 use Rattle.header.specs.declared.Aeth.{Aeth}
@@ -157,9 +159,58 @@ ExtensionFields (Atomic a) = a .key < 2 ^ 32
 ExtensionFields (Acknowledge a) = AethFields a
 ExtensionFields (AtomicAcknowledge a v) = AethFields a
 
+-- So do the numbers of every header that can be written.
+abbrev pub WritableFits : Type 0
+WritableFits = (h : Header) → Writable h → BthFields (h .bth) × ExtensionFields (h .extension)
+
 -- The words of a header say that header.
 abbrev pub BthBack : Type 0
 BthBack = (b : Bth) → BthFields b → bthFrom (bthWords b) ≡ b
 
 abbrev pub ExtensionBack : Type 0
 ExtensionBack = (e : Extension) → ExtensionFields e → extensionFrom (extensionWords e) ≡ e
+
+-- The header that any words say has numbers that fit.
+abbrev pub HeaderFits : Type 0
+HeaderFits = (b e : List ℕ) → BthFields (bthFrom b) × ExtensionFields (extensionFrom e)
+
+-- Where each number of a header stands, listed here once more and not by the definition under test: the eleven words of
+-- the BTH, and the ten of the headers that follow, by their kind, whose number is the first; 0 for what is not there.
+pub record BthWordsAt (w : List ℕ) (b : Bth) : Type 0 where
+  pub words : length w ≡ 11
+  pub opcode : getD w 0 0 ≡ b .opcode
+  pub se : FlagAt w 1 (b .se)
+  pub migreq : FlagAt w 2 (b .migreq)
+  pub pad : getD w 3 0 ≡ b .pad
+  pub tver : getD w 4 0 ≡ b .tver
+  pub pkey : getD w 5 0 ≡ b .pkey
+  pub reserved8 : getD w 6 0 ≡ b .reserved8
+  pub dest : getD w 7 0 ≡ b .dest
+  pub ackreq : FlagAt w 8 (b .ackreq)
+  pub reserved7 : getD w 9 0 ≡ b .reserved7
+  pub psn : getD w 10 0 ≡ b .psn .0
+
+pub record TenAt (w : List ℕ) (kind address key size swap compare syndrome msn value immediate : ℕ) : Type 0 where
+  pub words : length w ≡ 10
+  pub word0 : getD w 0 0 ≡ kind
+  pub word1 : getD w 1 0 ≡ address
+  pub word2 : getD w 2 0 ≡ key
+  pub word3 : getD w 3 0 ≡ size
+  pub word4 : getD w 4 0 ≡ swap
+  pub word5 : getD w 5 0 ≡ compare
+  pub word6 : getD w 6 0 ≡ syndrome
+  pub word7 : getD w 7 0 ≡ msn
+  pub word8 : getD w 8 0 ≡ value
+  pub word9 : getD w 9 0 ≡ immediate
+
+abbrev pub ExtensionWordsAt : List ℕ → Extension → Type 0
+ExtensionWordsAt w Bare = TenAt w 0 0 0 0 0 0 0 0 0 0
+ExtensionWordsAt w (Remote r) = TenAt w 1 (r .address) (r .key) (r .length) 0 0 0 0 0 0
+ExtensionWordsAt w (RemoteImmediate r i) = TenAt w 2 (r .address) (r .key) (r .length) 0 0 0 0 0 i
+ExtensionWordsAt w (Immediate i) = TenAt w 3 0 0 0 0 0 0 0 0 i
+ExtensionWordsAt w (Atomic a) = TenAt w 4 (a .address) (a .key) 0 (a .swap) (a .compare) 0 0 0 0
+ExtensionWordsAt w (Acknowledge a) = TenAt w 5 0 0 0 0 0 (a .syndrome) (a .msn .0) 0 0
+ExtensionWordsAt w (AtomicAcknowledge a v) = TenAt w 6 0 0 0 0 0 (a .syndrome) (a .msn .0) v 0
+
+abbrev pub HeaderWordsAt : Type 0
+HeaderWordsAt = (b : Bth) (e : Extension) → BthWordsAt (bthWords b) b × ExtensionWordsAt (extensionWords e) e

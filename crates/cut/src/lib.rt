@@ -9,9 +9,10 @@ use header::Header;
 use sequence::Psn;
 ghost use mathlib.Core.Path.{_≡_};
 ghost use lib.ListN.{length};
+ghost use Rattle.header.specs.Write.{answerNumber};
 ghost use Rattle.cut_spec.specs.Message.{carries, carriedLength, messageLength, lengthRefusal, packetsAnswer, responsesAnswer};
-ghost use Rattle.cut_spec.specs.Next.{nextAnswer};
-ghost use Rattle.cut_spec.specs.Cut.{unserved, cutUnfit, cutRefusal, headerAt, cutWritten, cutOut};
+ghost use Rattle.cut_spec.specs.Next.{nextRefusal, nextAnswer, followingNumber};
+ghost use Rattle.cut_spec.specs.Cut.{unserved, cutUnfit, cutRefusal, headerAt, cutAnswer, cutWritten, cutOut};
 
 // Whether the packets carry the message's bytes.
 fn carries(request: Request) -> bool
@@ -71,6 +72,7 @@ fn length_refusal(n: usize, pmtu: usize) -> u8
 // How many packets a message has; n is the length of its bytes, if it has bytes.
 pub fn packets(request: Request, n: usize, pmtu: usize) -> Answer
     ensures { λ r. ⌜ r ≡ packetsAnswer request n pmtu ⌝ }
+    ensures { λ r. ⌜ answerNumber r ≡ lengthRefusal (messageLength request n) pmtu ⌝ }
 {
     let whole = message_length(request, n);
     let code = length_refusal(whole, pmtu);
@@ -85,6 +87,7 @@ pub fn packets(request: Request, n: usize, pmtu: usize) -> Answer
 // How many responses a READ of n bytes has.
 pub fn responses(n: usize, pmtu: usize) -> Answer
     ensures { λ r. ⌜ r ≡ responsesAnswer n pmtu ⌝ }
+    ensures { λ r. ⌜ answerNumber r ≡ lengthRefusal n pmtu ⌝ }
 {
     let code = length_refusal(n, pmtu);
     if code != 0 {
@@ -97,6 +100,7 @@ pub fn responses(n: usize, pmtu: usize) -> Answer
 // The PSN of the message after this one, whose first packet has the PSN first.
 pub fn next_psn(request: Request, n: usize, pmtu: usize, first: Psn) -> Following
     ensures { λ r. ⌜ r ≡ nextAnswer request n pmtu first ⌝ }
+    ensures { λ r. ⌜ followingNumber r ≡ nextRefusal (messageLength request n) pmtu (first .0) ⌝ }
 {
     if Psn::SPACE <= first.0 {
         return Following::Refused(header::BAD_NUMBER);
@@ -190,6 +194,7 @@ pub fn cut(
     out: &mut [u8],
 ) -> Answer
     ensures { λ r. ⌜ r ≡ cutWritten connection request (now (message .entry)) first index (length (now (out .entry))) ⌝ }
+    ensures { λ r. ⌜ answerNumber r ≡ cutAnswer connection request (now (message .entry)) first index (length (now (out .entry))) ⌝ }
     ensures { λ r. ⌜ now (out .exit) ≡ cutOut connection request (now (message .entry)) first index (now (out .entry)) ⌝ }
 {
     let code = refusal(connection, request, message.len(), first, index);

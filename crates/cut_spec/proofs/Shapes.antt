@@ -13,8 +13,8 @@ use Rattle.header.specs.Claims.{RethWidths, Widths}
 use Rattle.opcode.specs.Place.{ends, starts}
 use Rattle.pmtu.specs.Pieces.{pieces, placeAt}
 use Rattle.cut_spec.specs.Message.{carries, carriedLength, packetsOf, messageLength, messageLimit}
-use Rattle.cut_spec.specs.Cut.{withImmediate, lowFor, sendExtension, rethFor, writeExtension, writeEnd, writeImmediateExtension, fetchAddEth, extensionFor}
-use Rattle.cut_spec.specs.Claims.{Carrier, TargetWidths, RequestWidths, InLimit, CutMany, CutOne, kindNumber}
+use Rattle.cut_spec.specs.Cut.{withImmediate, lowFor, sendExtension, rethFor, writeExtension, writeEnd, writeImmediateExtension, fetchAddEth, extensionFor, headerAt}
+use Rattle.cut_spec.specs.Claims.{Carrier, TargetWidths, RequestWidths, InLimit, WidthsOfHeaders, CutMany, CutOne, kindNumber}
 use Rattle.cut_spec.specs.declared.Target.{Target}
 use Rattle.cut_spec.specs.declared.Request.{Request}
 use Rattle.cut_spec.specs.declared.Request.the-variants.{Send, SendImmediate, Write, WriteImmediate, Read, CmpSwap, FetchAdd}
@@ -80,7 +80,7 @@ target t n w h = (w .0, w .1, omega arith)
 pub widths : (r : Request) (m count i : ℕ) → RequestWidths r → m ≤ messageLimit → Widths (extensionFor r m (placeAt count i))
 unfolding extensionFor sendExtension writeExtension writeEnd writeImmediateExtension ends starts fetchAddEth
 widths Send m count i w h = tt
-widths (SendImmediate v) m count i w h = by-place (λ p. Widths (extensionFor (SendImmediate v) m p)) tt tt w w count i
+widths (SendImmediate v) m count i w h = by-place (λ p. Widths (extensionFor (SendImmediate v) m p)) tt tt (omega (arith, w)) (omega (arith, w)) count i
 widths (Write t) m count i w h =
     by-place (λ p. Widths (extensionFor (Write t) m p)) (target t m w h) tt tt (target t m w h) count i
 widths (WriteImmediate t v) m count i w h =
@@ -90,6 +90,29 @@ widths (CmpSwap a) m count i w h = w
 widths (FetchAdd t v) m count i w h =
     let z : 0 < 2 ^ 64 = omega arith in
     (w .0 .0, w .0 .1, w .1, z)
+
+-- and each number of the request in a field
+pub widths-of-headers : WidthsOfHeaders
+unfolding headerAt extensionFor sendExtension writeExtension writeEnd writeImmediateExtension packetsOf carriedLength carries messageLength pieces placeAt ends starts rethFor fetchAddEth
+widths-of-headers c r first = (forth r, back r)
+  where
+    forth : (r : Request) → RequestWidths r → Widths (headerAt c r 0 first 0 .extension)
+    forth Send w = tt
+    forth (SendImmediate v) w = omega (arith, w)
+    forth (Write t) w = (w .0, w .1, omega arith)
+    forth (WriteImmediate t v) w = ((w .0 .0, w .0 .1, omega arith), w .1)
+    forth (Read a) w = w
+    forth (CmpSwap a) w = w
+    forth (FetchAdd t v) w = (w .0 .0, w .0 .1, w .1, omega arith)
+
+    back : (r : Request) → Widths (headerAt c r 0 first 0 .extension) → RequestWidths r
+    back Send w = tt
+    back (SendImmediate v) w = omega (arith, w)
+    back (Write t) w = (w .0, w .1)
+    back (WriteImmediate t v) w = ((w .0 .0, w .0 .1), w .1)
+    back (Read a) w = w
+    back (CmpSwap a) w = w
+    back (FetchAdd t v) w = ((w .0, w .1), w .2)
 
 -- how many packets
 pub cut-many : CutMany

@@ -59,6 +59,13 @@ RequestWidths (Read a) = RethWidths a
 RequestWidths (CmpSwap a) = Widths (Atomic a)
 RequestWidths (FetchAdd t v) = TargetWidths t × (v < 2 ^ 64)
 
+-- They are the widths of the headers, each way: a request with a message of no bytes is one packet, and its headers have
+-- all of the request's numbers.
+abbrev pub WidthsOfHeaders : Type 0
+WidthsOfHeaders =
+    (c : Connection) (r : Request) (first : Psn) → (RequestWidths r → Widths (headerAt c r 0 first 0 .extension))
+    × (Widths (headerAt c r 0 first 0 .extension) → RequestWidths r)
+
 -- a PMTU, a service that has the request, numbers of 24 bits
 pub record Fit (c : Connection) (r : Request) (psn : ℕ) : Type 0 where
   pub pmtu : IsPmtu (c .pmtu)

@@ -25,9 +25,9 @@ ghost use Prim.Native.Nat.{_+_, _-_, _≤_};
 ghost use lib.ListN.{length};
 ghost use Rattle.opcode.specs.Opcode.{lengthOf};
 ghost use Rattle.opcode.specs.Length as Length;
-ghost use Rattle.header.specs.Read.{bthOf, rethOf, atomicOf, aethOf, extensionOf, badLength, readHeader};
-ghost use Rattle.header.specs.Check.{wrongService, isResponse, beyondService, admitted};
-ghost use Rattle.request_spec.specs.Packet.{admission};
+ghost use Rattle.header.specs.Read.{bthOf, rethOf, atomicOf, aethOf, extensionOf, badLength, readReason, readHeader, readNumber, readCheck, reasonNumber};
+ghost use Rattle.header.specs.Check.{wrongService, isResponse, beyondService, headerReason, admitted};
+ghost use Rattle.request_spec.specs.Packet.{admission, admissionNumber};
 ghost use Rattle.decode.specs.Reason.{bthReason};
 
 fn read_bth(p: &[u8]) -> Bth
@@ -229,6 +229,7 @@ fn packet_of(b: Bth, class: OpcodeClass, operands: Operands, n: usize) -> Packet
 // first. No header is made: its fields go straight into the numbers of the packet.
 pub fn admit(p: &[u8], service: u8, ours: u32, pkey: u16, ready: bool) -> Admission
     ensures { λ r. ⌜ r ≡ admission (admitted service ours pkey ready (now (p .entry))) (length (now (p .entry))) ⌝ }
+    ensures { λ r. ⌜ admissionNumber r ≡ reasonNumber (headerReason service ours pkey ready (now (p .entry))) ⌝ }
 {
     let bad = bad_length(p.len());
     if bad {
@@ -248,6 +249,8 @@ pub fn admit(p: &[u8], service: u8, ours: u32, pkey: u16, ready: bool) -> Admiss
 // The header of a packet of any bytes, or the check that failed first.
 pub fn read(p: &[u8]) -> HeaderRead
     ensures { λ r. ⌜ r ≡ readHeader (now (p .entry)) ⌝ }
+    ensures { λ r. ⌜ readNumber r ≡ reasonNumber (readReason (now (p .entry))) ⌝ }
+    ensures { λ r. ⌜ readCheck r ≡ readReason (now (p .entry)) ⌝ }
 {
     let bad = bad_length(p.len());
     if bad {

@@ -1,33 +1,38 @@
--- Every packet is executed in turn.
-use Prim.Native.Nat.{ℕ, zero, suc, _+_, _-_, _≤_}
+-- Every packet is executed in turn, whatever is refused, lost or comes again between.
+use Prim.Native.Nat.{ℕ, zero, suc, _+_, _-_, _≤_, _<_}
 use mathlib.Core.Path.{_≡_, refl, sym, ap, subst, _∙_}
-use mathlib.Core.Bool.{Bool, true, false, cond}
+use mathlib.Core.Bool.{Bool, true, false, cond, not, _||_, true≢false}
 use mathlib.Core.List.{List, [], _∷_, _++_}
 use native.Mathlib.Omega.{arith}
-use lib.Dec.{leb, eqb}
+use lib.Dec.{leb, ltb, eqb}
 use lib.ListN.{length, take}
-use borrow.Author.Tests.{eq-eqb, le-ltb}
+use borrow.Author.Tests.{eq-eqb, ne-eqb, lt-ltb, le-ltb, ltb-true}
 use Rattle.lemmas.proofs.Auto.{tests}
-use Rattle.pmtu.proofs.Counting.{bounds}
+use Rattle.pmtu.proofs.Counting.{bounds, counts}
 use Rattle.memory.proofs.Overwrite.{length-store}
 use Rattle.memory.proofs.Words.{fetch-within, swap-within}
 use Rattle.table.specs.declared.Entry.{Entry}
 use Rattle.pair.specs.Claims.{SetupFit}
 use Rattle.pair.specs.declared.Setup.{Setup}
+use Rattle.cut_spec.specs.Claims.{InLimit}
+use Rattle.cut_spec.specs.declared.Request.{Request}
+use Rattle.cut_spec.specs.declared.Request.the-variants.{Send, SendImmediate, Write, WriteImmediate, Read, CmpSwap, FetchAdd}
 use Rattle.responder_spec.specs.Apply.{memoryBy}
 use Rattle.responder_spec.specs.Inbound.{inbound, leftBy}
 use Rattle.responder_spec.specs.Steady.{Steady}
 use Rattle.responder_spec.specs.declared.Change.{Change}
 use Rattle.sound_laws.proofs.Kept.{inbound-steady, next-steady, post-steady}
-use Rattle.delivery_spec.specs.Stream.{Message, Slot, slot, stream, psnCount, numberAlong}
-use Rattle.delivery_spec.specs.Plain.{Plain, Call, none, firstOf, isRead, slotNeedsEntry, isLast, heldNow, withResponses, withWaiting, executeWith, plainStep, plain, start}
+use Rattle.delivery_spec.specs.Stream.{Message, Slot, slot, stream, psnCountOf, psnCount, numberAlong}
+use Rattle.delivery_spec.specs.Plain.{Plain, Call, none, isRead, slotNeedsEntry, isLast, heldNow, withResponses, withWaiting}
+use Rattle.delivery_spec.specs.Plain.{executeWith, execute, deliver, postRefused, plainStep, plain, start}
 use Rattle.delivery_spec.specs.Plain.Call.{Hand, Next, Post}
-use Rattle.delivery_spec.specs.Demand.{Run, step, LongEnough, CallPermitted, AllCallsPermitted, Handed, Posted, waitingAt}
-use Rattle.delivery.specs.Witness.{wholeEntry, draining, inTurn, Witness}
-use Rattle.delivery_spec.proofs.Chain.{Good, good, reliable-serves}
-use Rattle.delivery_spec.proofs.Fitting.{and-false}
-use Rattle.delivery_spec.proofs.Rel.{Link}
-use Rattle.delivery_spec.proofs.Runs.{setup-kept, regions-kept, steady-next, linked, fresh-link, steady}
+use Rattle.delivery_spec.specs.Demand.{Run, step, LongEnough, CallPermitted, AllCallsPermitted, Handed, waitingAt}
+use Rattle.delivery.specs.Witness.{wholeEntry, outsideEntry, asking, draining, inTurn, losing, withFaults, Witness}
+use Rattle.delivery_spec.proofs.Numbers.{along-suc}
+use Rattle.delivery_steps.proofs.Chain.{Good, good, reliable-serves}
+use Rattle.delivery_steps.proofs.Fitting.{and-false}
+use Rattle.delivery_steps.proofs.Rel.{Link}
+use Rattle.delivery_steps.proofs.Runs.{setup-kept, regions-kept, steady-next, linked, fresh-link, steady}
 
 -- no call changes the length of memory
 long-either : (b : Bool) (x y : List ℕ) (n : ℕ) → length x ≡ n → length y ≡ n → length (cond b x y) ≡ n
@@ -72,10 +77,22 @@ none-few : (b : Bool) (held : List Entry) → length held ≤ 1 → length (cond
 none-few true held h = omega arith
 none-few false held h = h
 
--- no more responses than the packet spans
-answers : (b : Bool) (n r : ℕ) → r ≡ 0 → cond b n r ≤ n
-answers true n r e = omega arith
-answers false n r e = omega arith
+-- a packet takes at most 4,096 numbers
+count-small : (r : Request) (n pmtu : ℕ) → 256 ≤ pmtu → InLimit r n → psnCountOf r pmtu ≤ 4096
+count-small Send n pmtu b h = omega arith
+count-small (SendImmediate v) n pmtu b h = omega arith
+count-small (Write t) n pmtu b h = omega arith
+count-small (WriteImmediate t v) n pmtu b h = omega arith
+count-small (Read a) n pmtu b h = counts (a .length) pmtu (omega arith) .least 4096 (omega arith) (omega arith)
+count-small (CmpSwap a) n pmtu b h = omega arith
+count-small (FetchAdd t v) n pmtu b h = omega arith
+
+few-numbers : (s : Setup) (regions : List (List ℕ)) (ms : List Message) (S : List Slot) → Good s regions ms S → SetupFit s
+    → (j : ℕ) → j < length S → psnCount (slot S j) ≤ 4096
+few-numbers s regions ms S G f j h =
+    let A = G .stands j h .outgoing .addressed in
+    let b : 256 ≤ s .pmtu = bounds (s .pmtu) (f .pmtu) .0 in
+    count-small (slot S j .message .request) (length (slot S j .message .bytes)) (slot S j .message .connection .pmtu) (omega (arith, A .pmtu)) (A .limit)
 
 module _ (s : Setup) (regions : List (List ℕ)) (ms : List Message) (S : List Slot) (G : Good s regions ms S) (f : SetupFit s)
     (rc : s .service ≡ 0) (out : List ℕ) (room : 4112 ≤ length out) (long : LongEnough ms (wholeEntry s)) where
@@ -111,12 +128,20 @@ module _ (s : Setup) (regions : List (List ℕ)) (ms : List Message) (S : List S
       go true e = record { k = refl; r = refl; held = refl; memory = refl; some = some-there (p .waiting) (omega (arith, tests)) }
       go false e = record { k = refl; r = refl; held = refl; memory = refl; some = some-more (p .waiting) (wholeEntry s) }
 
-  -- packet k is executed as soon as it is handed in
-  taken : (p : Plain) (j : ℕ) → j ≡ p .k → p .r ≡ 0 → length (p .memory) ≡ s .memory → none (p .waiting) ≡ false
-      → plainStep s regions S p (Hand j out) ≡ executeWith regions p (slot S j) (firstOf (heldNow p (slot S j)))
-  taken p j e r m w =
-      rw (le-ltb (length out) 24 (omega arith), eq-eqb (length (p .memory)) (s .memory) m, eq-eqb (p .r) 0 r, eq-eqb j (p .k) e, w)
-      (ap (λ b. cond b p (executeWith regions p (slot S j) (firstOf (heldNow p (slot S j))))) (and-false (slotNeedsEntry (slot S j))))
+  record Goal (p : Plain) (calls : List Call) : Type 0 where
+    each : AllCallsPermitted s regions ms S p calls
+    all : plain s regions S p calls .k ≡ length S
+
+  -- a call that leads from p to q
+  abbrev From : Plain → List Call → Type 0
+  From q rest = (y : Run) → Together q y → Goal q rest
+
+  call : (p q : Plain) (x : Run) (c : Call) (rest : List Call) → Together p x → CallPermitted s ms S p c → plainStep s regions S p c ≡ q
+      → From q rest → Goal p (c ∷ rest)
+  unfolding plain
+  call p q x c rest T m e k =
+      let a = subst (λ z. Goal z rest) (sym e) (k (step S x c) (subst (λ z. Together z (step S x c)) e (on p x T c m))) in
+      record { each = (m, a .each); all = a .all }
 
   -- asking for a response takes one away, if there is one
   fewer : (p : Plain) → length (p .memory) ≡ s .memory → plainStep s regions S p (Next out) ≡ withResponses p (p .r - 1)
@@ -124,50 +149,148 @@ module _ (s : Setup) (regions : List (List ℕ)) (ms : List Message) (S : List S
       let b : s .pmtu ≤ 4096 = bounds (s .pmtu) (f .pmtu) .1 in
       rw (le-ltb (length out) (16 + s .pmtu) (omega arith), eq-eqb (length (p .memory)) (s .memory) m) (go (eqb (p .r) 0) refl)
     where
-      go : (b : Bool) → eqb (p .r) 0 ≡ b → cond b p (withResponses p (p .r - 1)) ≡ withResponses p (p .r - 1)
+      go : (b : Bool) → eqb (p .r) 0 ≡ b → cond (b || (false || not true)) p (withResponses p (p .r - 1)) ≡ withResponses p (p .r - 1)
       go true e = let z : p .r ≡ p .r - 1 = omega (arith, tests) in λ i. withResponses p (z i)
       go false e = refl
 
-  abbrev Goal : Plain → List Call → Type 0
-  Goal p calls = AllCallsPermitted s regions ms S p calls × (plain s regions S p calls .k ≡ length S)
-
-  drains : (n : ℕ) (p : Plain) (x : Run) (rest : List Call) → Together p x → p .r ≤ n
-      → ((y : Run) → Together (withResponses p 0) y → Goal (withResponses p 0) rest)
-      → Goal p (draining out n rest)
-  unfolding draining plain
+  drains : (n : ℕ) (p : Plain) (x : Run) (rest : List Call) → Together p x → p .r ≤ n → From (withResponses p 0) rest → Goal p (asking out n rest)
+  unfolding asking
   drains zero p x rest T h k =
       let z : p .r ≡ 0 = omega arith in
       let e : p ≡ withResponses p 0 = λ i. withResponses p (z i) in
       subst (λ q. Goal q rest) (sym e) (k x (subst (λ q. Together q x) e T))
   drains (suc n) p x rest T h k =
-      let e = fewer p (bytes-are p x T) in
-      let U = on p x T (Next out) tt in
-      let g = drains n (withResponses p (p .r - 1)) (step S x (Next out)) rest (subst (λ q. Together q (step S x (Next out))) e U) (omega arith) k in
-      let a = subst (λ q. Goal q (draining out n rest)) (sym e) g in
-      ((tt, a .0), a .1)
+      call p (withResponses p (p .r - 1)) x (Next out) (asking out n rest) T tt (fewer p (bytes-are p x T))
+      (λ y U. drains n (withResponses p (p .r - 1)) y rest U (omega arith) k)
+
+  -- what a packet of the stream, handed in with room for an answer and nothing to send, comes to
+  delivered : (p : Plain) (j : ℕ) → length (p .memory) ≡ s .memory → p .r ≡ 0 → plainStep s regions S p (Hand j out) ≡ deliver regions S p j
+  delivered p j m r = rw (le-ltb (length out) 24 (omega arith), eq-eqb (length (p .memory)) (s .memory) m, eq-eqb (p .r) 0 r)
+
+  -- it is near, if it is the one before packet k, packet k or the one after
+  near-at : (p : Plain) (j : ℕ) → j < length S → numberAlong S j ≤ numberAlong S (p .k) + 4096 → numberAlong S (p .k) ≤ numberAlong S j + 4096
+      → (o : List ℕ) → Handed s S p j o
+  near-at p j i a b o = record { inside = i; near = λ _. record { behind = omega arith; ahead = omega arith } }
+
+  next-place : (j : ℕ) → j < length S → (numberAlong S j ≤ numberAlong S (suc j)) × (numberAlong S (suc j) ≤ numberAlong S j + 4096)
+  next-place j i = let c = few-numbers s regions ms S G f j i in (omega (arith, along-suc S j i), omega (arith, along-suc S j i))
+
+  module _ (j : ℕ) (i : j < length S) where
+    abbrev t : Slot
+    t = slot S j
+
+    -- packet j is the next one, or it is the last executed
+    record Due (p : Plain) : Type 0 where
+      k : p .k ≡ j
+      r : p .r ≡ 0
+      held : length (p .held) ≤ 1
+
+    record Done (q : Plain) : Type 0 where
+      k : q .k ≡ suc j
+      r : q .r ≡ cond (isRead (t .message .request)) (psnCount t) 0
+      held : length (q .held) ≤ 1
+
+    spans : (b : Bool) (r : ℕ) → r ≡ cond b (psnCount t) 0 → r ≤ psnCount t
+    spans true r e = omega arith
+    spans false r e = omega arith
+
+    here : (p : Plain) → p .k ≡ j → (o : List ℕ) → Handed s S p j o
+    here p k o = near-at p j i (omega (arith, ap (numberAlong S) k)) (omega (arith, ap (numberAlong S) k)) o
+
+    back : (q : Plain) → q .k ≡ suc j → Handed s S q j out
+    back q k = let n = next-place j i in near-at q j i (omega (arith, ap (numberAlong S) k, n .0)) (omega (arith, ap (numberAlong S) k, n .1)) out
+
+    executes : (p : Plain) (x : Run) (rest : List Call) → Together p x → Due p → ((q : Plain) → Done q → From q rest)
+        → Goal p (Post (wholeEntry s) ∷ Hand j out ∷ rest)
+    unfolding executeWith
+    executes p x rest T N k =
+        let p1 = plainStep s regions S p (Post (wholeEntry s)) in
+        let A = supplies p (N .held) in
+        let q = execute regions p1 t in
+        let same : j ≡ p1 .k = sym (A .k ∙ N .k) in
+        call p p1 x (Post (wholeEntry s)) (Hand j out ∷ rest) T (record { long = λ a. long }) refl
+        (λ y U.
+        call p1 q y (Hand j out) rest U (here p1 (sym same) out)
+        (delivered p1 j (bytes-are p1 y U) (A .r ∙ N .r)
+        ∙ rw (eq-eqb j (p1 .k) same, A .some) (ap (λ b. cond b p1 q) (and-false (slotNeedsEntry t))))
+        (k q
+        (record {
+          k = ap suc (sym same);
+          r = ap (cond (isRead (t .message .request)) (psnCount t)) (A .r ∙ N .r);
+          held = none-few (isLast t) (heldNow p1 t) (few (slotNeedsEntry t) (p1 .held) (p1 .waiting) (subst (λ es. length es ≤ 1) (sym (A .held)) (N .held)));
+        })))
+
+    -- it comes again: a READ is answered again, all else changes nothing
+    again : (q : Plain) (x : Run) (rest : List Call) → Together q x → q .k ≡ suc j → q .r ≡ 0 → From q rest
+        → Goal q (Hand j out ∷ draining out S j rest)
+    again q x rest T k r g =
+        let n = cond (isRead (t .message .request)) (psnCount t) 0 in
+        let z : withResponses q 0 ≡ q = λ w. withResponses q (sym r w) in
+        call q (withResponses q n) x (Hand j out) (draining out S j rest) T (back q k)
+        (delivered q j (bytes-are q x T) r
+        ∙ rw (ne-eqb j (q .k) (λ e. absurd (omega arith)), lt-ltb j (q .k) (omega arith)) (read (isRead (t .message .request))))
+        (λ y U. drains (psnCount t) (withResponses q n) y rest U (spans (isRead (t .message .request)) n refl)
+        (subst (λ v. From v rest) (sym z) g))
+      where
+        read : (b : Bool) → cond b (withResponses q (psnCount t)) q ≡ withResponses q (cond b (psnCount t) 0)
+        read true = refl
+        read false = λ w. withResponses q (r w)
+
+    -- at once, a READ is refused, all else is a duplicate
+    at-once : (q : Plain) → Done q → length (q .memory) ≡ s .memory → plainStep s regions S q (Hand j out) ≡ q
+    at-once q D m =
+        let k = D .k in
+        rw (le-ltb (length out) 24 (omega arith), eq-eqb (length (q .memory)) (s .memory) m, ne-eqb j (q .k) (λ e. absurd (omega arith)), lt-ltb j (q .k) (omega arith))
+        (go (isRead (t .message .request)) (D .r))
+      where
+        go : (b : Bool) → q .r ≡ cond b (psnCount t) 0 → cond (not (eqb (q .r) 0)) q (cond b (withResponses q (psnCount t)) q) ≡ q
+        go true e = rw (ne-eqb (q .r) 0 (λ z. absurd (omega (arith, G .some j i))))
+        go false e = rw (eq-eqb (q .r) 0 e)
+
+    -- the packet after it changes nothing
+    loses : (p : Plain) (x : Run) (rest : List Call) → Together p x → Due p → From p rest → Goal p (losing out S j rest)
+    loses p x rest T N g = go (ltb (suc j) (length S)) refl
+      where
+        go : (b : Bool) → ltb (suc j) (length S) ≡ b → Goal p (cond b (Hand (suc j) out ∷ rest) rest)
+        go true e =
+            let n = next-place j i in
+            let k = N .k in
+            call p p x (Hand (suc j) out) rest T
+            (near-at p (suc j) (ltb-true (suc j) (length S) e) (omega (arith, ap (numberAlong S) k, n .1)) (omega (arith, ap (numberAlong S) k, n .0)) out)
+            (delivered p (suc j) (bytes-are p x T) (N .r)
+            ∙ rw (ne-eqb (suc j) (p .k) (λ z. absurd (omega arith)), le-ltb (suc j) (p .k) (omega arith)))
+            g
+        go false e = g x T
 
   turns : (n j : ℕ) (p : Plain) (x : Run) → Together p x → p .k ≡ j → j + n ≡ length S → p .r ≡ 0 → length (p .held) ≤ 1
       → Goal p (inTurn s out S j n)
-  unfolding inTurn plain executeWith
-  turns zero j p x T k l r h = (tt, omega (arith, k))
+  unfolding inTurn plain
+  turns zero j p x T k l r h = record { each = tt; all = omega (arith, k) }
   turns (suc n) j p x T k l r h =
-      let p1 = plainStep s regions S p (Post (wholeEntry s)) in
-      let A = supplies p h in
-      let m1 : Posted s ms p (wholeEntry s) = record { long = λ a b. long } in
-      let T1 = on p x T (Post (wholeEntry s)) m1 in
-      let same : j ≡ p1 .k = sym (A .k ∙ k) in
-      let m2 : Handed s S p1 j out =
-      record { inside = omega (arith, l); near = λ a b c. record { behind = omega (arith, ap (numberAlong S) same); ahead = omega (arith, ap (numberAlong S) same) } } in
-      let T2 = on p1 (step S x (Post (wholeEntry s))) T1 (Hand j out) m2 in
-      let e = taken p1 j same (A .r ∙ r) (bytes-are p1 (step S x (Post (wholeEntry s))) T1) (A .some) in
-      let p2 = executeWith regions p1 (slot S j) (firstOf (heldNow p1 (slot S j))) in
-      let g : Goal p2 (draining out (psnCount (slot S j)) (inTurn s out S (suc j) n)) =
-      drains (psnCount (slot S j)) p2 _ (inTurn s out S (suc j) n) (subst (λ q. Together q (step S (step S x (Post (wholeEntry s))) (Hand j out))) e T2)
-      (answers (isRead (slot S j .message .request)) (psnCount (slot S j)) (p1 .r) (A .r ∙ r))
-      (λ y U. turns n (suc j) (withResponses p2 0) y U (ap suc (A .k ∙ k)) (omega (arith, l)) refl
-      (none-few (isLast (slot S j)) (heldNow p1 (slot S j)) (few (slotNeedsEntry (slot S j)) (p1 .held) (p1 .waiting) (subst (λ es. length es ≤ 1) (sym (A .held)) h)))) in
-      let a = subst (λ q. Goal q (draining out (psnCount (slot S j)) (inTurn s out S (suc j) n))) (sym e) g in
-      ((m1, (m2, a .0)), a .1)
+      let i : j < length S = omega (arith, l) in
+      executes j i p x _ T (record { k = k; r = r; held = h })
+      (λ q D y U. drains (psnCount (slot S j)) q y _ U (spans j i (isRead (slot S j .message .request)) (q .r) (D .r))
+      (λ z W. turns n (suc j) (withResponses q 0) z W (D .k) (omega (arith, l)) refl (D .held)))
+
+  faults : (n j : ℕ) (p : Plain) (x : Run) → Together p x → p .k ≡ j → j + n ≡ length S → p .r ≡ 0 → length (p .held) ≤ 1
+      → Goal p (withFaults s out S j n)
+  unfolding withFaults plain
+  faults zero j p x T k l r h = record { each = tt; all = omega (arith, k) }
+  faults (suc n) j p x T k l r h =
+      let i : j < length S = omega (arith, l) in
+      let N : Due j i p = record { k = k; r = r; held = h } in
+      call p p x (Next out) _ T tt (rw (eq-eqb (p .r) 0 r))
+      (λ x1 T1. call p p x1 (Hand j []) _ T1 (here j i p k []) refl
+      (λ x2 T2. call p p x2 (Post (outsideEntry s)) _ T2 (record { long = λ e. absurd (true≢false (sym beyond ∙ e)) }) (ap (λ b. cond b p (withWaiting p (p .waiting ++ (outsideEntry s ∷ [])))) beyond)
+      (λ x3 T3. loses j i p x3 _ T3 N
+      (λ x4 T4. executes j i p x4 _ T4 N
+      (λ q D y U. call q q y (Hand j out) _ U (back j i q (D .k)) (at-once j i q D (bytes-are q y U))
+      (λ y1 U1. drains (psnCount (slot S j)) q y1 _ U1 (spans j i (isRead (slot S j .message .request)) (q .r) (D .r))
+      (λ y2 U2. again j i (withResponses q 0) y2 _ U2 (D .k) refl
+      (λ z W. faults n (suc j) (withResponses q 0) z W (D .k) (omega (arith, l)) refl (D .held)))))))))
+    where
+      beyond : postRefused s p (outsideEntry s) ≡ true
+      beyond = ap (λ b. b || leb 16 (length (p .held) + length (p .waiting))) (lt-ltb (s .memory) (1 + s .memory) (omega arith))
 
 pub witness : Witness
 witness w ms m out F p l h b room =
@@ -175,8 +298,11 @@ witness w ms m out F p l h b room =
     let f = F .sound .pair .setup .0 in
     let S = stream (s .start) ms in
     let G = good s (w .regions) ms f (reliable-serves s ms (F .reliable)) p in
-    let g =
-    turns s (w .regions) ms S G f (F .reliable) out room h (length S) 0 (start s m (waitingAt w)) (record { whole = w; memory = m; completions = [] })
-    (record { setup = refl; tables = refl; link = fresh-link w ms m F l G; sound = steady w (F .sound); bytes = b })
-    refl (omega arith) refl (omega arith) in
-    (inTurn s out S 0 (length S), g .0, g .1)
+    let x : Run = record { whole = w; memory = m; completions = [] } in
+    let T : Together s (w .regions) ms S G f (F .reliable) out room h (start s m (waitingAt w)) x =
+    record { setup = refl; tables = refl; link = fresh-link w ms m F l G; sound = steady w (F .sound); bytes = b } in
+    let a = turns s (w .regions) ms S G f (F .reliable) out room h (length S) 0 (start s m (waitingAt w)) x T refl (omega arith) refl (omega arith) in
+    let c = faults s (w .regions) ms S G f (F .reliable) out room h (length S) 0 (start s m (waitingAt w)) x T refl (omega arith) refl (omega arith) in (
+      record { asked = record { fresh = F; permitted = p; waiting = l; each = a .each }; all = a .all },
+      record { asked = record { fresh = F; permitted = p; waiting = l; each = c .each }; all = c .all },
+    )

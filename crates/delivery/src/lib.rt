@@ -1,1 +1,1 @@
-// No code: what is proved of the responder over every list of calls. The statement is Delivery, in the crate delivery_spec.
+// No code: the proof of demand 3, whose statement is in the crate delivery_spec, and that what it asks can be met.

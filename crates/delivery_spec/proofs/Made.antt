@@ -17,7 +17,7 @@ use Rattle.pair.specs.declared.Setup.{Setup}
 use Rattle.pair.specs.declared.Pair.{Pair}
 use Rattle.pair.proofs.Begin.{reset-pair, reset-regions, set-up-regions, set-up-pair, ready-pair, ready-wrong}
 use Rattle.pair.proofs.Kept.{begun-sound, calls-sound}
-use Rattle.delivery_spec.specs.Made.{NotSetUp, NoneSetUp, FreshMade, ReadyMade, FreshReset}
+use Rattle.delivery_spec.specs.Made.{NotSetUp, NoneSetUp, FreshMade, ReadyMade, FreshReset, NotSetUpIs}
 use Rattle.delivery_spec.specs.Demand.{Fresh}
 
 -- nothing was delivered, and the pair is not in Error
@@ -120,3 +120,11 @@ pub fresh-reset : FreshReset
 fresh-reset w calls h r e l none =
     subst (λ b. (calledAll b calls .pair .setup ≡ w .pair .setup) × (calledAll b calls .pair .state ≡ 1 → Fresh (calledAll b calls)))
     (sym (reset-begins w h)) (fresh-made (w .pair .setup) (w .regions) (w .entries) (w .saved) calls h r e l none)
+
+pub not-set-up-is : NotSetUpIs
+not-set-up-is (SetUp s) = (λ n t e. n, λ f. f s refl)
+not-set-up-is Reset = (λ n t e. absurd (subst NotSetUp e tt), λ f. tt)
+not-set-up-is MakeReady = (λ n t e. absurd (subst NotSetUp e tt), λ f. tt)
+not-set-up-is (AddRegion r) = (λ n t e. absurd (subst NotSetUp e tt), λ f. tt)
+not-set-up-is (RemoveRegion key) = (λ n t e. absurd (subst NotSetUp e tt), λ f. tt)
+not-set-up-is (PostEntry x) = (λ n t e. absurd (subst NotSetUp e tt), λ f. tt)

@@ -4,7 +4,7 @@ use mathlib.Core.Path.{_≡_}
 use mathlib.Core.Bool.{Bool, true, false}
 use mathlib.Core.List.{List, [], _∷_, _++_, map}
 use mathlib.Core.Logic.{_⊎_}
-use lib.ListN.{length}
+use lib.ListN.{length, take}
 use Rattle.responder_spec.specs.Arrival.{Arrival, arrivingAt}
 use Rattle.header.specs.Check.{pkeysMatch}
 use Rattle.table.specs.EntryRow as EntryRow
@@ -25,7 +25,7 @@ use Rattle.responder_spec.specs.Response.{nextResponse}
 use Rattle.responder_spec.specs.Calls.{drained, reports}
 use Rattle.responder_spec.specs.declared.Completion.{Completion}
 use Rattle.delivery_spec.specs.Stream.{Message, Slot, slot, stream, packetAt, numberAlong}
-use Rattle.delivery_spec.specs.Plain.{Plain, Call, answerRoom, plainStep, plain, start}
+use Rattle.delivery_spec.specs.Plain.{Plain, Call, handRefused, postRefused, plainStep, plain, start, accepted, executeAll}
 use Rattle.delivery_spec.specs.Plain.Call.{Hand, Next, Post}
 
 -- The pair's run: its tables, memory, and the completions reported so far.
@@ -105,9 +105,13 @@ pub record Permitted (s : Setup) (regions : List (List ℕ)) (m : Message) : Typ
   pub allowed : Allowed s regions (m .request) (length (m .bytes))
   pub addressed : Addressed s m
 
+-- of every element of a list
+abbrev pub All : {A : Type 0} → (A → Type 0) → List A → Type 0
+All P [] = Unit {0}
+All P (x ∷ xs) = P x × All P xs
+
 abbrev pub AllPermitted : Setup → List (List ℕ) → List Message → Type 0
-AllPermitted s regions [] = Unit {0}
-AllPermitted s regions (m ∷ ms) = Permitted s regions m × AllPermitted s regions ms
+AllPermitted s regions ms = All (Permitted s regions) ms
 
 -- An entry of n bytes is not shorter than any SEND of the stream.
 abbrev pub AtLeast : ℕ → Request → ℕ → Type 0
@@ -120,12 +124,10 @@ AtLeast n (CmpSwap a) d = Unit {0}
 AtLeast n (FetchAdd t v) d = Unit {0}
 
 abbrev pub LongEnough : List Message → Entry → Type 0
-LongEnough [] e = Unit {0}
-LongEnough (m ∷ ms) e = AtLeast (e .length) (m .request) (length (m .bytes)) × LongEnough ms e
+LongEnough ms e = All (λ m. AtLeast (e .length) (m .request) (length (m .bytes))) ms
 
 abbrev pub AllLongEnough : List Message → List Entry → Type 0
-AllLongEnough ms [] = Unit {0}
-AllLongEnough ms (e ∷ es) = LongEnough ms e × AllLongEnough ms es
+AllLongEnough ms es = All (LongEnough ms) es
 
 -- Two positions along the stream, at most 8,388,607 numbers apart.
 pub record Near (x y : ℕ) : Type 0 where
@@ -136,11 +138,11 @@ pub record Near (x y : ℕ) : Type 0 where
 -- not refused, its number is near the one of packet k, which may be the next after the last.
 pub record Handed (s : Setup) (S : List Slot) (p : Plain) (j : ℕ) (out : List ℕ) : Type 0 where
   pub inside : j < length S
-  pub near : answerRoom ≤ length out → length (p .memory) ≡ s .memory → p .r ≡ 0 → Near (numberAlong S j) (numberAlong S (p .k))
+  pub near : handRefused s p out ≡ false → Near (numberAlong S j) (numberAlong S (p .k))
 
 -- An entry that is accepted is long enough.
 pub record Posted (s : Setup) (ms : List Message) (p : Plain) (e : Entry) : Type 0 where
-  pub long : e .offset + e .length ≤ s .memory → length (p .held) + length (p .waiting) < 16 → LongEnough ms e
+  pub long : postRefused s p e ≡ false → LongEnough ms e
 
 abbrev pub CallPermitted : Setup → List Message → List Slot → Plain → Call → Type 0
 CallPermitted s ms S p (Hand j out) = Handed s S p j out
@@ -165,13 +167,34 @@ pub record Agree (x : Run) (p : Plain) : Type 0 where
   pub msn : x .whole .pair .msn ≡ p .msn
   pub expected : x .whole .pair .expected ≡ p .expected
 
+-- What is asked: of the pair, of the stream, of the entries that wait at the start and of the calls.
+pub record Asked (w : Whole) (ms : List Message) (m : List ℕ) (calls : List Call) : Type 0 where
+  pub fresh : Fresh w
+  pub permitted : AllPermitted (w .pair .setup) (w .regions) ms
+  pub waiting : AllLongEnough ms (waitingAt w)
+  pub each :
+      AllCallsPermitted (w .pair .setup) (w .regions) ms (stream (w .pair .setup .start) ms) (start (w .pair .setup) m (waitingAt w))
+      calls
+
+-- After every list of calls the pair's run and the plain run agree.
 abbrev pub Delivery : Type 0
 Delivery =
-    (w : Whole) (ms : List Message) (m : List ℕ) (calls : List Call)
-    → Fresh w
-    → AllPermitted (w .pair .setup) (w .regions) ms
-    → AllLongEnough ms (waitingAt w)
-    → AllCallsPermitted (w .pair .setup) (w .regions) ms (stream (w .pair .setup .start) ms) (start (w .pair .setup) m (waitingAt w)) calls
-    → Agree
-    (run (stream (w .pair .setup .start) ms) (record { whole = w; memory = m; completions = [] }) calls)
-    (plain (w .pair .setup) (w .regions) (stream (w .pair .setup .start) ms) (start (w .pair .setup) m (waitingAt w)) calls)
+    (w : Whole) (ms : List Message) (m : List ℕ) (calls : List Call) → Asked w ms m calls
+    → let s = w .pair .setup in
+    let S = stream (s .start) ms in
+    let x = run S (record { whole = w; memory = m; completions = [] }) calls in
+    let p = plain s (w .regions) S (start s m (waitingAt w)) calls in
+    Agree x p
+
+-- So it is the first k packets of the stream, once each, in order, with the same entries: those that wait at the start,
+-- then those of the posts that are accepted. k is how often packet k was delivered, with an entry waiting if it needs one.
+abbrev pub ExactlyOnce : Type 0
+ExactlyOnce =
+    (w : Whole) (ms : List Message) (m : List ℕ) (calls : List Call) → Asked w ms m calls
+    → let s = w .pair .setup in
+    let S = stream (s .start) ms in
+    let x = run S (record { whole = w; memory = m; completions = [] }) calls in
+    let p = start s m (waitingAt w) in
+    let k = plain s (w .regions) S p calls .k in
+    let entries = waitingAt w ++ accepted s (w .regions) S p calls in
+    (k ≤ length S) × Agree x (executeAll (w .regions) (start s m entries) (take k S))

@@ -1,13 +1,13 @@
 -- A fresh pair is what the host's calls make: set up, then any of them but a further set-up, as many as wished.
 use Prim.Native.Nat.{ℕ}
 use mathlib.Core.Path.{_≡_}
-use mathlib.Core.List.{List, [], _∷_}
+use mathlib.Core.List.{List, []}
 use lib.ListN.{length}
 use Rattle.pair.specs.Calls.{Whole, HostCall, begun, called, calledAll}
 use Rattle.pair.specs.Calls.HostCall.{SetUp, Reset, MakeReady, AddRegion, RemoveRegion, PostEntry}
 use Rattle.pair.specs.Claims.{SetupSound}
 use Rattle.pair.specs.declared.Setup.{Setup}
-use Rattle.delivery_spec.specs.Demand.{Fresh}
+use Rattle.delivery_spec.specs.Demand.{Fresh, All}
 
 abbrev pub NotSetUp : HostCall → Type 0
 NotSetUp (SetUp s) = ⊥
@@ -17,9 +17,12 @@ NotSetUp (AddRegion r) = Unit {0}
 NotSetUp (RemoveRegion key) = Unit {0}
 NotSetUp (PostEntry e) = Unit {0}
 
+-- every call but a set-up
+abbrev pub NotSetUpIs : Type 0
+NotSetUpIs = (c : HostCall) → (NotSetUp c → (s : Setup) → c ≡ SetUp s → ⊥) × (((s : Setup) → c ≡ SetUp s → ⊥) → NotSetUp c)
+
 abbrev pub NoneSetUp : List HostCall → Type 0
-NoneSetUp [] = Unit {0}
-NoneSetUp (c ∷ cs) = NotSetUp c × NoneSetUp cs
+NoneSetUp calls = All NotSetUp calls
 
 -- The tables may have held anything, and calls may have been refused: a pair that is Ready in the end is fresh.
 abbrev pub FreshMade : Type 0

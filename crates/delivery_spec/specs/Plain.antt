@@ -1,7 +1,7 @@
 -- The plain run: from the stream, the start and each call's arguments alone. It stores from the message, and knows no
 -- packet, no header, no answer.
-use Prim.Native.Nat.{ℕ, suc, _+_, _-_, _*_}
-use mathlib.Core.Bool.{Bool, true, false, cond, not, _&&_}
+use Prim.Native.Nat.{ℕ, suc, _+_, _-_, _*_, _<_}
+use mathlib.Core.Bool.{Bool, true, false, cond, not, _&&_, _||_}
 use mathlib.Core.List.{List, [], _∷_, _++_}
 use lib.Dec.{leb, ltb, eqb}
 use lib.ListN.{length, take, drop}
@@ -12,6 +12,7 @@ use Rattle.memory.specs.Memory.{overwrite}
 use Rattle.memory.specs.Word.{fetchAdded, swapped}
 use Rattle.pmtu.specs.Pieces.{pieceAt}
 use Rattle.table.specs.RegionRow as RegionRow
+use Rattle.table.specs.Table.{entryCapacity}
 use Rattle.table.specs.View.{regionOf}
 use Rattle.table.specs.declared.Entry.{Entry}
 use Rattle.pair.specs.declared.Setup.{Setup}
@@ -37,6 +38,13 @@ pub data Call : Type 0 where
   Next : List ℕ → Call
   Post : Entry → Call
 
+-- every packet handed in is one of n
+abbrev pub AllInside : ℕ → List Call → Type 0
+AllInside n [] = Unit {0}
+AllInside n (Hand j out ∷ cs) = (j < n) × AllInside n cs
+AllInside n (Next out ∷ cs) = AllInside n cs
+AllInside n (Post e ∷ cs) = AllInside n cs
+
 -- a packet that needs an entry, by its index and the count of its message: the first of a SEND, the last of a WRITE
 -- with immediate
 abbrev pub needsEntryAt : Request → ℕ → ℕ → Bool
@@ -48,7 +56,7 @@ needsEntryAt (Read a) i n = false
 needsEntryAt (CmpSwap a) i n = false
 needsEntryAt (FetchAdd t v) i n = false
 
--- a message that takes an entry; its completion
+-- a message that takes an entry
 abbrev pub takesEntry : Request → Bool
 takesEntry Send = true
 takesEntry (SendImmediate v) = true
@@ -62,14 +70,15 @@ abbrev pub completionWith : Entry → ℕ → Bool → ℕ → Completion
 completionWith e n immediate value =
     record { some = true; number = e .number; length = n; immediate = immediate; value = value }
 
-abbrev pub completionFor : Request → Entry → ℕ → Completion
-completionFor Send e n = completionWith e n false 0
-completionFor (SendImmediate v) e n = completionWith e n true v
-completionFor (Write t) e n = completionWith e n false 0
-completionFor (WriteImmediate t v) e n = completionWith e n true v
-completionFor (Read a) e n = completionWith e n false 0
-completionFor (CmpSwap a) e n = completionWith e n false 0
-completionFor (FetchAdd t v) e n = completionWith e n false 0
+-- what is reported at its end: one completion, if it took an entry
+abbrev pub completionsFor : Request → Entry → ℕ → List Completion
+completionsFor Send e n = completionWith e n false 0 ∷ []
+completionsFor (SendImmediate v) e n = completionWith e n true v ∷ []
+completionsFor (Write t) e n = []
+completionsFor (WriteImmediate t v) e n = completionWith e n true v ∷ []
+completionsFor (Read a) e n = []
+completionsFor (CmpSwap a) e n = []
+completionsFor (FetchAdd t v) e n = []
 
 -- where in memory the address of a region lies
 unfoldable pub regionOffset : List (List ℕ) → ℕ → ℕ → ℕ
@@ -100,7 +109,7 @@ abbrev pub none : List Entry → Bool
 none [] = true
 none (e ∷ es) = false
 
--- of the entries in their order, the first
+-- of the entries in their order, the first; a packet that needs none, and has none, stores nothing by it
 abbrev pub firstOf : List Entry → Entry
 firstOf [] = record { number = 0; offset = 0; length = 0 }
 firstOf (e ∷ es) = e
@@ -127,13 +136,13 @@ heldNow p t = cond (slotNeedsEntry t) (take 1 (p .waiting)) (p .held)
 abbrev pub waitingNow : Plain → Slot → List Entry
 waitingNow p t = cond (slotNeedsEntry t) (drop 1 (p .waiting)) (p .waiting)
 
--- packet k is executed, once, with its entry e
+-- the packet t is executed, once, with its entry e
 unfoldable pub executeWith : List (List ℕ) → Plain → Slot → Entry → Plain
 executeWith regions p t e =
     record {
       k = suc (p .k);
       memory = memoryAfter (t .message .request) regions (t .message .connection .pmtu) (t .message .bytes) (t .index) e (p .memory);
-      completions = p .completions ++ cond (isLast t && takesEntry (t .message .request)) (completionFor (t .message .request) e (length (t .message .bytes)) ∷ []) [];
+      completions = p .completions ++ cond (isLast t) (completionsFor (t .message .request) e (length (t .message .bytes))) [];
       msn = cond (isLast t) (msnNext (p .msn)) (p .msn);
       expected = psnAfter (p .expected) (psnCount t);
       held = cond (isLast t) [] (heldNow p t);
@@ -141,9 +150,12 @@ executeWith regions p t e =
       r = cond (isRead (t .message .request)) (psnCount t) (p .r);
     }
 
+abbrev pub execute : List (List ℕ) → Plain → Slot → Plain
+execute regions p t = executeWith regions p t (firstOf (heldNow p t))
+
 -- packet k has come: without the entry that it needs, nothing
 abbrev pub executeNext : List (List ℕ) → Plain → Slot → Plain
-executeNext regions p t = cond (slotNeedsEntry t && none (p .waiting)) p (executeWith regions p t (firstOf (heldNow p t)))
+executeNext regions p t = cond (slotNeedsEntry t && none (p .waiting)) p (execute regions p t)
 
 -- packet j is delivered: packet k is executed, a READ before it, a duplicate, is answered, all else changes nothing
 abbrev pub deliver : List (List ℕ) → List Slot → Plain → ℕ → Plain
@@ -158,17 +170,26 @@ answerRoom = 24
 abbrev pub responseRoom : ℕ
 responseRoom = 16
 
--- a call that the order of checks refuses changes nothing
+-- The order of checks, read on the plain run. A packet handed in is refused if the output is too short, memory is not as
+-- long as it was set up, or responses are still to send;
+abbrev pub handRefused : Setup → Plain → List ℕ → Bool
+handRefused s p out = ltb (length out) answerRoom || (not (eqb (length (p .memory)) (s .memory)) || not (eqb (p .r) 0))
+
+-- a response asked for, if there is none to send, the output is too short, or memory is not as long as it was set up;
+abbrev pub nextRefused : Setup → Plain → List ℕ → Bool
+nextRefused s p out =
+    eqb (p .r) 0 || (ltb (length out) (responseRoom + s .pmtu) || not (eqb (length (p .memory)) (s .memory)))
+
+-- an entry, if it does not lie in memory, or there are 16, the one of an open SEND among them
+abbrev pub postRefused : Setup → Plain → Entry → Bool
+postRefused s p e =
+    ltb (s .memory) (e .offset + e .length) || leb entryCapacity (length (p .held) + length (p .waiting))
+
+-- a call that is refused changes nothing
 abbrev pub plainStep : Setup → List (List ℕ) → List Slot → Plain → Call → Plain
-plainStep s regions S p (Hand j out) =
-    cond (ltb (length out) answerRoom) p
-    (cond (not (eqb (length (p .memory)) (s .memory))) p (cond (not (eqb (p .r) 0)) p (deliver regions S p j)))
-plainStep s regions S p (Next out) =
-    cond (eqb (p .r) 0) p
-    (cond (ltb (length out) (responseRoom + s .pmtu)) p (cond (not (eqb (length (p .memory)) (s .memory))) p (withResponses p (p .r - 1))))
-plainStep s regions S p (Post e) =
-    cond (ltb (s .memory) (e .offset + e .length)) p
-    (cond (leb 16 (length (p .held) + length (p .waiting))) p (withWaiting p (p .waiting ++ (e ∷ []))))
+plainStep s regions S p (Hand j out) = cond (handRefused s p out) p (deliver regions S p j)
+plainStep s regions S p (Next out) = cond (nextRefused s p out) p (withResponses p (p .r - 1))
+plainStep s regions S p (Post e) = cond (postRefused s p e) p (withWaiting p (p .waiting ++ (e ∷ [])))
 
 unfoldable pub plain : Setup → List (List ℕ) → List Slot → Plain → List Call → Plain
 plain s regions S p [] = p
@@ -178,3 +199,18 @@ plain s regions S p (c ∷ cs) = plain s regions S (plainStep s regions S p c) c
 abbrev pub start : Setup → List ℕ → List Entry → Plain
 start s m waiting =
     record { k = 0; memory = m; completions = []; msn = record { 0 = 0 }; expected = s .start; held = []; waiting = waiting; r = 0 }
+
+-- the entries of the posts that are accepted, in their order
+abbrev pub acceptedNow : Setup → Plain → Call → List Entry
+acceptedNow s p (Hand j out) = []
+acceptedNow s p (Next out) = []
+acceptedNow s p (Post e) = cond (postRefused s p e) [] (e ∷ [])
+
+unfoldable pub accepted : Setup → List (List ℕ) → List Slot → Plain → List Call → List Entry
+accepted s regions S p [] = []
+accepted s regions S p (c ∷ cs) = acceptedNow s p c ++ accepted s regions S (plainStep s regions S p c) cs
+
+-- Packets one after the other, each once: no calls, none lost, none twice.
+unfoldable pub executeAll : List (List ℕ) → Plain → List Slot → Plain
+executeAll regions p [] = p
+executeAll regions p (t ∷ ts) = executeAll regions (execute regions p t) ts

@@ -40,7 +40,8 @@ stream first (m ∷ ms) =
     slotsFrom m first 0 (packetCount m)
     ++ stream (nextPsn (m .request) (length (m .bytes)) (m .connection .pmtu) first) ms
 
--- past the end a message would begin
+-- Past the end a message would begin: after the last packet, as before the first of a message, none is open. So the
+-- index is 0; nothing else of it is ever looked at, since only packets of the stream are handed in.
 abbrev pub past : Slot
 past =
     record {

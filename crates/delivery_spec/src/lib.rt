@@ -1,1 +1,1 @@
-// Exactly once, in order: what is claimed, and the steps of its proof that rest on no law of the responder.
+// No code. Exactly once, in order: what is claimed (Demand), and laws that what it asks is no more than its words.

@@ -11,7 +11,7 @@ ghost use mathlib.Core.Bool.{not};
 ghost use Prim.Native.Nat.{_+_, _≤_};
 ghost use lib.ListN.{length};
 ghost use Rattle.memory.specs.Memory.{store};
-ghost use Rattle.header.specs.Write.{bthFits, followsBy, widthsFit, extensionFits, headerFits, extensionBytes, written, writtenOut};
+ghost use Rattle.header.specs.Write.{bthFits, followsBy, widthsFit, extensionFits, headerFits, extensionBytes, writeAnswer, written, answerNumber, writtenOut};
 
 // A field over its width, a TVer or a service that no header here has. What a field's own type bounds
 // is not tested again.
@@ -133,6 +133,7 @@ fn write_extension(out: &mut [u8], e: Extension)
 // Writes the header at the start of the output.
 pub fn write(h: Header, out: &mut [u8]) -> Answer
     ensures { λ r. ⌜ r ≡ written h (length (now (out .entry))) ⌝ }
+    ensures { λ r. ⌜ answerNumber r ≡ writeAnswer h (length (now (out .entry))) ⌝ }
     ensures { λ r. ⌜ now (out .exit) ≡ writtenOut h (now (out .entry)) ⌝ }
 {
     let none = unfit(h);

@@ -11,10 +11,10 @@ use Rattle.header.specs.Read.{bthOf, headerOf, readReason}
 use Rattle.header.specs.Check.{pkeysMatch, headerReason, admitted}
 use Rattle.header.specs.Claims.{CheckedReads, Admits}
 use Rattle.header.specs.Drops.{ServiceOurs}
-use Rattle.header.proofs.Reasons.{no-reason, was-read, accepted, accepted-by, read-by}
+use Rattle.header.proofs.Reasons.{no-reason, accepted, accepted-by, read-by}
 use Rattle.header.proofs.Widths.{known, below-64}
 use Rattle.header.proofs.Conditions.{rc-or-uc, known-low, length-tested, keys-of}
-use Rattle.header.proofs.Drops.{first-fails, dropped-by}
+use Rattle.header.proofs.Drops.{was-read, first-fails, dropped-by}
 use Rattle.header.specs.declared.HeaderRead.the-variants.{Accepted}
 
 -- no reason of the nine is none of the four

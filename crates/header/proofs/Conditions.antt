@@ -1,6 +1,6 @@
 -- Each header check says its condition.
 use Prim.Native.Nat.{ℕ, suc, _-_, _/_, _%_, _≤_, _<_, min}
-use mathlib.Core.Path.{_≡_, refl, subst}
+use mathlib.Core.Path.{_≡_, refl, sym, subst}
 use mathlib.Core.Bool.{Bool, true, false, not, _&&_, _||_, true≢false}
 use mathlib.Core.Logic.{_⊎_, inl, inr}
 use native.Mathlib.Omega.{arith}
@@ -8,11 +8,13 @@ use lib.Dec.{leb, ltb, eqb}
 use borrow.Author.Tests.{eqb-true, eqb-false, eq-eqb, ltb-true, ltb-false, lt-ltb, le-ltb, lt-leb}
 use Rattle.lemmas.proofs.Auto.{tests}
 use Rattle.lemmas.proofs.Tests.{or-left, or-right, neither}
-use Rattle.opcode.specs.Opcode.{ucHas}
+use Rattle.opcode.specs.Opcode.{ucHas, classOf}
 use Rattle.header.specs.Read.{badLength, otherService}
 use Rattle.header.specs.Check.{pkeysMatch, wrongService, isResponse, beyondService}
+use Rattle.header.specs.Layout.{wholeLength, afterOpcode}
 use Rattle.header.specs.Drops.{LengthGood, KeysMatch, ServiceOurs, NoResponse, OnService}
 use Rattle.header.proofs.Reasons.{of-not, length-good, good-length}
+use Rattle.header.proofs.Table.{headers-by-opcode}
 use Rattle.header.proofs.Keys.{matches, matches-only}
 
 -- a test that is true where its condition fails, both ways
@@ -121,3 +123,13 @@ uc-tested opcode service = (forth, back (eqb service 1) refl)
     back : (b : Bool) → eqb service 1 ≡ b → OnService opcode service → (b && not (ltb (opcode % 32) 12)) ≡ false
     back true e f = rw (lt-ltb (opcode % 32) 12 (f (eqb-true service 1 e)))
     back false e f = refl
+
+-- RC or UC, and room for the headers of the opcode
+pub known-tested : (service : ℕ) → Tells (otherService service) (service ≤ 1)
+unfolding otherService
+known-tested service = (λ h. omega (arith, tests), λ h. omega (arith, le-ltb))
+
+pub room-tested : (n opcode : ℕ) → Tells (ltb n (classOf opcode .length)) (wholeLength (afterOpcode opcode) ≤ n)
+room-tested n opcode =
+    let e = headers-by-opcode opcode .bytes in
+    (λ h. subst (λ k. k ≤ n) e (ltb-false n (classOf opcode .length) h), λ h. le-ltb n (classOf opcode .length) (subst (λ k. k ≤ n) (sym e) h))

@@ -1,16 +1,20 @@
 -- The first header check that fails decides.
-use Prim.Native.Nat.{ℕ, suc, _≤_, _<_}
+use Prim.Native.Nat.{ℕ, suc, _/_, _≤_, _<_}
 use mathlib.Core.Path.{_≡_, refl, sym, _∙_}
 use mathlib.Core.Bool.{Bool, true, false, cond, _||_, true≢false}
+use mathlib.Core.List.{List}
 use mathlib.Core.Logic.{_⊎_, inl, inr}
 use native.Mathlib.Omega.{arith}
 use lib.Dec.{ltb, eqb}
-use borrow.Author.Tests.{eq-eqb, ne-eqb, lt-ltb}
+use lib.ListN.{length, getD}
+use borrow.Author.Tests.{eq-eqb, ne-eqb, lt-ltb, ltb-false}
 use Rattle.lemmas.proofs.Auto.{tests}
-use Rattle.header.specs.Read.{readBy}
+use Rattle.opcode.specs.Opcode.{classOf}
+use Rattle.header.specs.Read.{bthOf, badLength, readReason, readBy, readHeader}
 use Rattle.header.specs.Check.{headerReason, admitted}
-use Rattle.header.specs.Drops.{FirstOf, FirstFails, DroppedBy}
-use Rattle.header.proofs.Conditions.{Tells, equal-tested, least-tested, flag-tested, length-tested, keys-tested, service-tested, response-tested, uc-tested}
+use Rattle.header.specs.Drops.{FirstOf, FirstFails, DroppedBy, ReadFails, ReadDroppedBy}
+use Rattle.header.proofs.Reasons.{Read}
+use Rattle.header.proofs.Conditions.{Tells, equal-tested, least-tested, flag-tested, length-tested, keys-tested, service-tested, response-tested, uc-tested, known-tested, room-tested}
 
 -- One check of a cascade: its own number where its condition fails, what the later ones give where it holds; and the
 -- condition holds or not.
@@ -189,3 +193,24 @@ first-fails service ours pkey ready p =
 pub dropped-by : DroppedBy
 unfolding admitted readBy
 dropped-by service ours pkey ready p reason e = (λ z. rw (e, eq-eqb reason 0 z), λ n. rw (e, ne-eqb reason 0 n))
+
+-- a condition that is not asked for
+unasked : {k rest : ℕ} → Link (Unit {0}) k rest rest
+unasked = record { fails = λ n. absurd (n tt); holds = λ x. refl; either = inl tt }
+
+pub read-fails : ReadFails
+unfolding readReason bthOf
+read-fails p =
+    first (link (length-tested _)) (link (equal-tested _ _)) unasked unasked
+    (link (known-tested _)) unasked unasked (link (room-tested _ _)) unasked
+
+pub was-read : (p : List ℕ) → readReason p ≡ 0 → (badLength (length p) ≡ false) × Read p
+unfolding bthOf
+was-read p e =
+    let G = read-fails p .only e in
+    let op = getD p 0 0 in
+    (length-tested (length p) .1 (G .0), record { tver = G .1; known = known-tested (op / 32) .1 (G .4); room = ltb-false (length p) (classOf op .length) (room-tested (length p) op .1 (G .7)) })
+
+pub read-dropped-by : ReadDroppedBy
+unfolding readHeader readBy
+read-dropped-by p reason e = (λ z. rw (e, eq-eqb reason 0 z), λ n. rw (e, ne-eqb reason 0 n))

@@ -1,3 +1,5 @@
+pub mod Places
+pub mod Table
 pub mod Lengths
 pub mod Reasons
 pub mod Widths
@@ -5,6 +7,8 @@ pub mod Writes
 pub mod Accepts
 pub mod ReadBack
 pub mod WriteBack
+pub mod ReadPlaces
+pub mod Wire
 pub mod Keys
 pub mod Conditions
 pub mod Drops

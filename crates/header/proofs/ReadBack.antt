@@ -12,7 +12,7 @@ use Rattle.lemmas.proofs.Numbers.{two-value, three-value, four-value, eight-val
 use Rattle.opcode.specs.Opcode.{classOf, serviceOf}
 use Rattle.header.specs.Bytes.{bit, four, eight}
 use Rattle.header.specs.Read.{bthOf, rethOf, atomicOf, aethOf, extensionOf, headerOf, badLength, otherService, readReason, readHeader}
-use Rattle.header.specs.Write.{bthBytes, rethBytes, atomicBytes, aethBytes, extensionBytes, headerBytes, followsBy, headerLength, writtenOut}
+use Rattle.header.specs.Write.{bthBytes, rethBytes, atomicBytes, aethBytes, extensionBytes, headerBytes, followsBy, headerFits, headerLength, writtenOut}
 use Rattle.header.specs.Claims.{BthWidths, RethWidths, AethWidths, Widths, ReadPacket, ReadBack}
 use Rattle.header.proofs.Lengths.{fits, length-is, length-header, length-words, length-most}
 use Rattle.header.proofs.Reasons.{Read, good-length, no-reason, read-by}
@@ -72,14 +72,14 @@ bth-back b r w =
       opcode = b .opcode;
       se = se-back (b .se) (b .migreq) (b .pad) (b .tver) i;
       migreq = mig-back (b .se) (b .migreq) (b .pad) (b .tver) i;
-      pad = pad-back (b .se) (b .migreq) (b .pad) (b .tver) (w .pad) i;
-      tver = tver-back (b .se) (b .migreq) (b .pad) (b .tver) (w .tver) i;
-      pkey = two-value (b .pkey) (w .pkey) i;
+      pad = pad-back (b .se) (b .migreq) (b .pad) (b .tver) (omega (arith, w .pad)) i;
+      tver = tver-back (b .se) (b .migreq) (b .pad) (b .tver) (omega (arith, w .tver)) i;
+      pkey = two-value (b .pkey) (omega (arith, w .pkey)) i;
       reserved8 = b .reserved8;
-      dest = three-value (b .dest) (w .dest) i;
+      dest = three-value (b .dest) (omega (arith, w .dest)) i;
       ackreq = ack-back (b .ackreq) (b .reserved7) i;
-      reserved7 = rest-back (b .ackreq) (b .reserved7) (w .reserved7) i;
-      psn = record { 0 = three-value (b .psn .0) (w .psn) i };
+      reserved7 = rest-back (b .ackreq) (b .reserved7) (omega (arith, w .reserved7)) i;
+      psn = record { 0 = three-value (b .psn .0) (omega (arith, w .psn)) i };
     }
 
 -- the headers after it, behind any twelve bytes
@@ -87,32 +87,32 @@ module _ (b : Bth) where
   reth-back : (r : Reth) (x : List ℕ) → RethWidths r → rethOf (bthBytes b ++ (rethBytes r ++ x)) ≡ r
   unfolding rethOf bthBytes rethBytes
   reth-back r x w =
-      λ i. record { address = eight-value (r .address) (w .0) i; key = four-value (r .key) (w .1) i; length = four-value (r .length) (w .2) i }
+      λ i. record { address = eight-value (r .address) (omega (arith, w .0)) i; key = four-value (r .key) (omega (arith, w .1)) i; length = four-value (r .length) (omega (arith, w .2)) i }
 
   atomic-back : (a : AtomicEth) (x : List ℕ) → Widths (Atomic a) → atomicOf (bthBytes b ++ (atomicBytes a ++ x)) ≡ a
   unfolding atomicOf bthBytes atomicBytes
   atomic-back a x w =
       λ i. record {
-        address = eight-value (a .address) (w .0) i;
-        key = four-value (a .key) (w .1) i;
-        swap = eight-value (a .swap) (w .2) i;
-        compare = eight-value (a .compare) (w .3) i;
+        address = eight-value (a .address) (omega (arith, w .0)) i;
+        key = four-value (a .key) (omega (arith, w .1)) i;
+        swap = eight-value (a .swap) (omega (arith, w .2)) i;
+        compare = eight-value (a .compare) (omega (arith, w .3)) i;
       }
 
   aeth-back : (a : Aeth) (x : List ℕ) → AethWidths a → aethOf (bthBytes b ++ (aethBytes a ++ x)) ≡ a
   unfolding aethOf bthBytes aethBytes
-  aeth-back a x w = λ i. record { syndrome = a .syndrome; msn = record { 0 = three-value (a .msn .0) (w .1) i } }
+  aeth-back a x w = λ i. record { syndrome = a .syndrome; msn = record { 0 = three-value (a .msn .0) (omega (arith, w .1)) i } }
 
 extension-back : (b : Bth) (e : Extension) (t : List ℕ) → Widths e
     → extensionOf (followsBy e) (bthBytes b ++ (extensionBytes e ++ t)) ≡ e
 unfolding extensionOf followsBy extensionBytes bthBytes rethBytes aethBytes
 extension-back b Bare t w = refl
 extension-back b (Remote r) t w = ap Remote (reth-back b r t w)
-extension-back b (RemoteImmediate r i) t w = λ j. RemoteImmediate (reth-back b r (four i ++ t) (w .0) j) (four-value i (w .1) j)
-extension-back b (Immediate i) t w = ap Immediate (four-value i w)
+extension-back b (RemoteImmediate r i) t w = λ j. RemoteImmediate (reth-back b r (four i ++ t) (w .0) j) (four-value i (omega (arith, w .1)) j)
+extension-back b (Immediate i) t w = ap Immediate (four-value i (omega (arith, w)))
 extension-back b (Atomic a) t w = ap Atomic (atomic-back b a t w)
 extension-back b (Acknowledge a) t w = ap Acknowledge (aeth-back b a t w)
-extension-back b (AtomicAcknowledge a v) t w = λ j. AtomicAcknowledge (aeth-back b a (eight v ++ t) (w .0) j) (eight-value v (w .1) j)
+extension-back b (AtomicAcknowledge a v) t w = λ j. AtomicAcknowledge (aeth-back b a (eight v ++ t) (w .0) j) (eight-value v (omega (arith, w .1)) j)
 
 -- no check fails on it
 reads : (p : List ℕ) (h : Header) → bthOf p ≡ h .bth → BthWidths (h .bth) → headerLength h ≤ length p → Read p
@@ -151,16 +151,20 @@ read-packet h t good words room =
     let o : readReason (b ++ (x ++ t)) ≡ 0 = no-reason (b ++ (x ++ t)) g (reads (b ++ (x ++ t)) h e w (omega arith)) in
     subst (λ p. readHeader p ≡ Accepted h) (sym q) (read-by (b ++ (x ++ t)) h o z)
 
-pub read-back : ReadBack
-read-back h out n e =
-    let W = was-written h out n e in
+-- and with nothing behind it
+pub read-alone : (h : Header) → headerFits h ≡ true → readHeader (headerBytes h) ≡ Accepted h
+read-alone h good =
     let x = extensionBytes (h .extension) in
-    let s : headerLength h ≡ 12 + length x = length-is h (W .good) in
+    let s : headerLength h ≡ 12 + length x = length-is h good in
     let m : 12 + length x ≤ 40 = length-most (h .extension) in
     let none : length {A = ℕ} [] % 4 ≡ 0 = refl in
     let room : headerLength h + length {A = ℕ} [] ≤ 4128 = omega arith in
-    let r : readHeader (headerBytes h ++ []) ≡ Accepted h = read-packet h [] (W .good) none room in
+    ap readHeader (sym (append-nil (headerBytes h))) ∙ read-packet h [] good none room
+
+pub read-back : ReadBack
+read-back h out n e =
+    let W = was-written h out n e in
     let l : length (headerBytes h) ≡ n = length-header h (W .good) ∙ sym (W .size) in
     let o : take n (writtenOut h out) ≡ headerBytes h =
     ap (take n) (done h out (W .good) (W .room) .1) ∙ take-at (headerBytes h) (drop (headerLength h) out) n l in
-    ap readHeader o ∙ (ap readHeader (sym (append-nil (headerBytes h))) ∙ r)
+    ap readHeader o ∙ read-alone h (W .good)

@@ -1,6 +1,6 @@
 -- When reading finds no reason to drop a packet, and what it then answers.
 use Prim.Native.Nat.{ℕ, _%_, _≤_}
-use mathlib.Core.Path.{_≡_, refl, ap}
+use mathlib.Core.Path.{_≡_, refl, sym, ap}
 use mathlib.Core.Bool.{Bool, true, false, cond, not, true≢false}
 use mathlib.Core.List.{List}
 use native.Mathlib.Omega.{arith}
@@ -8,7 +8,7 @@ use lib.Dec.{ltb, eqb}
 use lib.ListN.{length}
 use borrow.Author.Tests.{eq-eqb, le-ltb, eqb-true, ltb-false}
 use Rattle.opcode.specs.Opcode.{classOf, serviceOf}
-use Rattle.header.specs.Read.{bthOf, headerOf, badLength, otherService, readReason, readBy, readNumber, readHeader}
+use Rattle.header.specs.Read.{bthOf, headerOf, badLength, otherService, readReason, readBy, readNumber, readCheck, readHeader}
 use Rattle.header.specs.Claims.{ReadNumbers}
 use Rattle.header.specs.Drops.{LengthGood}
 use Rattle.header.specs.declared.Header.{Header}
@@ -55,23 +55,6 @@ unfolding readReason
 no-reason p l R =
     rw (l, eq-eqb (bthOf p .tver) 0 (R .tver), R .known, le-ltb (length p) (classOf (bthOf p .opcode) .length) (R .room))
 
-pub was-read : (p : List ℕ) → readReason p ≡ 0 → (badLength (length p) ≡ false) × Read p
-unfolding readReason
-was-read p e =
-    go (badLength (length p)) (eqb (bthOf p .tver) 0) (otherService (serviceOf (bthOf p .opcode)))
-    (ltb (length p) (classOf (bthOf p .opcode) .length)) refl refl refl refl e
-  where
-    go : (l t o s : Bool) → badLength (length p) ≡ l → eqb (bthOf p .tver) 0 ≡ t
-        → otherService (serviceOf (bthOf p .opcode)) ≡ o
-        → ltb (length p) (classOf (bthOf p .opcode) .length) ≡ s
-        → _≡_ {A = ℕ} (cond l 1 (cond (not t) 2 (cond o 5 (cond s 8 0)))) 0 → (badLength (length p) ≡ false) × Read p
-    go true t o s z a b c f = absurd (omega arith)
-    go false false o s z a b c f = absurd (omega arith)
-    go false true true s z a b c f = absurd (omega arith)
-    go false true false true z a b c f = absurd (omega arith)
-    go false true false false z a b c f =
-        (z, record { tver = eqb-true (bthOf p .tver) 0 a; known = b; room = ltb-false (length p) (classOf (bthOf p .opcode) .length) c })
-
 -- what is accepted is the header of the bytes, and there was no reason against it
 pub accepted-by : (reason : ℕ) (p : List ℕ) (h : Header) → readBy reason p ≡ Accepted h → (reason ≡ 0) × (headerOf p ≡ h)
 unfolding readBy
@@ -91,9 +74,11 @@ unfolding readHeader readBy
 read-by p h o e = rw o (ap Accepted e)
 
 pub read-numbers : ReadNumbers
-unfolding readBy readNumber
-read-numbers reason p = go (eqb reason 0)
+unfolding readBy readNumber readCheck
+read-numbers reason p = go (eqb reason 0) refl
   where
-    go : (b : Bool) → readNumber (cond b (Accepted (headerOf p)) (Dropped reason)) ≡ cond b 0 5
-    go true = refl
-    go false = refl
+    go : (b : Bool) → eqb reason 0 ≡ b
+        → (readNumber (cond b (Accepted (headerOf p)) (Dropped reason)) ≡ cond b 0 5)
+        × (readCheck (cond b (Accepted (headerOf p)) (Dropped reason)) ≡ reason)
+    go true e = (refl, sym (eqb-true reason 0 e))
+    go false e = (refl, refl)

@@ -37,85 +37,85 @@ unfolding bthFits
 bth-fits b w =
     let op : b .opcode < 2 ^ 8 = omega (arith, w .opcode) in
     rw (
-      lt-ltb (b .opcode) (2 ^ 8) op,
+      lt-ltb (b .opcode) _ op,
       known (b .opcode) (w .opcode),
-      lt-ltb (b .pad) (2 ^ 2) (w .pad),
+      lt-ltb (b .pad) _ (w .pad),
       eq-eqb (b .tver) 0 (w .tver),
-      lt-ltb (b .pkey) (2 ^ 16) (w .pkey),
-      lt-ltb (b .reserved8) (2 ^ 8) (w .reserved8),
-      lt-ltb (b .dest) (2 ^ 24) (w .dest),
-      lt-ltb (b .reserved7) (2 ^ 7) (w .reserved7),
-      lt-ltb (b .psn .0) (2 ^ 24) (w .psn),
+      lt-ltb (b .pkey) _ (w .pkey),
+      lt-ltb (b .reserved8) _ (w .reserved8),
+      lt-ltb (b .dest) _ (w .dest),
+      lt-ltb (b .reserved7) _ (w .reserved7),
+      lt-ltb (b .psn .0) _ (w .psn),
     )
 
 pub bth-widths : (b : Bth) → bthFits b ≡ true → BthWidths b
 unfolding bthFits
 bth-widths b h0 =
-    let h1 = rest (b .opcode) (2 ^ 8) _ h0 in
+    let h1 = rest (b .opcode) _ _ h0 in
     let h2 = and-right (not (otherService (serviceOf (b .opcode)))) _ h1 in
-    let h3 = rest (b .pad) (2 ^ 2) _ h2 in
+    let h3 = rest (b .pad) _ _ h2 in
     let h4 = and-right (eqb (b .tver) 0) _ h3 in
-    let h5 = rest (b .pkey) (2 ^ 16) _ h4 in
-    let h6 = rest (b .reserved8) (2 ^ 8) _ h5 in
-    let h7 = rest (b .dest) (2 ^ 24) _ h6 in
+    let h5 = rest (b .pkey) _ _ h4 in
+    let h6 = rest (b .reserved8) _ _ h5 in
+    let h7 = rest (b .dest) _ _ h6 in
     record {
       opcode = below-64 (b .opcode) (unnot (otherService (serviceOf (b .opcode))) (and-left (not (otherService (serviceOf (b .opcode)))) _ h1));
-      pad = first (b .pad) (2 ^ 2) _ h2;
+      pad = first (b .pad) _ _ h2;
       tver = eqb-true (b .tver) 0 (and-left (eqb (b .tver) 0) _ h3);
-      pkey = first (b .pkey) (2 ^ 16) _ h4;
-      reserved8 = first (b .reserved8) (2 ^ 8) _ h5;
-      dest = first (b .dest) (2 ^ 24) _ h6;
-      reserved7 = first (b .reserved7) (2 ^ 7) _ h7;
-      psn = ltb-true (b .psn .0) (2 ^ 24) (rest (b .reserved7) (2 ^ 7) (ltb (b .psn .0) (2 ^ 24)) h7);
+      pkey = first (b .pkey) _ _ h4;
+      reserved8 = first (b .reserved8) _ _ h5;
+      dest = first (b .dest) _ _ h6;
+      reserved7 = first (b .reserved7) _ _ h7;
+      psn = ltb-true (b .psn .0) _ (rest (b .reserved7) _ _ h7);
     }
 
 reth-fits : (r : Reth) → RethWidths r → rethFits r ≡ true
 unfolding rethFits
-reth-fits r w = rw (lt-ltb (r .address) (2 ^ 64) (w .0), lt-ltb (r .key) (2 ^ 32) (w .1), lt-ltb (r .length) (2 ^ 32) (w .2))
+reth-fits r w = rw (lt-ltb (r .address) _ (w .0), lt-ltb (r .key) _ (w .1), lt-ltb (r .length) _ (w .2))
 
 reth-widths : (r : Reth) → rethFits r ≡ true → RethWidths r
 unfolding rethFits
 reth-widths r h =
-    let h1 = rest (r .address) (2 ^ 64) _ h in
-    (first (r .address) (2 ^ 64) _ h, first (r .key) (2 ^ 32) _ h1, ltb-true (r .length) (2 ^ 32) (rest (r .key) (2 ^ 32) (ltb (r .length) (2 ^ 32)) h1))
+    let h1 = rest (r .address) _ _ h in
+    (first (r .address) _ _ h, first (r .key) _ _ h1, ltb-true (r .length) _ (rest (r .key) _ _ h1))
 
 aeth-fits : (a : Aeth) → AethWidths a → aethFits a ≡ true
 unfolding aethFits
-aeth-fits a w = rw (lt-ltb (a .syndrome) (2 ^ 8) (w .0), lt-ltb (a .msn .0) (2 ^ 24) (w .1))
+aeth-fits a w = rw (lt-ltb (a .syndrome) _ (w .0), lt-ltb (a .msn .0) _ (w .1))
 
 aeth-widths : (a : Aeth) → aethFits a ≡ true → AethWidths a
 unfolding aethFits
-aeth-widths a h = (first (a .syndrome) (2 ^ 8) _ h, ltb-true (a .msn .0) (2 ^ 24) (rest (a .syndrome) (2 ^ 8) (ltb (a .msn .0) (2 ^ 24)) h))
+aeth-widths a h = (first (a .syndrome) _ _ h, ltb-true (a .msn .0) _ (rest (a .syndrome) _ _ h))
 
 pub widths-fit : (e : Extension) → Widths e → widthsFit e ≡ true
 unfolding widthsFit immediateFits rethImmediateFits aethValueFits atomicFits
 widths-fit Bare w = refl
 widths-fit (Remote r) w = reth-fits r w
-widths-fit (RemoteImmediate r i) w = rw (reth-fits r (w .0), lt-ltb i (2 ^ 32) (w .1))
-widths-fit (Immediate i) w = lt-ltb i (2 ^ 32) w
+widths-fit (RemoteImmediate r i) w = rw (reth-fits r (w .0), lt-ltb i _ (w .1))
+widths-fit (Immediate i) w = lt-ltb i _ w
 widths-fit (Atomic a) w =
-    rw (lt-ltb (a .address) (2 ^ 64) (w .0), lt-ltb (a .key) (2 ^ 32) (w .1), lt-ltb (a .swap) (2 ^ 64) (w .2), lt-ltb (a .compare) (2 ^ 64) (w .3))
+    rw (lt-ltb (a .address) _ (w .0), lt-ltb (a .key) _ (w .1), lt-ltb (a .swap) _ (w .2), lt-ltb (a .compare) _ (w .3))
 widths-fit (Acknowledge a) w = aeth-fits a w
-widths-fit (AtomicAcknowledge a v) w = rw (aeth-fits a (w .0), lt-ltb v (2 ^ 64) (w .1))
+widths-fit (AtomicAcknowledge a v) w = rw (aeth-fits a (w .0), lt-ltb v _ (w .1))
 
 pub widths-of : (e : Extension) → widthsFit e ≡ true → Widths e
 unfolding widthsFit immediateFits rethImmediateFits aethValueFits atomicFits
 widths-of Bare h = tt
 widths-of (Remote r) h = reth-widths r h
 widths-of (RemoteImmediate r i) h =
-    (reth-widths r (and-left (rethFits r) (ltb i (2 ^ 32)) h), ltb-true i (2 ^ 32) (and-right (rethFits r) (ltb i (2 ^ 32)) h))
-widths-of (Immediate i) h = ltb-true i (2 ^ 32) h
+    (reth-widths r (and-left (rethFits r) _ h), ltb-true i _ (and-right (rethFits r) _ h))
+widths-of (Immediate i) h = ltb-true i _ h
 widths-of (Atomic a) h =
-    let h1 = rest (a .address) (2 ^ 64) _ h in
-    let h2 = rest (a .key) (2 ^ 32) _ h1 in (
-      first (a .address) (2 ^ 64) _ h,
-      first (a .key) (2 ^ 32) _ h1,
-      first (a .swap) (2 ^ 64) _ h2,
-      ltb-true (a .compare) (2 ^ 64) (rest (a .swap) (2 ^ 64) (ltb (a .compare) (2 ^ 64)) h2),
+    let h1 = rest (a .address) _ _ h in
+    let h2 = rest (a .key) _ _ h1 in (
+      first (a .address) _ _ h,
+      first (a .key) _ _ h1,
+      first (a .swap) _ _ h2,
+      ltb-true (a .compare) _ (rest (a .swap) _ _ h2),
     )
 widths-of (Acknowledge a) h = aeth-widths a h
 widths-of (AtomicAcknowledge a v) h =
-    (aeth-widths a (and-left (aethFits a) (ltb v (2 ^ 64)) h), ltb-true v (2 ^ 64) (and-right (aethFits a) (ltb v (2 ^ 64)) h))
+    (aeth-widths a (and-left (aethFits a) _ h), ltb-true v _ (and-right (aethFits a) _ h))
 
 pub extension-fits : (follows : ℕ) (e : Extension) → follows ≡ followsBy e → Widths e → extensionFits follows e ≡ true
 unfolding extensionFits

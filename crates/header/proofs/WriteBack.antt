@@ -11,11 +11,12 @@ use Rattle.lemmas.proofs.Numbers.{two-bytes, three-bytes, four-bytes, four-belo
 use Rattle.lemmas.proofs.Lists.{elements, take-elements, elements-join}
 use Rattle.opcode.specs.Opcode.{classOf, lengthOf}
 use Rattle.opcode.proofs.Classes.{class-length, class-follows}
-use Rattle.header.specs.Bytes.{bit, Bytes, be2, be3, be4, be8, four, eight}
+use Rattle.header.specs.Bytes.{bit, Bytes, be4, be8, four, eight}
 use Rattle.header.specs.Read.{bthOf, rethOf, atomicOf, aethOf, extensionOf, headerOf}
 use Rattle.header.specs.Write.{bthBytes, rethBytes, atomicBytes, aethBytes, extensionBytes, headerBytes, followsBy, headerFits, headerLength, written, writtenOut}
 use Rattle.header.specs.Claims.{BthWidths, RethWidths, AethWidths, Widths, WriteBack}
-use Rattle.header.proofs.Reasons.{Read, was-read, accepted}
+use Rattle.header.proofs.Reasons.{Read, accepted}
+use Rattle.header.proofs.Drops.{was-read}
 use Rattle.header.proofs.Widths.{below-64, bth-fits, extension-fits}
 use Rattle.header.proofs.Writes.{both-fit, done}
 use Rattle.header.specs.declared.Answer.the-variants.{Done}
@@ -119,11 +120,11 @@ whole = seven (λ f. 12 + (lengthOf f - 12) ≡ lengthOf f) refl refl refl refl 
 module _ (p : List ℕ) (B : Bytes p) where
   reth-within : RethWidths (rethOf p)
   unfolding rethOf
-  reth-within = (word p B 12, below p B 20, below p B 24)
+  reth-within = (omega (arith, word p B 12), omega (arith, below p B 20), omega (arith, below p B 24))
 
   aeth-within : AethWidths (aethOf p)
   unfolding aethOf
-  aeth-within = let m : be3 p 13 < 2 ^ 24 = omega (arith, B 13, B 14, B 15) in (B 12, m)
+  aeth-within = (omega (arith, B 12), omega (arith, B 13, B 14, B 15))
 
   forth-0 : Forth p 0
   unfolding extensionOf followsBy extensionBytes lengthOf elements
@@ -135,15 +136,15 @@ module _ (p : List ℕ) (B : Bytes p) where
 
   forth-2 : Forth p 2
   unfolding extensionOf followsBy extensionBytes lengthOf elements
-  forth-2 = record { follows = refl; widths = (reth-within, below p B 28); bytes = λ i. reth-forth p B i ++ four-forth p B 28 i }
+  forth-2 = record { follows = refl; widths = (reth-within, omega (arith, below p B 28)); bytes = λ i. reth-forth p B i ++ four-forth p B 28 i }
 
   forth-3 : Forth p 3
   unfolding extensionOf followsBy extensionBytes lengthOf elements
-  forth-3 = record { follows = refl; widths = below p B 12; bytes = four-forth p B 12 }
+  forth-3 = record { follows = refl; widths = omega (arith, below p B 12); bytes = four-forth p B 12 }
 
   forth-4 : Forth p 4
   unfolding extensionOf followsBy extensionBytes lengthOf atomicOf
-  forth-4 = record { follows = refl; widths = (word p B 12, below p B 20, word p B 24, word p B 32); bytes = atomic-forth p B }
+  forth-4 = record { follows = refl; widths = (omega (arith, word p B 12), omega (arith, below p B 20), omega (arith, word p B 24), omega (arith, word p B 32)); bytes = atomic-forth p B }
 
   forth-5 : Forth p 5
   unfolding extensionOf followsBy extensionBytes lengthOf
@@ -154,7 +155,7 @@ module _ (p : List ℕ) (B : Bytes p) where
   forth-6 =
       record {
         follows = refl;
-        widths = (aeth-within, word p B 16);
+        widths = (aeth-within, omega (arith, word p B 16));
         bytes = ap (λ x. aethBytes (aethOf p) ++ x) (eight-forth p B 16) ∙ (λ i. aeth-forth p B i ++ (four-forth p B 16 i ++ four-forth p B 20 i));
       }
 
@@ -164,23 +165,18 @@ module _ (p : List ℕ) (B : Bytes p) where
   bth-within : Read p → BthWidths (bthOf p)
   unfolding bthOf
   bth-within R =
-      let pad : getD p 1 0 / 16 % 4 < 4 = omega arith in
-      let key : be2 p 2 < 2 ^ 16 = omega (arith, B 2, B 3) in
-      let dest : be3 p 5 < 2 ^ 24 = omega (arith, B 5, B 6, B 7) in
-      let rest : getD p 8 0 % 128 < 2 ^ 7 = omega arith in
-      let psn : be3 p 9 < 2 ^ 24 = omega (arith, B 9, B 10, B 11) in
       record {
-        opcode = below-64 (getD p 0 0) (R .known);
-        pad = pad;
+        opcode = omega (arith, below-64 (getD p 0 0) (R .known));
+        pad = omega arith;
         tver = R .tver;
-        pkey = key;
-        reserved8 = B 4;
-        dest = dest;
-        reserved7 = rest;
-        psn = psn;
+        pkey = omega (arith, B 2, B 3);
+        reserved8 = omega (arith, B 4);
+        dest = omega (arith, B 5, B 6, B 7);
+        reserved7 = omega arith;
+        psn = omega (arith, B 9, B 10, B 11);
       }
 
-  header-fits : Read p → headerFits (headerOf p) ≡ true
+  pub header-fits : Read p → headerFits (headerOf p) ≡ true
   unfolding headerOf
   header-fits R =
       let f = classOf (bthOf p .opcode) .follows in
@@ -188,12 +184,15 @@ module _ (p : List ℕ) (B : Bytes p) where
       both-fit (headerOf p) (bth-fits (bthOf p) (bth-within R)) (extension-fits f (extensionOf f p) (sym (F .follows)) (F .widths))
 
   -- the header's bytes are the packet's first
+  pub packet-bytes : (f : ℕ) → f ≤ 6 → bthBytes (bthOf p) ++ extensionBytes (extensionOf f p) ≡ elements p 0 (lengthOf f)
+  packet-bytes f h = (λ i. bth-forth p B i ++ forth f h .bytes i) ∙ (elements-join p 0 12 (lengthOf f - 12) ∙ ap (elements p 0) (whole f h))
+
   first-bytes : (f : ℕ) → f ≤ 6 → lengthOf f ≤ length p
       → bthBytes (bthOf p) ++ extensionBytes (extensionOf f p) ≡ take (lengthOf f) p
-  first-bytes f h l =
-      let n : 12 + (lengthOf f - 12) ≡ lengthOf f = whole f h in
-      (λ i. bth-forth p B i ++ forth f h .bytes i)
-      ∙ (elements-join p 0 12 (lengthOf f - 12) ∙ (ap (elements p 0) n ∙ sym (take-elements p 0 (lengthOf f) (omega arith))))
+  first-bytes f h l = packet-bytes f h ∙ sym (take-elements p 0 (lengthOf f) (omega arith))
+
+  pub read-follows : (f : ℕ) → f ≤ 6 → f ≡ followsBy (extensionOf f p)
+  read-follows f h = sym (forth f h .follows)
 
   header-bytes : Read p → headerBytes (headerOf p) ≡ take (headerLength (headerOf p)) p
   unfolding headerBytes headerOf headerLength

@@ -14,6 +14,7 @@ use Rattle.header.specs.Write.{bthBytes, extensionBytes, headerBytes, bt
 use Rattle.header.specs.Claims.{WriteNumbers}
 use Rattle.header.proofs.Lengths.{length-bth, length-is, length-header}
 use Rattle.header.specs.declared.Header.{Header}
+use Rattle.header.specs.declared.Answer.{Answer}
 use Rattle.header.specs.declared.Answer.the-variants.{Done, Refused}
 
 pub bth-off : (h : Header) → bthFits (h .bth) ≡ false → headerFits h ≡ false
@@ -128,3 +129,10 @@ number-by (suc a) n = rw (ne-eqb (suc a) 0 (λ z. omega arith))
 pub write-numbers : WriteNumbers
 unfolding written
 write-numbers h n = number-by (writeAnswer h n) (headerLength h)
+
+-- an answer r that is a has the number k of a; and what else is promised with it
+pub told : {A : Type 0} (number : A → ℕ) (r a : A) (k : ℕ) → number a ≡ k → r ≡ a → (r ≡ a) × (number r ≡ k)
+told number r a k n e = (e, ap number e ∙ n)
+
+pub numbered : {B : Type 0} (r a : Answer) (k : ℕ) → answerNumber a ≡ k → (r ≡ a) × B → (r ≡ a) × ((answerNumber r ≡ k) × B)
+numbered r a k n e = (e .0, (ap answerNumber (e .0) ∙ n, e .1))

@@ -8,9 +8,10 @@ use lib.Dec.{eqb}
 use lib.ListN.{length, getD, take, drop}
 use Rattle.opcode.specs.Opcode.{classOf, serviceOf, lowOf}
 use Rattle.header.specs.Bytes.{Bytes}
-use Rattle.header.specs.Read.{headerOf, readBy, readNumber, readHeader}
-use Rattle.header.specs.Write.{followsBy, headerFits, headerLength, headerBytes, writeAnswer, written, answerNumber, writtenOut}
+use Rattle.header.specs.Read.{headerOf, readBy, readNumber, readCheck, readHeader}
+use Rattle.header.specs.Write.{headerFits, headerLength, headerBytes, writeAnswer, written, answerNumber, writtenOut}
 use Rattle.header.specs.Check.{pkeysMatch, admitted}
+use Rattle.header.specs.Layout.{wholeLength, afterIn, afterOpcode}
 use Rattle.header.specs.declared.Bth.{Bth}
 use Rattle.header.specs.declared.Reth.{Reth}
 use Rattle.header.specs.declared.Aeth.{Aeth}
@@ -18,7 +19,8 @@ use Rattle.header.specs.declared.Extension.{Extension}
 use Rattle.header.specs.declared.Extension.the-variants.{Bare, Remote, RemoteImmediate, Immediate, Atomic, Acknowledge, AtomicAcknowledge}
 use Rattle.header.specs.declared.Header.{Header}
 use Rattle.header.specs.declared.HeaderRead.the-variants.{Accepted, Dropped}
-use Rattle.header.specs.declared.Answer.the-variants.{Done}
+use Rattle.header.specs.declared.Answer.{Answer}
+use Rattle.header.specs.declared.Answer.the-variants.{Done, Refused}
 
 -- What writing makes of a header, in any output, reading turns into that header again.
 abbrev pub ReadBack : Type 0
@@ -75,17 +77,40 @@ Widths (Atomic a) = (a .address < 2 ^ 64) × (a .key < 2 ^ 32) × (a .swap < 2 ^
 Widths (Acknowledge a) = AethWidths a
 Widths (AtomicAcknowledge a v) = AethWidths a × (v < 2 ^ 64)
 
--- A header is written if every field is within its width and it has the headers of its opcode.
+-- a header that can be written: each field within its width, TVer 0, RC or UC, and the very headers of the opcode
+pub record Writable (h : Header) : Type 0 where
+  pub bth : BthWidths (h .bth)
+  pub headers : afterOpcode (h .bth .opcode) ≡ afterIn (h .extension)
+  pub widths : Widths (h .extension)
+
+-- The answer and the output. A header that cannot be written is 39, whatever the output is; then an output too short for
+-- it is 35; both leave the output. Else the header stands at its start, and the bytes behind it stay. And back: each
+-- answer says what held, and no other comes.
+pub record WritesBy (h : Header) (out : List ℕ) (size : ℕ) (answer : Answer) (new : List ℕ) : Type 0 where
+  pub unfit : (Writable h → ⊥) → (answer ≡ Refused 39) × (new ≡ out)
+  pub short : Writable h → length out < size → (answer ≡ Refused 35) × (new ≡ out)
+  pub done : Writable h → size ≤ length out → (answer ≡ Done size) × (new ≡ headerBytes h ++ drop size out)
+  pub only39 : answer ≡ Refused 39 → Writable h → ⊥
+  pub only35 : answer ≡ Refused 35 → Writable h × (length out < size)
+  pub only : (n : ℕ) → answer ≡ Done n → Writable h × (size ≤ length out) × (n ≡ size)
+  pub answers : (answer ≡ Refused 39) ⊎ ((answer ≡ Refused 35) ⊎ (answer ≡ Done size))
+
 abbrev pub Writes : Type 0
 Writes =
-    (h : Header) → BthWidths (h .bth) → classOf (h .bth .opcode) .follows ≡ followsBy (h .extension)
-    → Widths (h .extension)
-    → (n : ℕ) → headerLength h ≤ n
-    → written h n ≡ Done (headerLength h)
+    (h : Header) (out : List ℕ)
+    → WritesBy h out (wholeLength (afterIn (h .extension))) (written h (length out)) (writtenOut h out)
 
--- The numbers of the answers: a packet that is dropped for any reason is the quiet drop.
+-- The widths are those of the wire: a header can be written exactly if some packet reads as it.
+abbrev pub WritableReads : Type 0
+WritableReads = (h : Header) → Writable h → Bytes (headerBytes h) × (readHeader (headerBytes h) ≡ Accepted h)
+
+abbrev pub ReadsWritable : Type 0
+ReadsWritable = (p : List ℕ) → Bytes p → (h : Header) → readHeader p ≡ Accepted h → Writable h
+
+-- The numbers of the answers: a packet that is dropped for any reason is the quiet drop, with that reason beside it.
 abbrev pub ReadNumbers : Type 0
-ReadNumbers = (reason : ℕ) (p : List ℕ) → readNumber (readBy reason p) ≡ cond (eqb reason 0) 0 5
+ReadNumbers =
+    (reason : ℕ) (p : List ℕ) → (readNumber (readBy reason p) ≡ cond (eqb reason 0) 0 5) × (readCheck (readBy reason p) ≡ reason)
 
 abbrev pub WriteNumbers : Type 0
 WriteNumbers = (h : Header) (n : ℕ) → answerNumber (written h n) ≡ writeAnswer h n

@@ -5,10 +5,11 @@ use mathlib.Core.Bool.{Bool, true}
 use mathlib.Core.Path.{_≡_}
 use mathlib.Core.List.{List}
 use mathlib.Core.Logic.{_⊎_}
-use lib.ListN.{length}
+use lib.ListN.{length, getD}
 use Rattle.opcode.specs.Opcode.{classOf}
-use Rattle.header.specs.Read.{bthOf, headerOf}
+use Rattle.header.specs.Read.{bthOf, headerOf, readReason, readHeader}
 use Rattle.header.specs.Check.{headerReason, admitted}
+use Rattle.header.specs.Layout.{wholeLength, afterOpcode}
 use Rattle.header.specs.declared.Bth.{Bth}
 use Rattle.header.specs.declared.HeaderRead.the-variants.{Accepted, Dropped}
 
@@ -63,7 +64,7 @@ pub record FirstOf (Length Version Number Key Service Request Served Whole Ready
   pub numbers : reason ≤ 9
 
 -- The header checks of a pair, of a packet of n bytes with this BTH. Second: TVer 0; third: DestQP our number; eighth:
--- room for all headers of the opcode; ninth: the pair is Ready.
+-- room for all headers of the opcode, whose bytes HeadersByOpcode lists; ninth: the pair is Ready.
 abbrev pub CheckedBy : ℕ → ℕ → ℕ → Bool → ℕ → Bth → ℕ → Type 0
 CheckedBy service ours pkey ready n b =
     FirstOf (LengthGood n) (b .tver ≡ 0) (b .dest ≡ ours) (KeysMatch (b .pkey) pkey) (ServiceOurs (b .opcode) service)
@@ -81,3 +82,16 @@ DroppedBy =
     (service ours pkey : ℕ) (ready : Bool) (p : List ℕ) (reason : ℕ) → headerReason service ours pkey ready p ≡ reason
     → (reason ≡ 0 → admitted service ours pkey ready p ≡ Accepted (headerOf p))
     × ((reason ≡ 0 → ⊥) → admitted service ours pkey ready p ≡ Dropped reason)
+
+-- Reading alone, of any bytes, has four of the nine conditions, in the same order: the length; TVer, the low half of
+-- byte 1, is 0; the service, bits 7 to 5 of byte 0, is RC or UC; there is room for all headers of the opcode.
+abbrev pub ReadFails : Type 0
+ReadFails =
+    (p : List ℕ)
+    → FirstOf (LengthGood (length p)) (getD p 1 0 % 16 ≡ 0) (Unit {0}) (Unit {0}) (getD p 0 0 / 32 ≤ 1) (Unit {0}) (Unit {0})
+    (wholeLength (afterOpcode (getD p 0 0)) ≤ length p) (Unit {0}) (readReason p)
+
+abbrev pub ReadDroppedBy : Type 0
+ReadDroppedBy =
+    (p : List ℕ) (reason : ℕ) → readReason p ≡ reason
+    → (reason ≡ 0 → readHeader p ≡ Accepted (headerOf p)) × ((reason ≡ 0 → ⊥) → readHeader p ≡ Dropped reason)

@@ -4,5 +4,6 @@ pub mod Bytes
 pub mod Read
 pub mod Write
 pub mod Check
+pub mod Layout
 pub mod Claims
 pub mod Drops

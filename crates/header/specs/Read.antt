@@ -95,5 +95,14 @@ unfoldable pub readNumber : HeaderRead → ℕ
 readNumber (Accepted h) = 0
 readNumber (Dropped reason) = quietDrop
 
+-- and the check with it, or 0
+unfoldable pub readCheck : HeaderRead → ℕ
+readCheck (Accepted h) = 0
+readCheck (Dropped reason) = reason
+
+-- the number by the check that failed first, or 0
+abbrev pub reasonNumber : ℕ → ℕ
+reasonNumber reason = cond (eqb reason 0) 0 quietDrop
+
 unfoldable pub readHeader : List ℕ → HeaderRead
 readHeader p = readBy (readReason p) p

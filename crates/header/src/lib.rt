@@ -17,6 +17,9 @@ pub const PKEY_TOP: u16 = 32768;
 // Bytes of the longest packet.
 pub const PACKET_LIMIT: usize = 4128;
 
+// The answer to a packet whose header does not read: a quiet drop.
+pub const QUIET_DROP: u8 = 5;
+
 // Refusals of calls that write or count.
 pub const OUT_OF_RANGE: u8 = 34;
 

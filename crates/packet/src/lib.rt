@@ -5,7 +5,8 @@ ghost use mathlib.Core.Path.{_≡_};
 ghost use Prim.Native.Nat.{_≤_};
 ghost use lib.ListN.{length, replicate};
 ghost use Rattle.memory.specs.Memory.{store};
-ghost use Rattle.packet.specs.Packet.{padOf, payloadOut, refusalBy, packetWritten, packetOut};
+ghost use Rattle.header.specs.Write.{answerNumber};
+ghost use Rattle.packet.specs.Packet.{padOf, payloadOut, refusalBy, packetAnswer, packetWritten, packetOut};
 
 // How many pad bytes stand behind a payload of n bytes.
 pub fn pad(n: usize) -> u8
@@ -70,6 +71,7 @@ pub fn write_payload(out: &mut [u8], at: usize, payload: &[u8])
 // Writes the packet of a header and a payload at the start of the output.
 pub fn write(h: Header, payload: &[u8], out: &mut [u8]) -> Answer
     ensures { λ r. ⌜ r ≡ packetWritten h (length (now (payload .entry))) (length (now (out .entry))) ⌝ }
+    ensures { λ r. ⌜ answerNumber r ≡ packetAnswer h (length (now (payload .entry))) (length (now (out .entry))) ⌝ }
     ensures { λ r. ⌜ now (out .exit) ≡ packetOut h (now (payload .entry)) (now (out .entry)) ⌝ }
 {
     let none = encode::unfit(h);

@@ -138,7 +138,7 @@ SetUpDone =
     (s : Setup) (rows : List (List ℕ)) → SetupSound s
     → (statusNumber (setUp s .status) ≡ 0) × AsSetUp s (setUp s .pair) × (setUpRegions s rows ≡ noRegions)
 
--- Reset, in whatever state; a pair that no set-up made is refused.
+-- Reset, in whatever state; a pair whose set-up numbers no set-up accepts is refused.
 abbrev pub ResetDone : Type 0
 ResetDone =
     (q : Pair) (rows : List (List ℕ)) → SetupSound (q .setup)

@@ -34,7 +34,7 @@ setUp s = outcome (setUpStatus s) (cond (executed (setUpStatus s)) (freshPair s)
 unfoldable pub setUpRegions : Setup → List (List ℕ) → List (List ℕ)
 setUpRegions s rows = cond (executed (setUpStatus s)) noRegions rows
 
--- Reset: always allowed to a pair that was set up
+-- Reset: always allowed to a pair with the numbers of a set-up
 unfoldable pub resetStatus : Pair → Status
 resetStatus q = cond (setupUnsound (q .setup)) OutOfRange Executed
 

@@ -15,7 +15,7 @@ impl Status {
             Status::ReadAccepted => 2,
             Status::AtomicExecuted => 3,
             Status::DuplicateAnswered => 4,
-            Status::Dropped => 5,
+            Status::Dropped => header::QUIET_DROP,
             Status::Abandoned => 6,
             Status::SequenceNak => 16,
             Status::InvalidRequestNak => 17,

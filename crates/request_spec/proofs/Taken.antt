@@ -10,10 +10,11 @@ use borrow.Author.Tests.{le-ltb, ne-eqb, lt-ltb}
 use Rattle.opcode.specs.Opcode.{serviceOf, lowOf, kindOf, placeIn, placeOf, sendWriteFollows, followsOf, lengthOf, lowClass, reservedClass, ucHas, classOf}
 use Rattle.opcode.specs.declared.OpcodeClass.{OpcodeClass}
 use Rattle.header.specs.Bytes.{be4}
-use Rattle.header.specs.Read.{bthOf, extensionOf, headerOf}
+use Rattle.header.specs.Read.{bthOf, extensionOf, headerOf, readBy}
+use Rattle.header.specs.declared.HeaderRead.the-variants.{Accepted, Dropped}
 use Rattle.header.specs.Write.{headerLength}
 use Rattle.request_spec.specs.declared.Packet.{Packet}
-use Rattle.request_spec.specs.Packet.{operandsOf, packetOf}
+use Rattle.request_spec.specs.Packet.{operandsOf, packetOf, admission, admissionNumber}
 use Rattle.request_spec.specs.Claims.{Place, Form, NoOperands, FromReth, FromAtomic, BthTaken, Taken, OpcodeTaken, UcAlike, UcTaken, AdmissionNumbers}
 
 -- by the class of the opcode
@@ -178,4 +179,9 @@ pub uc-taken : UcTaken
 uc-taken bytes n low e h = taken-by bytes n low (ap classOf e ∙ uc-alike low h)
 
 pub admission-numbers : AdmissionNumbers
-admission-numbers h reason n = (refl, refl)
+unfolding readBy
+admission-numbers reason bytes n = go (eqb reason 0)
+  where
+    go : (b : Bool) → admissionNumber (admission (cond b (Accepted (headerOf bytes)) (Dropped reason)) n) ≡ cond b 0 5
+    go true = refl
+    go false = refl

@@ -2,14 +2,13 @@
 -- Every condition is listed here once more, by numbers, and not by the test that the checks make.
 use Prim.Native.Nat.{ℕ, _+_, _-_, _%_, _^_, _≤_, _<_}
 use mathlib.Core.Path.{_≡_}
-use mathlib.Core.Bool.{Bool, true, false}
+use mathlib.Core.Bool.{Bool, true, false, cond}
 use mathlib.Core.List.{List}
 use mathlib.Core.Logic.{_⊎_}
+use lib.Dec.{eqb}
 use lib.ListN.{getD}
 use Rattle.header.specs.Bytes.{be4}
-use Rattle.header.specs.Read.{bthOf, rethOf, atomicOf, headerOf}
-use Rattle.header.specs.declared.Header.{Header}
-use Rattle.header.specs.declared.HeaderRead.the-variants.{Accepted, Dropped}
+use Rattle.header.specs.Read.{bthOf, rethOf, atomicOf, headerOf, readBy}
 use Rattle.opcode.specs.Opcode.{classOf}
 use Rattle.pair.specs.declared.Setup.{Setup}
 use Rattle.pair.specs.declared.OpenMessage.{OpenMessage}
@@ -284,5 +283,4 @@ UcTaken =
 -- What the header checks of a pair find has the number that reading has: 0, or 5.
 abbrev pub AdmissionNumbers : Type 0
 AdmissionNumbers =
-    (h : Header) (reason n : ℕ)
-    → (admissionNumber (admission (Accepted h) n) ≡ 0) × (admissionNumber (admission (Dropped reason) n) ≡ 5)
+    (reason : ℕ) (bytes : List ℕ) (n : ℕ) → admissionNumber (admission (readBy reason bytes) n) ≡ cond (eqb reason 0) 0 5

@@ -26,7 +26,7 @@ use Rattle.effect_laws.proofs.Sizes.{inbound-lengths}
 use Rattle.decision_laws.proofs.Views.{number-taken}
 use Rattle.sound_laws.proofs.Kept.{steady, inbound-steady, psn-below}
 use Rattle.delivery_spec.specs.Stream.{Message}
-use Rattle.delivery_spec.proofs.Rel.{stepBy}
+use Rattle.delivery_steps.proofs.Rel.{stepBy}
 use Rattle.delivery_spec.specs.Demand.{handing, Run, taken, Addressed}
 use Rattle.delivery_spec.proofs.Made.{all-idle, accepted, begun-idle}
 use Rattle.uc_delivery.specs.Message.{StandsMade, Apart, Earlier, heard, AllBytes, Foreign, MayCome, MayComeOn, ApartOn, WholeAfter, PartAfter}

@@ -35,19 +35,19 @@ use Rattle.effect_laws.proofs.Sizes.{inbound-lengths}
 use Rattle.sound_laws.proofs.Kept.{inbound-steady}
 use Rattle.responder_spec.specs.Calls.{reports}
 use Rattle.delivery_spec.specs.Stream.{Message, Slot, packetCount, packetAt}
-use Rattle.delivery_spec.specs.Plain.{takesEntry, needsEntryAt, slotNeedsEntry, isLast, none, completionFor, regionOffset}
+use Rattle.delivery_spec.specs.Plain.{takesEntry, needsEntryAt, slotNeedsEntry, isLast, none, completionsFor, regionOffset}
 use Rattle.delivery_spec.specs.Demand.{handing, Run, taken, Permitted, AtLeast}
-use Rattle.delivery_spec.proofs.Chain.{Stands}
-use Rattle.delivery_spec.proofs.Cutting.{placeFor, cutPacket, psn-small}
-use Rattle.delivery_spec.proofs.Operands.{addressOf, keyOf, immediateOf}
-use Rattle.delivery_spec.proofs.Rel.{IsOf, Holding, OpenedFor}
-use Rattle.delivery_spec.proofs.Verdicts.{passes}
-use Rattle.delivery_spec.proofs.Fitting.{Suits, and-false}
-use Rattle.delivery_spec.proofs.Checks.{ends-is, says, before, behind, waiting-is}
-use Rattle.delivery_spec.proofs.Entries.{entry-fits}
-use Rattle.delivery_spec.proofs.Requests.{Carries, Sends, Writes, send-carries, send-imm-carries, write-carries, write-imm-carries, send-sends, send-imm-sends, write-writes, write-imm-writes}
-use Rattle.delivery_spec.proofs.Storing.{storing-completes, message-after-more}
-use Rattle.delivery_spec.proofs.InMemory.{in-place, send-memory-is, send-completes, send-long, write-memory-is, write-completes, write-long}
+use Rattle.delivery_steps.proofs.Chain.{Stands}
+use Rattle.delivery_steps.proofs.Cutting.{placeFor, cutPacket, psn-small}
+use Rattle.delivery_steps.proofs.Operands.{addressOf, keyOf, immediateOf}
+use Rattle.delivery_steps.proofs.Rel.{IsOf, Holding, OpenedFor}
+use Rattle.delivery_steps.proofs.Verdicts.{passes}
+use Rattle.delivery_steps.proofs.Fitting.{Suits, and-false}
+use Rattle.delivery_steps.proofs.Checks.{ends-is, says, before, behind, waiting-is}
+use Rattle.delivery_steps.proofs.Entries.{entry-fits}
+use Rattle.delivery_steps.proofs.Requests.{Carries, Sends, Writes, send-carries, send-imm-carries, write-carries, write-imm-carries, send-sends, send-imm-sends, write-writes, write-imm-writes}
+use Rattle.delivery_steps.proofs.Storing.{storing-completes, message-after-more}
+use Rattle.delivery_steps.proofs.InMemory.{in-place, send-memory-is, send-completes, send-long, write-memory-is, write-completes, write-long}
 use Rattle.uc_delivery.specs.Message.{firstWaiting, HasEntry, target}
 use Rattle.uc_delivery.proofs.Steps.{decided-is, taken-is, at, stored-out, delivers}
 
@@ -286,7 +286,7 @@ module _ (w : Whole) (m : Message) (first : Psn) (P : Permitted (w .pair .setup)
         ∙ ap (λ k. overwrite mem (k + i * m .connection .pmtu) piece) (sym (target-write (m .request) Z (w .regions) (firstWaiting w)))
 
     completion-is : Sends (m .request) ⊎ Writes (m .request)
-        → (reports (completionOf (cutPacket t) M (getD entry 0 0)) ≡ cond (isLast t && takesEntry (m .request)) (completionFor (m .request) (firstWaiting w) (length (m .bytes)) ∷ []) [])
+        → (reports (completionOf (cutPacket t) M (getD entry 0 0)) ≡ cond (isLast t) (completionsFor (m .request) (firstWaiting w) (length (m .bytes))) [])
         × (completionOf (cutPacket t) M (getD entry 0 0) .some ≡ (isLast t && takesEntry (m .request)))
     completion-is (inl Z) =
         storing-completes (w .pair .setup) (w .regions) f t H v (held i) (F .opened) C entry region (firstWaiting w)
@@ -300,7 +300,7 @@ module _ (w : Whole) (m : Message) (first : Psn) (P : Permitted (w .pair .setup)
         → taken x (packetAt t) out
         ≡ at w (psnAfter (psnAfter first i) 1) (msnBy (isLast t) n) false (messageAfter (placeFor t) M (payloadSize (cutPacket t))) (entriesBy (isLast t && takesEntry (m .request)) (w .pair .entries))
         (overwrite mem (target (m .request) (w .regions) (firstWaiting w) + i * m .connection .pmtu) piece)
-        (cs ++ cond (isLast t && takesEntry (m .request)) (completionFor (m .request) (firstWaiting w) (length (m .bytes)) ∷ []) [])
+        (cs ++ cond (isLast t) (completionsFor (m .request) (firstWaiting w) (length (m .bytes))) [])
     unfolding storePayload
     steps out o =
         let k = kinds (m .request) Cr .1 in

@@ -34,11 +34,11 @@ use Rattle.effect_laws.proofs.Refusals.{inbound-answered}
 use Rattle.effect_laws.proofs.Sizes.{inbound-lengths}
 use Rattle.sound_laws.proofs.Kept.{inbound-steady}
 use Rattle.delivery_spec.specs.Stream.{Message, Slot, packetCount, packetAt}
-use Rattle.delivery_spec.proofs.Rel.{stepBy}
+use Rattle.delivery_steps.proofs.Rel.{stepBy}
 use Rattle.delivery_spec.specs.Demand.{handing, Run, taken, Addressed}
-use Rattle.delivery_spec.proofs.Chain.{Sent}
-use Rattle.delivery_spec.proofs.Cutting.{placeFor, cutPacket, psn-small}
-use Rattle.delivery_spec.proofs.Places.{starts-at, ends-at}
+use Rattle.delivery_steps.proofs.Chain.{Sent}
+use Rattle.delivery_steps.proofs.Cutting.{placeFor, cutPacket, psn-small}
+use Rattle.delivery_steps.proofs.Places.{starts-at, ends-at}
 use Rattle.uc_delivery.specs.Message.{MayCome, Unreported, handed, HandedInPart}
 use Rattle.uc_delivery.proofs.Steps.{decided-is, taken-is}
 use Rattle.uc_delivery.proofs.Follow.{carries-bytes}

@@ -28,9 +28,9 @@ use Rattle.answer_laws.proofs.Answers.{goes}
 use Rattle.decision_laws.proofs.Views.{number-taken}
 use Rattle.delivery_spec.specs.Stream.{Slot, packetAt}
 use Rattle.delivery_spec.specs.Demand.{handing, Run, taken}
-use Rattle.delivery_spec.proofs.Chain.{Sent}
-use Rattle.delivery_spec.proofs.Rel.{stepBy}
-use Rattle.delivery_spec.proofs.Cutting.{cutPacket, admits, is-packet}
+use Rattle.delivery_steps.proofs.Chain.{Sent}
+use Rattle.delivery_steps.proofs.Rel.{stepBy}
+use Rattle.delivery_steps.proofs.Cutting.{cutPacket, admits, is-packet}
 
 -- Not refused, the header checks passed: the rules of the unreliable connection decide
 module _ (x : Run) (out : List ℕ) (t : Slot) (W : Willing (handing x (packetAt t) out)) (uc : x .whole .pair .setup .service ≡ 1) (ready : x .whole .pair .state ≡ 1)

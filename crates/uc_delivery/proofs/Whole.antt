@@ -2,7 +2,7 @@
 use Prim.Native.Nat.{ℕ, zero, suc, _+_, _-_, _*_, _^_, _≤_, _<_}
 use mathlib.Core.Path.{_≡_, refl, sym, ap, subst, _∙_}
 use mathlib.Core.Bool.{Bool, true, false, cond, not, _&&_}
-use mathlib.Core.List.{List, [], _∷_, _++_, append-nil}
+use mathlib.Core.List.{List, [], _++_, append-nil}
 use mathlib.Core.Logic.{_⊎_, inl, inr}
 use native.Mathlib.Omega.{arith}
 use native.Mathlib.Nat.{zero-mul}
@@ -34,11 +34,11 @@ use Rattle.responder_spec.specs.Apply.{entriesBy, msnBy, ringTaken}
 use Rattle.responder_spec.specs.Steady.{Steady}
 use Rattle.responder_spec.specs.declared.Completion.{Completion}
 use Rattle.delivery_spec.specs.Stream.{Message, Slot, packetCount, packetAt}
-use Rattle.delivery_spec.specs.Plain.{takesEntry, isLast, completionFor}
+use Rattle.delivery_spec.specs.Plain.{takesEntry, isLast, completionsFor}
 use Rattle.delivery_spec.specs.Demand.{Run, taken, Addressed, Permitted}
-use Rattle.delivery_spec.proofs.Cutting.{placeFor, cutPacket}
-use Rattle.delivery_spec.proofs.Places.{starts-at}
-use Rattle.delivery_spec.proofs.Rel.{IsOf, OpenedFor}
+use Rattle.delivery_steps.proofs.Cutting.{placeFor, cutPacket}
+use Rattle.delivery_steps.proofs.Places.{starts-at}
+use Rattle.delivery_steps.proofs.Rel.{IsOf, OpenedFor}
 use Rattle.uc_delivery.specs.Message.{Standing, HasEntry, firstWaiting, target, handedAll, handed, HandedWhole}
 use Rattle.uc_delivery.proofs.Steps.{at}
 use Rattle.uc_delivery.proofs.Follow.{holding, holds, heldAt, Follows, steps, more, done, bounded, kept, steady}
@@ -161,7 +161,7 @@ module _ (w : Whole) (m : Message) (first : Psn) (P : Permitted (w .pair .setup)
         ∙ λ j.
         at w ((next-psn i ∙ ap (psnAfter first) (omega' i n)) j) (msnBy (last j) (w .pair .msn)) false (z j) (entriesBy (last j && takesEntry (m .request)) (w .pair .entries))
         ((ap (λ y. overwrite y (base + i * pmtu) (pieceAt (m .bytes) pmtu i)) e ∙ (grows x0 base (m .bytes) pmtu i B (within i h) ∙ ap (overwrite x0 base) (filled i n))) j)
-        (cs ++ cond (last j && takesEntry (m .request)) (completionFor (m .request) (firstWaiting w) (length (m .bytes)) ∷ []) [])
+        (cs ++ cond (last j) (completionsFor (m .request) (firstWaiting w) (length (m .bytes))) [])
       where
         omega' : (i : ℕ) → suc (i + 0) ≡ packetCount m → suc i ≡ packetCount m
         omega' i n = omega arith
@@ -179,7 +179,7 @@ module _ (w : Whole) (m : Message) (first : Psn) (P : Permitted (w .pair .setup)
         steps w m first P Cr small (S .unreliable) (S .ready) (S .idle) sup i h E (w .pair .msn) b u mem cs G Y l (outs i) (room i)
         ∙ ((λ j.
         at w (next-psn i j) (msnBy (more-come j) (w .pair .msn)) false v (entriesBy (more-come j && takesEntry (m .request)) (w .pair .entries)) mem2
-        (cs ++ cond (more-come j && takesEntry (m .request)) (completionFor (m .request) (firstWaiting w) (length (m .bytes)) ∷ []) []))
+        (cs ++ cond (more-come j) (completionsFor (m .request) (firstWaiting w) (length (m .bytes))) []))
         ∙ λ j. at w (psnAfter first (suc i)) (w .pair .msn) false v (w .pair .entries) mem2 (append-nil cs j)) in
         let I = more w m first P Cr small (S .unreliable) (S .ready) (S .idle) sup i h E (w .pair .msn) b u mem cs G Y l more-come in
         let message-after-memory : mem2 ≡ memoryAt (suc i) = ap (λ y. overwrite y (base + i * pmtu) (pieceAt (m .bytes) pmtu i)) e ∙ grows x0 base (m .bytes) pmtu i B (within i h) in

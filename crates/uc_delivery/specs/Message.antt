@@ -23,7 +23,7 @@ use Rattle.cut_spec.specs.declared.Request.the-variants.{Send, SendImmediate, W
 use Rattle.responder_spec.specs.Steady.{Steady}
 use Rattle.delivery_spec.specs.Stream.{Message, packetCount, packetAt}
 use Rattle.delivery_spec.specs.Made.{NoneSetUp}
-use Rattle.delivery_spec.specs.Plain.{answerRoom, takesEntry, completionFor, regionOffset}
+use Rattle.delivery_spec.specs.Plain.{answerRoom, takesEntry, completionsFor, regionOffset}
 use Rattle.delivery_spec.specs.Demand.{Run, taken, Allowed, Addressed, AtLeast, entryOf}
 
 -- A pair of the unreliable connection as calls leave it, Ready. It may have received anything: a message may be open,
@@ -115,7 +115,7 @@ handedAll x m first =
             saved = w .saved;
           };
       memory = overwrite (x .memory) (target (m .request) (w .regions) (firstWaiting w)) (m .bytes);
-      completions = x .completions ++ cond (takesEntry (m .request)) (completionFor (m .request) (firstWaiting w) (length (m .bytes)) ∷ []) [];
+      completions = x .completions ++ completionsFor (m .request) (firstWaiting w) (length (m .bytes));
     }
 
 -- Its function is enabled, and the bytes that a WRITE names lie in the region of its key.

@@ -6,7 +6,7 @@ ghost use mathlib.Core.Path.{_≡_};
 ghost use Rattle.header.specs.Write.{answerNumber};
 ghost use Rattle.header.specs.Write.{doneBytes};
 ghost use Rattle.abi_spec.specs.Fields.{bthWords, extensionWords};
-ghost use Rattle.udalopek_spec.specs.Headers.{readHeaderNumber, readBth, readExtension, ownWords, writeNumber, writeOutput, writeReport};
+ghost use Rattle.udalopek_spec.specs.Headers.{readHeaderNumber, readReport, readBth, readExtension, ownWords, writeNumber, writeOutput, writeReport};
 
 // Reads a header.
 #[no_mangle]
@@ -14,15 +14,23 @@ pub extern "C" fn udalopek_read_header(
     packet: &[u8],
     bth: &mut [u64; 11],
     extension: &mut [u64; 10],
+    report: &mut [u64; 1],
 ) -> u8
     ensures { λ r. ⌜ r ≡ readHeaderNumber (now (packet .entry)) ⌝ }
     ensures { λ r. ⌜ now (bth .exit) ≡ readBth (now (packet .entry)) (now (bth .entry)) ⌝ }
     ensures { λ r. ⌜ now (extension .exit) ≡ readExtension (now (packet .entry)) (now (extension .entry)) ⌝ }
+    ensures { λ r. ⌜ now (report .exit) ≡ readReport (now (packet .entry)) ⌝ }
 {
     let found = decode::read(packet);
     match found {
-        HeaderRead::Dropped(check) => check,
-        HeaderRead::Accepted(h) => report_header(h, bth, extension),
+        HeaderRead::Dropped(check) => {
+            *report = [number::u8_to_u64(check)];
+            header::QUIET_DROP
+        }
+        HeaderRead::Accepted(h) => {
+            *report = [0; 1];
+            report_header(h, bth, extension)
+        }
     }
 }
 

@@ -1,25 +1,31 @@
 // The calls of a host, on words that are lent.
 use crate::left;
-use pair::Pair;
+use pair::HostOutcome;
 use pair::Setup;
-use pair::Status;
 use sequence::Psn;
 use table::Entry;
 use table::Region;
 ghost use mathlib.Core.Path.{_≡_};
-ghost use Rattle.pair.specs.Answer.{statusNumber};
+ghost use mathlib.Core.Bool.{cond};
+ghost use Rattle.pair.specs.Answer.{statusNumber, executed};
 ghost use Rattle.abi_spec.specs.Words.{overwriteWords};
 ghost use Rattle.abi_spec.specs.Pair.{pairWords};
 ghost use Rattle.udalopek_spec.specs.Host.{setUpNumber, setUpWords, setUpTable, resetNumber, resetWords, resetTable, readyNumber, readyWords, addNumber, addTable, removeNumber, removeTable, postNumber, postWords, postTable};
 
-// Writes a pair over its words, and answers a number.
-pub(crate) fn leave(pair: &mut [u64], q: Pair, status: Status) -> u8
-    ensures { λ r. ⌜ r ≡ statusNumber status ⌝ }
-    ensures { λ r. ⌜ now (pair .exit) ≡ overwriteWords (now (pair .entry)) (pairWords q) ⌝ }
+// Writes the pair of a call that is done over its words, and answers the call's number.
+fn leave(pair: &mut [u64], left: HostOutcome) -> u8
+    ensures { λ r. ⌜ r ≡ statusNumber (left .status) ⌝ }
+    ensures { λ r. ⌜ now (pair .exit) ≡ cond (executed (left .status)) (overwriteWords (now (pair .entry)) (pairWords (left .pair))) (now (pair .entry)) ⌝ }
 {
+    let status = left.status;
+    let number = status.number();
+    if number != 0 {
+        return number;
+    }
+    let q = left.pair;
     let next = abi::pair_words(q);
     abi::overwrite_words(pair, &next);
-    status.number()
+    number
 }
 
 // Takes the numbers of a new pair, whatever the words and the table had.
@@ -63,13 +69,7 @@ pub extern "C" fn udalopek_set_up(
         atomic,
     };
     let made = host_calls::set_up(setup, regions);
-    let status = made.status;
-    let number = status.number();
-    if number != 0 {
-        return number;
-    }
-    let q = made.pair;
-    leave(pair, q, status)
+    leave(pair, made)
 }
 
 // Starts afresh with the numbers of the set-up.
@@ -84,18 +84,8 @@ pub extern "C" fn udalopek_reset(pair: &mut [u64], regions: &mut [[u64; 7]; tabl
     }
     let stray = abi::strays(pair);
     let q = abi::pair_said(stray, pair);
-    let unsound = host_calls::sound::unsound(q);
-    if unsound {
-        return header::OUT_OF_RANGE;
-    }
     let left = host_calls::reset(q, regions);
-    let status = left.status;
-    let number = status.number();
-    if number != 0 {
-        return number;
-    }
-    let q = left.pair;
-    leave(pair, q, status)
+    leave(pair, left)
 }
 
 // The pair takes packets from now on.
@@ -110,13 +100,7 @@ pub extern "C" fn udalopek_make_ready(pair: &mut [u64]) -> u8
     let stray = abi::strays(pair);
     let q = abi::pair_said(stray, pair);
     let left = host_calls::make_ready(q);
-    let status = left.status;
-    let number = status.number();
-    if number != 0 {
-        return number;
-    }
-    let q = left.pair;
-    leave(pair, q, status)
+    leave(pair, left)
 }
 
 // Lets peers name a part of memory by a key.

@@ -15,10 +15,8 @@ use Rattle.pair.specs.Pair.{blankPair}
 use Rattle.pair.specs.Sound.{pairUnsound}
 use Rattle.pair.specs.Host.{setUp, resetTo, resetRegions, madeReady, addStatus, addRegions, posted, postEntries}
 use Rattle.pair.proofs.Adding.{add-error, add-range}
-use Rattle.pair.proofs.Begin.{ready-wrong, ready-unsound}
-use Rattle.pair.proofs.Known.{unsound as not-sound}
+use Rattle.pair.proofs.Begin.{reset-pair, reset-regions, reset-done, reset-never, ready-wrong, ready-unsound}
 use Rattle.pair.proofs.Posting.{post-error, post-range}
-use Rattle.pair.proofs.Tests.{tested}
 use Rattle.responder_spec.specs.declared.Completion.{Completion}
 use Rattle.responder_spec.specs.Decide.{noReply}
 use Rattle.responder_spec.specs.Inbound.{inbound, leftBy}
@@ -28,16 +26,16 @@ use Rattle.effect_laws.proofs.Effects.{inbound-table}
 use Rattle.effect_laws.proofs.Refusals.{next-none, next-short, next-range}
 use Rattle.abi_spec.specs.Pair.{otherLength, strays, setupSaid, readOf, narrowed, saidBy, pairOf, pairWords}
 use Rattle.abi_spec.specs.Claims.{InRange, PairFields}
-use Rattle.abi_spec.proofs.Laws.{ranges-tested, stray-tested, stray-unsound, pair-back}
+use Rattle.abi_spec.proofs.Laws.{ranges-tested, stray-tested, stray-setup, set-up-words, stray-unsound, pair-back}
 use Rattle.udalopek_spec.specs.Packets.{Lent, lent, arrivalWith, inboundOf, refusedWith, returning, wordsLeft, inboundReturned}
 use Rattle.udalopek_spec.specs.Packets.{reportWords, nextNumber}
 use Rattle.udalopek_spec.specs.Packets.{nextWords, nextOutput, nextReport}
 use Rattle.udalopek_spec.specs.Cutting.{requestOf, cutReport}
-use Rattle.udalopek_spec.specs.Host.{unmade, setUpNumber, setUpWords, setUpTable, resetNumber, resetWords, resetTable, readyNumber}
+use Rattle.udalopek_spec.specs.Host.{setUpNumber, setUpWords, setUpTable, resetNumber, resetWords, resetTable, readyNumber}
 use Rattle.udalopek_spec.specs.Host.{readyWords, addNumber, addTable, removeNumber, removeTable, postNumber}
 use Rattle.udalopek_spec.specs.Host.{postWords, postTable}
 use Rattle.udalopek_spec.specs.Claims.{ReportSays, KindsAre, CutReports, InboundKeeps, LengthRefused, WordsRefused}
-use Rattle.udalopek_spec.specs.Claims.{OthersRefused, ResetRefused, InboundIs, ReturnedEach, SetUpIs, NextIs, PostIs, ReadyIs, ResetIs}
+use Rattle.udalopek_spec.specs.Claims.{OthersRefused, OneOrder, ResetAllowed, InboundIs, ReturnedEach, SetUpIs, NextIs, PostIs, ReadyIs, ResetIs}
 use Rattle.udalopek_spec.specs.Claims.{AddIs, RemoveIs}
 use Rattle.udalopek_spec.proofs.Steps.{second, first, many, few, as-many, own-words}
 use Rattle.udalopek_spec.proofs.Left.{refused-short, refused-unsound}
@@ -158,20 +156,14 @@ ready-is q f =
       sym (second _ _ _ (b .1)) ∙ ap (λ x. pairWords (madeReady x .pair)) (b .0),
     )
 
--- a sound pair is made by calls
-made : (q : Pair) → PairFields q → Sound q → unmade (pairWords q) ≡ false
-unfolding unmade
-made q f s = ap pairUnsound (pair-back q f .0) ∙ tested q .1 s
-
 pub reset-is : ResetIs
 unfolding resetNumber resetWords resetTable
-reset-is q rows f s =
+reset-is q rows f =
     let b = pair-back q f in
-    let n = of-pair q f in
-    let u = made q f s in (
-      sym (second _ 34 _ u ∙ second _ 34 _ n) ∙ ap (λ x. statusNumber (resetTo x .status)) (b .0),
-      sym (second _ _ _ u ∙ second _ _ _ n) ∙ ap (λ x. pairWords (resetTo x .pair)) (b .0),
-      sym (second _ _ _ u ∙ second _ _ _ n) ∙ ap (λ x. resetRegions x rows) (b .0),
+    let n = of-pair q f in (
+      sym (second _ 34 _ n) ∙ ap (λ x. statusNumber (resetTo x .status)) (b .0),
+      sym (second _ _ _ (b .1)) ∙ ap (λ x. pairWords (resetTo x .pair)) (b .0),
+      sym (second _ _ _ n) ∙ ap (λ x. resetRegions x rows) (b .0),
     )
 
 pub add-is : AddIs
@@ -201,16 +193,16 @@ length-refused l m out rows s r key e n =
       sym (first _ 34 _ f),
     )
 
--- words out of range say a pair that is not sound
+-- words out of range say a pair that is not sound, by its set-up numbers
+stray : (w : List ℕ) → (InRange w → ⊥) → strays w ≡ true
+stray w n = go (strays w) refl
+  where
+    go : (b : Bool) → strays w ≡ b → strays w ≡ true
+    go true e = e
+    go false e = absurd (n (ranges-tested w .0 e))
+
 unsound : (w : List ℕ) → length w ≡ 30 → (InRange w → ⊥) → pairUnsound (pairOf w) ≡ true
 unsound w h n = stray-tested w h (stray w n)
-  where
-    stray : (v : List ℕ) → (InRange v → ⊥) → strays v ≡ true
-    stray v k = go (strays v) refl
-      where
-        go : (b : Bool) → strays v ≡ b → strays v ≡ true
-        go true e = e
-        go false e = absurd (k (ranges-tested v .0 e))
 
 pub words-refused : WordsRefused
 unfolding inboundReturned inbound leftBy noReply statusNumber
@@ -227,7 +219,7 @@ unfolding pairOf saidBy
 said-pair w h = ap (λ n. cond (ltb n 30) blankPair (narrowed (strays w) w)) h
 
 pub others-refused : OthersRefused
-unfolding nextNumber nextResponse resetNumber unmade readyNumber addNumber postNumber setupSaid readOf
+unfolding nextNumber nextResponse resetNumber readyNumber addNumber postNumber setupSaid readOf
 others-refused w m out rows r e h n =
     let q = pairOf w in
     let l = many w h in
@@ -239,7 +231,7 @@ others-refused w m out rows r e h n =
       λ a. sym (second _ 34 _ l) ∙ next-none q m out (left ∙ a) .number,
       λ a b. sym (second _ 34 _ l) ∙ next-short q m out (λ z. a (sym left ∙ z)) (subst (λ x. length out < x) (sym room) b) .number,
       λ a b. sym (second _ 34 _ l) ∙ next-range q m out (λ z. a (sym left ∙ z)) (subst (λ x. x ≤ length out) (sym room) b) (inr s) .number,
-      sym (first _ 34 _ (unsound w h n) ∙ second _ 34 _ l),
+      sym (second _ 34 _ l) ∙ reset-never q rows (stray-setup w h (stray w n)) .0 .0,
       λ a. sym (second _ 34 _ l) ∙ ready-wrong q (λ z. a (sym state ∙ z)) .0,
       λ a. sym (second _ 34 _ l) ∙ ready-unsound q (state ∙ a) s .0,
       λ a. (sym (second _ 34 _ l) ∙ add-error q rows r (state ∙ a) .0, sym (second _ 34 _ l) ∙ post-error q rows e (state ∙ a) .0 .0),
@@ -248,9 +240,32 @@ others-refused w m out rows r e h n =
           (sym (second _ 34 _ l) ∙ add-range q rows r k (inl s) .0, sym (second _ 34 _ l) ∙ post-range q rows e k (inl s) .0 .0),
     )
 
-pub reset-refused : ResetRefused
-unfolding resetNumber unmade
-reset-refused w h n = sym (first _ 34 _ (not-sound (pairOf w) n) ∙ second _ 34 _ (many w h))
+pub one-order : OneOrder
+unfolding inboundReturned nextNumber resetNumber readyNumber addNumber removeNumber postNumber
+one-order l m out rows r key e h =
+    let n = many (l .words) h in (
+      ap (λ y. y .number) (sym (second _ (refusedWith 34 l) (returning (wordsLeft l) (inboundOf l)) n)),
+      sym (second _ 34 _ n),
+      sym (second _ 34 _ n),
+      sym (second _ 34 _ n),
+      sym (second _ 34 _ n),
+      sym (second _ 34 _ n),
+      sym (second _ 34 _ n),
+    )
+
+pub reset-allowed : ResetAllowed
+unfolding resetNumber resetWords resetTable
+reset-allowed w rows h =
+    let q = pairOf w in
+    let l = many w h in (
+      λ s. (
+        sym (second _ 34 _ l) ∙ reset-done q rows s .0,
+        sym (second _ _ _ (set-up-words w h s)) ∙ ap pairWords (reset-pair q s),
+        sym (second _ _ _ l) ∙ reset-regions q rows s,
+      ),
+      λ n. sym (second _ 34 _ l) ∙ reset-never q rows n .0 .0,
+      λ n. stray-setup w h (stray w n),
+    )
 
 pub report-says : ReportSays
 unfolding reportWords

@@ -8,19 +8,17 @@ use borrow.Author.Tests.{ne-eqb}
 use Rattle.pair.specs.declared.Status.{Status}
 use Rattle.pair.specs.declared.Pair.{Pair}
 use Rattle.pair.specs.Answer.{statusNumber, executed}
-use Rattle.pair.specs.Sound.{pairUnsound}
 use Rattle.pair.specs.Host.{setUp, setUpStatus, setUpRegions, resetTo, resetStatus, resetRegions, madeReady}
 use Rattle.pair.specs.Host.{readyStatus, addStatus, addRegions, removeStatus, removeRegions, posted, postStatus}
 use Rattle.pair.specs.Host.{postEntries}
 use Rattle.responder_spec.specs.Response.{nextResponse, nextOut}
 use Rattle.abi_spec.specs.Pair.{otherLength, strays, pairOf, pairWords}
-use Rattle.abi_spec.proofs.Laws.{sound-words}
 use Rattle.udalopek_spec.specs.Packets.{nextNumber, nextWords, nextOutput, nextReport}
-use Rattle.udalopek_spec.specs.Host.{unmade, setUpNumber, setUpWords, setUpTable}
+use Rattle.udalopek_spec.specs.Host.{setUpNumber, setUpWords, setUpTable}
 use Rattle.udalopek_spec.specs.Host.{resetNumber, resetWords, resetTable, readyNumber, readyWords, addNumber}
 use Rattle.udalopek_spec.specs.Host.{addTable, removeNumber, removeTable, postNumber, postWords, postTable}
 use Rattle.udalopek_spec.specs.Claims.{NextKeeps, SetUpKeeps, ResetKeeps, ReadyKeeps, AddKeeps, RemoveKeeps, PostKeeps}
-use Rattle.udalopek_spec.proofs.Steps.{as-many, counted, own-words}
+use Rattle.udalopek_spec.proofs.Steps.{as-many, own-words}
 
 -- a number from 32 on is not that of a call that is done
 not-done : (s : Status) → 32 ≤ statusNumber s → executed s ≡ false
@@ -53,13 +51,8 @@ unfolding readyNumber readyWords madeReady
 ready-keeps w h = words-kept w (readyStatus (pairOf w)) _ h
 
 pub reset-keeps : ResetKeeps
-unfolding resetNumber resetWords resetTable unmade resetTo resetRegions
-reset-keeps w rows h = (
-  behind (otherLength w) _ w _
-      (λ b g. behind (pairUnsound (pairOf w)) _ w _ (λ c k. ap pairWords (kept (resetStatus (pairOf w)) (pairOf w) _ k) ∙ sym (own-words w (sound-words w (counted w b) c))) g)
-      h,
-  behind (otherLength w) _ rows _ (λ b g. behind (pairUnsound (pairOf w)) _ rows _ (λ c k. kept (resetStatus (pairOf w)) rows _ k) g) h,
-)
+unfolding resetNumber resetWords resetTable resetTo resetRegions
+reset-keeps w rows h = (words-kept w (resetStatus (pairOf w)) _ h, behind (otherLength w) _ rows _ (λ b g. kept (resetStatus (pairOf w)) rows _ g) h)
 
 pub add-keeps : AddKeeps
 unfolding addNumber addTable addRegions

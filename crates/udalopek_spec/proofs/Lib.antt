@@ -5,3 +5,4 @@ pub mod Claims
 pub mod Keeps
 pub mod Widths
 pub mod Stays
+pub mod Messages

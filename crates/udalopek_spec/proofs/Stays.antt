@@ -11,7 +11,6 @@ use Rattle.pair.specs.Calls.HostCall.{MakeReady, PostEntry}
 use Rattle.pair.specs.Claims.{SetupSound, Sound, WholeSound, Accepted}
 use Rattle.pair.specs.Host.{setUp, madeReady, posted, readyStatus, postStatus}
 use Rattle.pair.specs.Pair.{freshPair}
-use Rattle.pair.specs.Sound.{pairUnsound}
 use Rattle.pair.specs.declared.Setup.{Setup}
 use Rattle.pair.specs.declared.Pair.{Pair}
 use Rattle.pair.proofs.Begin.{done-status, set-up-pair, reset-pair}
@@ -23,10 +22,10 @@ use Rattle.sound_laws.proofs.Kept.{inbound-sound, next-sound}
 use Rattle.abi_spec.specs.Pair.{otherLength, strays, pairOf, pairWords}
 use Rattle.abi_spec.proofs.Laws.{ranges-tested, sound-words, pair-back, said-fits, sound-fits}
 use Rattle.udalopek_spec.specs.Packets.{arrivalWith, inboundOf, refusedWith, returning, wordsLeft, inboundReturned, nextWords}
-use Rattle.udalopek_spec.specs.Host.{setUpWords, unmade, resetWords, readyWords, postWords}
+use Rattle.udalopek_spec.specs.Host.{setUpWords, resetWords, readyWords, postWords}
 use Rattle.udalopek_spec.specs.Claims.{Say, SetUpStays, HostStays, InboundStays, NextStays}
 use Rattle.udalopek_spec.proofs.Steps.{second, many}
-use Rattle.udalopek_spec.proofs.Widths.{TypeWidths, pair-either, inbound-widths}
+use Rattle.udalopek_spec.proofs.Widths.{TypeWidths, pair-either, bytes-fit, inbound-widths}
 
 own : (v : List ℕ) (q : Pair) → v ≡ pairWords q → Sound q → TypeWidths q → Say v q
 own v q e s t =
@@ -56,7 +55,7 @@ inbound-stays l h bm bp s =
     let a = arrivalWith l (pairOf w) in
     own _ _
     (ap (λ y. y .words) (sym (second _ (refusedWith 34 l) (returning (wordsLeft l) (inboundOf l)) (many w h)))
-    ∙ sym (second (strays w) w _ f)) (inbound-sound a bm bp s .pair) (inbound-widths a bp (s .pair) (said-widths w f))
+    ∙ sym (second (strays w) w _ f)) (inbound-sound a bm bp s .pair) (inbound-widths a (bytes-fit (l .packet) bp) (s .pair) (said-widths w f))
 
 pub next-stays : NextStays
 unfolding nextWords drained nextResponse
@@ -85,16 +84,14 @@ unfolding calledAll
 by-call x s c a = calls-sound x (c ∷ []) (a, tt) s .pair
 
 pub host-stays : HostStays
-unfolding resetWords unmade readyWords postWords called madeReady posted
+unfolding resetWords readyWords postWords called madeReady posted
 host-stays w regions entries saved h s =
     let q = pairOf w in
     let x : Whole = record { pair = q; regions = regions; entries = entries; saved = saved } in
     let f = in-range w h (s .pair) in
     let k = said-widths w f in (
       own _ (freshPair (q .setup))
-          (sym (second (otherLength w) w _ (many w h))
-          ∙ sym (second (pairUnsound q) w _ (tested q .1 (s .pair)))
-          ∙ ap pairWords (reset-pair q (s .pair .setup)))
+          (sym (second (strays w) w _ f) ∙ ap pairWords (reset-pair q (s .pair .setup)))
           (fresh-sound (q .setup) (s .pair .setup)) (fresh-widths (q .setup) (k .0)),
       own _ _ (sym (second (strays w) w _ f)) (by-call x s MakeReady tt) (pair-either (executed (readyStatus q)) _ q (record { widths = k }) (record { widths = k }) .widths),
       λ e. own _ _ (sym (second (strays w) w _ f)) (by-call x s (PostEntry e) tt) (pair-either (executed (postStatus q e)) _ q (record { widths = k }) (record { widths = k }) .widths),

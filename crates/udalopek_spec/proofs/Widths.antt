@@ -1,6 +1,6 @@
 -- What inbound leaves of a pair has the widths of its types: the R_Key of the open message, and PSN and MSN of the READ
 -- being answered, come from the packet's bytes or were there.
-use Prim.Native.Nat.{ℕ, _+_, _<_}
+use Prim.Native.Nat.{ℕ, _+_, _^_, _<_}
 use mathlib.Core.Bool.{Bool, true, false, cond, _||_}
 use mathlib.Core.List.{List}
 use lib.Dec.{eqb, leb}
@@ -167,13 +167,22 @@ or-drop : (b : Bool) (h : Header) (reason : ℕ) (f : Header → Decision) → N
 or-drop true h reason f n = n
 or-drop false h reason f n = quiet _
 
-decided : (a : Arrival) → Bytes (a .packet) → Small (a .whole .pair .message .key) → Small (a .whole .pair .expected .0)
+-- what reading finds in a packet: a PSN of 24 bits, an R_Key of 32
+pub record Fitting (p : List ℕ) : Type 0 where
+  pub psn : bthOf p .psn .0 < 2 ^ 24
+  pub key : Small (operandsOf (headerOf p .extension) .key)
+
+pub bytes-fit : (p : List ℕ) → Bytes p → Fitting p
+unfolding headerOf
+bytes-fit p B = record { psn = psn-below p B; key = keyed _ p B .key }
+
+decided : (a : Arrival) → Fitting (a .packet) → Small (a .whole .pair .message .key) → Small (a .whole .pair .expected .0)
     → Narrow (Decide.decision a)
 unfolding Decide.decision admitted readBy packetOf headerOf
-decided a B h e =
-    let t = psn-below (a .packet) B in
+decided a F h e =
+    let t = F .psn in
     let s : Small (bthOf (a .packet) .psn .0) = omega (arith, t) in
-    either (executed (Decide.refusalOf a)) _ _ (or-drop (eqb (headerReason _ _ _ _ (a .packet)) 0) _ _ _ (decides _ (keyed _ (a .packet) B .key) s (a .whole) h e)) (quiet _)
+    either (executed (Decide.refusalOf a)) _ _ (or-drop (eqb (headerReason _ _ _ _ (a .packet)) 0) _ _ _ (decides _ (F .key) s (a .whole) h e)) (quiet _)
 
 -- the pair that it leads to
 pub record Held (a : ReadAnswer) : Type 0 where
@@ -210,9 +219,9 @@ pair-wide q d t m N =
     (pair-either (eqb k 17 || eqb k 18) _ _ (record { widths = t })
     (pair-either (eqb k 6) _ _ (record { widths = (t .0, zero-small, t .2, t .3) }) (record { widths = t })))))
 
-pub inbound-widths : (a : Arrival) → Bytes (a .packet) → Sound (a .whole .pair) → TypeWidths (a .whole .pair) → TypeWidths (inbound a .whole .pair)
+pub inbound-widths : (a : Arrival) → Fitting (a .packet) → Sound (a .whole .pair) → TypeWidths (a .whole .pair) → TypeWidths (inbound a .whole .pair)
 unfolding inbound leftBy
-inbound-widths a B S t =
+inbound-widths a F S t =
     let e = S .expected in
     let m = S .msn in
-    pair-wide (a .whole .pair) (Decide.decision a) t (omega (arith, m)) (decided a B (t .1) (omega (arith, e))) .widths
+    pair-wide (a .whole .pair) (Decide.decision a) t (omega (arith, m)) (decided a F (t .1) (omega (arith, e))) .widths

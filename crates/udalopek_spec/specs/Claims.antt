@@ -5,7 +5,13 @@ use mathlib.Core.Bool.{true, false}
 use mathlib.Core.List.{List, [], _∷_}
 use mathlib.Core.Logic.{_⊎_}
 use lib.ListN.{length, getD, replicate}
+use Rattle.sequence.specs.declared.Psn.{Psn}
 use Rattle.header.specs.Bytes.{Bytes}
+use Rattle.header.specs.Read.{readReason, readHeader}
+use Rattle.header.specs.Write.{written, writtenOut, answerNumber, doneBytes}
+use Rattle.header.specs.declared.Header.{Header}
+use Rattle.header.specs.declared.HeaderRead.the-variants.{Accepted}
+use Rattle.header.specs.declared.Answer.the-variants.{Done}
 use Rattle.table.specs.declared.Region.{Region}
 use Rattle.table.specs.declared.Entry.{Entry}
 use Rattle.pair.specs.declared.Setup.{Setup}
@@ -13,15 +19,21 @@ use Rattle.pair.specs.declared.Pair.{Pair}
 use Rattle.pair.specs.Answer.{statusNumber}
 use Rattle.pair.specs.Pair.{freshPair}
 use Rattle.pair.specs.Claims.{SetupSound, Sound, WholeSound}
-use Rattle.pair.specs.Host.{setUp, setUpRegions, resetTo, resetRegions, madeReady, addStatus, addRegions, removeStatus, removeRegions, posted, postEntries}
+use Rattle.pair.specs.Host.{noRegions, setUp, setUpRegions, resetTo, resetRegions, madeReady, addStatus, addRegions, removeStatus, removeRegions, posted, postEntries}
 use Rattle.responder_spec.specs.Inbound.{inbound}
 use Rattle.responder_spec.specs.Response.{nextResponse, nextOut}
 use Rattle.responder_spec.specs.declared.Completion.{Completion}
+use Rattle.cut_spec.specs.Cut.{cutWritten, cutOut}
+use Rattle.cut_spec.specs.Next.{nextPsn}
+use Rattle.cut_spec.specs.declared.Connection.{Connection}
+use Rattle.cut_spec.specs.declared.Request.{Request}
 use Rattle.cut_spec.specs.declared.Request.the-variants.{Send, SendImmediate, Write, WriteImmediate, Read, CmpSwap, FetchAdd}
 use Rattle.abi_spec.specs.Pair.{pairOf, pairWords}
-use Rattle.abi_spec.specs.Claims.{InRange, PairFields}
+use Rattle.abi_spec.specs.Fields.{bthWords, extensionWords}
+use Rattle.abi_spec.specs.Claims.{InRange, PairFields, BthFields, ExtensionFields}
 use Rattle.udalopek_spec.specs.Packets.{Lent, Returned, lent, returned, arrivalWith, inboundOf, inboundReturned, reportWords, nextNumber, nextWords, nextOutput, nextReport}
-use Rattle.udalopek_spec.specs.Cutting.{requestOf, cutReport}
+use Rattle.udalopek_spec.specs.Cutting.{requestOf, cutReport, cutNumber, cutOutput, cutWords}
+use Rattle.udalopek_spec.specs.Headers.{readHeaderNumber, readReport, readBth, readExtension, writeNumber, writeOutput, writeReport}
 use Rattle.udalopek_spec.specs.Host.{setUpNumber, setUpWords, setUpTable, resetNumber, resetWords, resetTable, readyNumber}
 use Rattle.udalopek_spec.specs.Host.{readyWords, addNumber, addTable, removeNumber, removeTable, postNumber, postWords, postTable}
 
@@ -62,6 +74,22 @@ abbrev pub PostKeeps : Type 0
 PostKeeps =
     (w : List ℕ) (rows : List (List ℕ)) (e : Entry) → 32 ≤ postNumber w e → (postWords w e ≡ w) × (postTable w rows e ≡ rows)
 
+-- A packet whose header does not read is 5 with the check that failed first, and leaves both lists of words.
+abbrev pub ReadKeeps : Type 0
+ReadKeeps =
+    (p b e : List ℕ) → (readReason p ≡ 0 → ⊥)
+    → (readHeaderNumber p ≡ 5) × (readReport p ≡ readReason p ∷ []) × (readBth p b ≡ b) × (readExtension p e ≡ e)
+
+-- Of a write and a cut any number but 0 is a refusal, whatever the words: both leave the output, and tell 0 throughout.
+abbrev pub WriteKeeps : Type 0
+WriteKeeps = (b e out : List ℕ) → (writeNumber b e out ≡ 0 → ⊥) → (writeOutput b e out ≡ out) × (writeReport b e out ≡ 0 ∷ [])
+
+abbrev pub CutKeeps : Type 0
+CutKeeps =
+    (kind : ℕ) (c : Connection) (r : Request) (d : List ℕ) (first : Psn) (i : ℕ) (out : List ℕ)
+    → (cutNumber kind c r d first i out ≡ 0 → ⊥)
+    → (cutOutput kind c r d first i out ≡ out) × (cutWords kind c r d first i out ≡ 0 ∷ 0 ∷ [])
+
 -- Another number of words than 30 is refused by every call, before all else.
 abbrev pub LengthRefused : Type 0
 LengthRefused =
@@ -91,9 +119,30 @@ OthersRefused =
     × (getD w 28 0 % 256 ≡ 2 → (addNumber w rows r ≡ 36) × (postNumber w e ≡ 36))
     × ((getD w 28 0 % 256 ≡ 2 → ⊥) → (addNumber w rows r ≡ 34) × (postNumber w e ≡ 34))
 
--- Reset refuses also the words of a pair that is not sound, which as a call of the pair it need not.
-abbrev pub ResetRefused : Type 0
-ResetRefused = (w : List ℕ) → length w ≡ 30 → (Sound (pairOf w) → ⊥) → resetNumber w ≡ 34
+-- One order of checks for both interfaces: on 30 words, in range or not, every exported call answers the number that the
+-- call of the pair which they say does. What that order is, the laws of the pair's calls say.
+abbrev pub OneOrder : Type 0
+OneOrder =
+    (l : Lent) (m out : List ℕ) (rows : List (List ℕ)) (r : Region) (key : ℕ) (e : Entry) → length (l .words) ≡ 30
+    → let w = l .words in
+    let q = pairOf w in
+    (inboundReturned l .number ≡ inboundOf l .number)
+    × (nextNumber w m out ≡ statusNumber (nextResponse q m out .status))
+    × (resetNumber w ≡ statusNumber (resetTo q .status))
+    × (readyNumber w ≡ statusNumber (madeReady q .status))
+    × (addNumber w rows r ≡ statusNumber (addStatus q rows r))
+    × (removeNumber w rows key ≡ statusNumber (removeStatus rows key))
+    × (postNumber w e ≡ statusNumber (posted q e .status))
+
+-- Reset is allowed on all words whose set-up numbers a set-up accepts, whatever else they say, and refuses all others:
+-- there is nothing that it could bring back. Words out of range say no such numbers.
+abbrev pub ResetAllowed : Type 0
+ResetAllowed =
+    (w : List ℕ) (rows : List (List ℕ)) → length w ≡ 30
+    → (SetupSound (pairOf w .setup)
+    → (resetNumber w ≡ 0) × (resetWords w ≡ pairWords (freshPair (pairOf w .setup))) × (resetTable w rows ≡ noRegions))
+    × ((SetupSound (pairOf w .setup) → ⊥) → resetNumber w ≡ 34)
+    × ((InRange w → ⊥) → SetupSound (pairOf w .setup) → ⊥)
 
 -- On the words of a pair the calls are those of the pair: whatever is proved of these holds of the exported ones.
 abbrev pub InboundIs : Type 0
@@ -141,7 +190,7 @@ ReadyIs =
 
 abbrev pub ResetIs : Type 0
 ResetIs =
-    (q : Pair) (rows : List (List ℕ)) → PairFields q → Sound q
+    (q : Pair) (rows : List (List ℕ)) → PairFields q
     → (resetNumber (pairWords q) ≡ statusNumber (resetTo q .status))
     × (resetWords (pairWords q) ≡ pairWords (resetTo q .pair))
     × (resetTable (pairWords q) rows ≡ resetRegions q rows)
@@ -157,6 +206,50 @@ RemoveIs =
     (w : List ℕ) (rows : List (List ℕ)) (key : ℕ) → length w ≡ 30
     → (removeNumber w rows key ≡ statusNumber (removeStatus rows key))
     × (removeTable w rows key ≡ removeRegions rows key)
+
+-- A cut by the numbers of a request is the cut of that request: number and output, and, where it is done, the bytes
+-- written and the PSN of the message after this one.
+pub record CutAs (kind : ℕ) (c : Connection) (asked r : Request) (d : List ℕ) (first : Psn) (i : ℕ) (out : List ℕ) : Type 0 where
+  pub number : cutNumber kind c asked d first i out ≡ answerNumber (cutWritten c r d first i (length out))
+  pub output : cutOutput kind c asked d first i out ≡ cutOut c r d first i out
+  pub told : (n : ℕ) → cutWritten c r d first i (length out) ≡ Done n
+      → cutWords kind c asked d first i out ≡ n ∷ nextPsn r (length d) (c .pmtu) first .0 ∷ []
+
+-- So it is of each kind, the request written out; a kind past the last is 39.
+abbrev pub CutIs : Type 0
+CutIs =
+    (c : Connection) (address key size swap compare immediate : ℕ) (d : List ℕ) (first : Psn) (i : ℕ) (out : List ℕ)
+    → let cut : ℕ → Request → Type 0 = λ kind r. CutAs kind c (requestOf kind address key size swap compare immediate) r d first i out in
+    cut 0 Send
+    × cut 1 (SendImmediate immediate)
+    × cut 2 (Write (record { address = address; key = key }))
+    × cut 3 (WriteImmediate (record { address = address; key = key }) immediate)
+    × cut 4 (Read (record { address = address; key = key; length = size }))
+    × cut 5 (CmpSwap (record { address = address; key = key; swap = swap; compare = compare }))
+    × cut 6 (FetchAdd (record { address = address; key = key }) swap)
+    × ((kind : ℕ) → 6 < kind → cutNumber kind c (requestOf kind address key size swap compare immediate) d first i out ≡ 39)
+
+-- A packet that reads is 0 with no check, and leaves the words of its header.
+abbrev pub ReadIs : Type 0
+ReadIs =
+    (p b e : List ℕ) (h : Header) → readHeader p ≡ Accepted h
+    → (readHeaderNumber p ≡ 0) × (readReport p ≡ 0 ∷ [])
+    × (readBth p b ≡ bthWords (h .bth)) × (readExtension p e ≡ extensionWords (h .extension))
+
+-- The words of a header are written as that header: number, output and bytes told.
+abbrev pub WriteIs : Type 0
+WriteIs =
+    (h : Header) (out : List ℕ) → BthFields (h .bth) → ExtensionFields (h .extension)
+    → (writeNumber (bthWords (h .bth)) (extensionWords (h .extension)) out ≡ answerNumber (written h (length out)))
+    × (writeOutput (bthWords (h .bth)) (extensionWords (h .extension)) out ≡ writtenOut h out)
+    × (writeReport (bthWords (h .bth)) (extensionWords (h .extension)) out ≡ doneBytes (written h (length out)) ∷ [])
+
+-- Any others are 39.
+abbrev pub WriteBad : Type 0
+WriteBad =
+    (b e out : List ℕ)
+    → ((h : Header) → BthFields (h .bth) → ExtensionFields (h .extension) → b ≡ bthWords (h .bth) → e ≡ extensionWords (h .extension) → ⊥)
+    → writeNumber b e out ≡ 39
 
 -- Words that say a pair, in range.
 abbrev pub Say : List ℕ → Pair → Type 0

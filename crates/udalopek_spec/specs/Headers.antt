@@ -7,16 +7,12 @@ use Rattle.header.specs.declared.Header.{Header}
 use Rattle.header.specs.declared.HeaderRead.{HeaderRead}
 use Rattle.header.specs.declared.HeaderRead.the-variants.{Accepted, Dropped}
 use Rattle.header.specs.Refusal as Refusal
-use Rattle.header.specs.Read.{readHeader}
+use Rattle.header.specs.Read.{readHeader, readNumber, readCheck}
 use Rattle.header.specs.Write.{written, writtenOut, answerNumber, doneBytes}
 use Rattle.abi_spec.specs.Words.{eqWords}
 use Rattle.abi_spec.specs.Fields.{bthFrom, bthWords, extensionFrom, extensionWords}
 
--- the check that failed, or 0; the words of what was read, or those that were there
-unfoldable pub readCheck : HeaderRead → ℕ
-readCheck (Accepted h) = 0
-readCheck (Dropped check) = check
-
+-- the words of what was read, or those that were there
 unfoldable pub reportedBth : HeaderRead → List ℕ → List ℕ
 reportedBth (Accepted h) old = bthWords (h .bth)
 reportedBth (Dropped check) old = old
@@ -25,8 +21,12 @@ unfoldable pub reportedExtension : HeaderRead → List ℕ → List ℕ
 reportedExtension (Accepted h) old = extensionWords (h .extension)
 reportedExtension (Dropped check) old = old
 
+-- the answer's number, and the check that failed beside it, or 0
 unfoldable pub readHeaderNumber : List ℕ → ℕ
-readHeaderNumber p = readCheck (readHeader p)
+readHeaderNumber p = readNumber (readHeader p)
+
+unfoldable pub readReport : List ℕ → List ℕ
+readReport p = readCheck (readHeader p) ∷ []
 
 unfoldable pub readBth : List ℕ → List ℕ → List ℕ
 readBth p old = reportedBth (readHeader p) old

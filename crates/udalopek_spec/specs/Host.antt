@@ -9,7 +9,6 @@ use Rattle.table.specs.declared.Entry.{Entry}
 use Rattle.pair.specs.declared.Setup.{Setup}
 use Rattle.pair.specs.Answer.{statusNumber, executed}
 use Rattle.pair.specs.Host.{setUp, setUpRegions, resetTo, resetRegions, madeReady, addStatus, addRegions, removeStatus, removeRegions, posted, postEntries}
-use Rattle.pair.specs.Sound.{pairUnsound}
 use Rattle.abi_spec.specs.Pair.{otherLength, strays, pairOf, pairWords}
 
 -- what the words are does not matter to a set-up
@@ -22,18 +21,14 @@ setUpWords w s = cond (otherLength w) w (cond (executed (setUp s .status)) (pair
 unfoldable pub setUpTable : List ℕ → List (List ℕ) → Setup → List (List ℕ)
 setUpTable w rows s = cond (otherLength w) rows (setUpRegions s rows)
 
--- reset tests the whole pair here, since as a call of a pair it need not
-unfoldable pub unmade : List ℕ → Bool
-unmade w = pairUnsound (pairOf w)
-
 unfoldable pub resetNumber : List ℕ → ℕ
-resetNumber w = cond (otherLength w) Refusal.outOfRange (cond (unmade w) Refusal.outOfRange (statusNumber (resetTo (pairOf w) .status)))
+resetNumber w = cond (otherLength w) Refusal.outOfRange (statusNumber (resetTo (pairOf w) .status))
 
 unfoldable pub resetWords : List ℕ → List ℕ
-resetWords w = cond (otherLength w) w (cond (unmade w) w (pairWords (resetTo (pairOf w) .pair)))
+resetWords w = cond (strays w) w (pairWords (resetTo (pairOf w) .pair))
 
 unfoldable pub resetTable : List ℕ → List (List ℕ) → List (List ℕ)
-resetTable w rows = cond (otherLength w) rows (cond (unmade w) rows (resetRegions (pairOf w) rows))
+resetTable w rows = cond (otherLength w) rows (resetRegions (pairOf w) rows)
 
 unfoldable pub readyNumber : List ℕ → ℕ
 readyNumber w = cond (otherLength w) Refusal.outOfRange (statusNumber (madeReady (pairOf w) .status))

@@ -82,6 +82,7 @@ extern "C" {
         packet_length: usize,
         bth: *mut u64,
         extension: *mut u64,
+        report: *mut u64,
     ) -> u8;
 
     pub fn udalopek_write_header(

@@ -167,9 +167,9 @@ impl Extension {
 pub fn read_header(packet: &[u8]) -> Result<Header, u8> {
     let mut bth = [0; 11];
     let mut extension = [0; 10];
-    match raw::read_header(packet, &mut bth, &mut extension) {
-        0 => {}
-        check => return Err(check),
+    let mut report = [0];
+    if raw::read_header(packet, &mut bth, &mut extension, &mut report) != 0 {
+        return Err(report[0] as u8);
     }
     let [opcode, se, migreq, pad, tver, pkey, reserved8, dest, ackreq, reserved7, psn] = bth;
     Ok(Header {

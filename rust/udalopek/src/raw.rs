@@ -179,15 +179,21 @@ pub fn next_response(pair: &mut [u64], memory: &[u8], out: &mut [u8], report: &m
 }
 
 #[inline]
-pub fn read_header(packet: &[u8], bth: &mut [u64; 11], extension: &mut [u64; 10]) -> u8 {
+pub fn read_header(
+    packet: &[u8],
+    bth: &mut [u64; 11],
+    extension: &mut [u64; 10],
+    report: &mut [u64; 1],
+) -> u8 {
     // SAFETY: `packet` is a slice with its length, only read; `bth` and `extension` are arrays of the lengths that the
-    // header names, each borrowed by `&mut`.
+    // header names, `report` one word, each borrowed by `&mut`.
     unsafe {
         ffi::udalopek_read_header(
             packet.as_ptr(),
             packet.len(),
             bth.as_mut_ptr(),
             extension.as_mut_ptr(),
+            report.as_mut_ptr(),
         )
     }
 }

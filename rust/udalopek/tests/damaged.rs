@@ -152,8 +152,28 @@ fn damaged_words_take_no_region() {
 }
 
 #[test]
-fn damaged_words_are_not_reset() {
-    refused(&Lent::busy(), 0, Lent::reset, OUT_OF_RANGE);
+fn damaged_set_up_numbers_and_words_out_of_range_are_not_reset() {
+    let sound = Lent::busy();
+    refused(&sound, 0, Lent::reset, |word, value| {
+        (!sound.with(&[(word, value)]).may_be_reset()).then_some(34)
+    });
+}
+
+#[test]
+fn reset_mends_every_other_word() {
+    let sound = Lent::busy();
+    let mut fresh = sound.clone();
+    assert_eq!(fresh.reset(), 0);
+    let mut mended = 0;
+    for (word, value) in damage() {
+        let mut lent = sound.with(&[(word, value)]);
+        if lent.may_be_reset() {
+            assert_eq!(lent.reset(), 0, "{word}: {value}");
+            assert!(lent == fresh, "{word}: {value}");
+            mended += 1;
+        }
+    }
+    assert!(mended > 10);
 }
 
 #[test]

@@ -107,3 +107,23 @@ fn what_a_refusal_tells() {
     }
     assert_eq!(write(&bth, &none, 11), (35, [0], vec![0xaa; 11]));
 }
+
+#[test]
+fn what_reading_tells() {
+    let read = |packet: &[u8]| {
+        let (mut bth, mut extension, mut report) = ([FULL; 11], [FULL; 10], [FULL]);
+        let number = raw::read_header(packet, &mut bth, &mut extension, &mut report);
+        (number, report, bth, extension)
+    };
+    let dropped = |check| (5, [check], [FULL; 11], [FULL; 10]);
+    // A header of RC SEND Only; then a byte short, of TVer 1, of another service, and without its RETH.
+    let packet = [4, 0, 0xff, 0xff, 0, 0, 0, 0x12, 0x80, 0, 0, 7];
+    let bth = [4, 0, 0, 0, 0, 0xffff, 0, 0x12, 1, 0, 7];
+    assert_eq!(read(&packet), (0, [0], bth, [0; 10]));
+    assert_eq!(read(&packet[..11]), dropped(1));
+    for (at, byte, check) in [(1, 1, 2), (0, 0x44, 5), (0, 10, 8)] {
+        let mut other = packet;
+        other[at] = byte;
+        assert_eq!(read(&other), dropped(check));
+    }
+}

@@ -1,3 +1,5 @@
+use Rattle.header.proofs.Writes.{numbered}
+use Rattle.cut_spec.proofs.Whole.{cut-numbers}
 use Rattle.cut_spec.proofs.Steps.{refused, range-inside, whole}
 use borrow.Author.Needs.{needs}
 use Rattle.cut.proofs.cut.Statement.{statement}
@@ -10,7 +12,8 @@ returns : tie.Need-returns
 returns c =
     let c1 = c .before in
     let A = c1 .before .before .before .args in
-    refused (A .connection) (A .request) (A .message .now) (A .out .now) (A .first) (A .index) _ (c1 .refusal .ensures) (c .if1 .taken)
+    numbered _ _ _ (cut-numbers _ _ _ _ _ _)
+    (refused (A .connection) (A .request) (A .message .now) (A .out .now) (A .first) (A .index) _ (c1 .refusal .ensures) (c .if1 .taken))
 
 header-at-requires : tie.Need-header-at-requires
 header-at-requires c κs = search needs
@@ -47,8 +50,9 @@ returns-2 c =
     let c2 = c .before .before in let c5 = c2 .before .before .before in let c6 = c5 .before in let c7 = c6 .before in
     let c8 = c7 .before in let c9 = c8 .before in
     let A = c9 .before .before .before .args in
-    whole (A .connection) (A .request) (A .message .now) (A .out .now) (A .first) (A .index) _ _ _ _ _ _ (c9 .refusal .ensures) (c8 .if1 .left)
-    (c7 .header-at .ensures) (c6 .carried-length .ensures) (c5 .part .ensures) (c2 .write .ensures .0) (c2 .write .ensures .1)
+    numbered _ _ _ (cut-numbers _ _ _ _ _ _)
+    (whole (A .connection) (A .request) (A .message .now) (A .out .now) (A .first) (A .index) _ _ _ _ _ _ (c9 .refusal .ensures) (c8 .if1 .left)
+    (c7 .header-at .ensures) (c6 .carried-length .ensures) (c5 .part .ensures) (c2 .write .ensures .0) (c2 .write .ensures .1 .1))
 
 pub cut-spec : {M : Type 1} → statement M
 cut-spec =

@@ -1,4 +1,6 @@
-use Rattle.header.specs.Write.{answerBy}
+use Rattle.header.specs.Write.{answerBy, answerNumber}
+use Rattle.header.proofs.Writes.{told}
+use Rattle.cut_spec.proofs.Answers.{count-numbers}
 use borrow.Author.Tests.{eq-eqb, ne-eqb}
 use Rattle.cut_spec.specs.Message.{packetsAnswer, packetsOf}
 use borrow.Author.Needs.{needs}
@@ -13,7 +15,8 @@ length-refusal-requires c κs = search needs
 
 returns : tie.Need-returns
 unfolding packetsAnswer packetsOf answerBy
-returns c = simp (← c .before .before .message-length .ensures, ← c .before .length-refusal .ensures, ne-eqb _ _ (c .if1 .taken))
+returns c =
+    told answerNumber _ _ _ (count-numbers _ _ _ .0) (simp (← c .before .before .message-length .ensures, ← c .before .length-refusal .ensures, ne-eqb _ _ (c .if1 .taken)))
 
 carried-length-requires : tie.Need-carried-length-requires
 carried-length-requires c κs = search needs
@@ -25,7 +28,7 @@ returns-2 : tie.Need-returns-2
 unfolding packetsAnswer packetsOf answerBy
 returns-2 c =
     let c1 = c .before in let c2 = c1 .before in let c3 = c2 .before in let c4 = c3 .before in
-    simp (← c4 .message-length .ensures, ← c3 .length-refusal .ensures, eq-eqb _ _ (c2 .if1 .left), ← c1 .carried-length .ensures, ← c .count .ensures)
+    told answerNumber _ _ _ (count-numbers _ _ _ .0) (simp (← c4 .message-length .ensures, ← c3 .length-refusal .ensures, eq-eqb _ _ (c2 .if1 .left), ← c1 .carried-length .ensures, ← c .count .ensures))
 
 pub packets-spec : {M : Type 1} → statement M
 packets-spec =

@@ -1,4 +1,6 @@
 use native.Mathlib.Omega.{arith}
+use Rattle.header.proofs.Writes.{numbered}
+use Rattle.packet.proofs.Refusals.{packet-numbers}
 use Rattle.packet.proofs.Bytes.{refused, through, whole}
 use borrow.Author.Needs.{needs}
 use Rattle.packet.proofs.write.Statement.{statement}
@@ -22,7 +24,8 @@ returns : tie.Need-returns
 returns c =
     let c1 = c .before in let c2 = c1 .before in let c4 = c2 .before .before in
     let A = c4 .before .before .before .args in
-    refused (A .h) (A .payload .now) (A .out .now) _ (c4 .unfit .ensures) _ (c2 .class .ensures) _ (c1 .refusal .ensures) (c .if1 .taken)
+    numbered _ _ _ (packet-numbers _ _ _)
+    (refused (A .h) (A .payload .now) (A .out .now) _ (c4 .unfit .ensures) _ (c2 .class .ensures) _ (c1 .refusal .ensures) (c .if1 .taken))
 
 write-requires : tie.Need-write-requires
 write-requires c κs = search needs
@@ -57,8 +60,9 @@ returns-2 c =
     let c4 = c .before .before .before .before in let c8 = c4 .before .before .before .before in
     let c10 = c8 .before .before in let c11 = c10 .before in let c12 = c11 .before in let c14 = c12 .before .before in
     let A = c14 .before .before .before .args in
-    whole (A .h) (A .payload .now) (A .out .now) _ (c14 .unfit .ensures) _ (c12 .class .ensures) _ (c11 .refusal .ensures) (c10 .if1 .left) _ _
-    (c8 .write .ensures .1) (c4 .write-payload .ensures)
+    numbered _ _ _ (packet-numbers _ _ _)
+    (whole (A .h) (A .payload .now) (A .out .now) _ (c14 .unfit .ensures) _ (c12 .class .ensures) _ (c11 .refusal .ensures) (c10 .if1 .left) _ _
+    (c8 .write .ensures .1 .1) (c4 .write-payload .ensures))
 
 pub write-spec : {M : Type 1} → statement M
 write-spec =

@@ -37,7 +37,7 @@ returns-2 c =
     let c1 = c .before in let c3 = c1 .before .before in let c5 = c3 .before .before in let c6 = c5 .before in let c7 = c6 .before in
     let A = c7 .before .before .before .before .args in
     left-at-once (arriving (A .pair) (A .regions .now) (A .entries .now) (A .saved .now) (A .mem .now) (A .packet .now) (A .out .now)) (c7 .refusal .result) (c7 .refusal .ensures)
-    (c6 .number .result) (c6 .number .ensures) (c5 .if1 .left) (c3 .admit .result) (c3 .admit .ensures) _ (c1 .enum-told .given .1)
+    (c6 .number .result) (c6 .number .ensures) (c5 .if1 .left) (c3 .admit .result) (c3 .admit .ensures .0) _ (c1 .enum-told .given .1)
     (c .no-reply2 .result) (c .no-reply2 .ensures)
 
 decision-requires : tie.Need-decision-requires
@@ -48,7 +48,7 @@ returns-3 c =
     let c2 = c .before .before in let c4 = c2 .before .before in let c6 = c4 .before .before in let c7 = c6 .before in let c8 = c7 .before in
     let A = c8 .before .before .before .before .args in
     admitted-packet (arriving (A .pair) (A .regions .now) (A .entries .now) (A .saved .now) (A .mem .now) (A .packet .now) (A .out .now)) (c8 .refusal .result) (c8 .refusal .ensures)
-    (c7 .number .result) (c7 .number .ensures) (c6 .if1 .left) (c4 .admit .result) (c4 .admit .ensures) _ (c2 .found .given .1)
+    (c7 .number .result) (c7 .number .ensures) (c6 .if1 .left) (c4 .admit .result) (c4 .admit .ensures .0) _ (c2 .found .given .1)
     (c .decision .result) (c .decision .ensures)
 
 pub decided-spec : {M : Type 1} → statement M

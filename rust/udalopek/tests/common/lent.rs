@@ -146,6 +146,45 @@ impl Lent {
         )
     }
 
+    /// Whether reset is allowed: each word is in the range of its field, and a set-up accepts the numbers of the set-up.
+    /// What else the words say, reset sets anew.
+    pub fn may_be_reset(&self) -> bool {
+        let space = u64::from(SPACE);
+        let under = |word: &usize, bound: u64| self.words[*word] < bound;
+        let set_up = [256, 512, 1024, 2048, 4096].contains(&self.words[word::PMTU])
+            && self.words[word::MEMORY] <= u64::from(LIMIT)
+            && self.words[word::PKEY] % (1 << 15) != 0
+            && under(&word::TIMER, 32);
+        let numbers = [
+            word::OURS,
+            word::THEIRS,
+            word::START,
+            word::EXPECTED,
+            word::MSN,
+        ];
+        let flags = [
+            word::SERVICE,
+            word::SEND,
+            word::WRITE,
+            word::READ,
+            word::ATOMIC,
+            word::NAK_MARK,
+        ];
+        set_up
+            && under(&word::PKEY, 1 << 16)
+            && numbers.iter().all(|word| under(word, space))
+            && flags.iter().all(|word| under(word, 2))
+            && [word::KIND, word::STATE]
+                .iter()
+                .all(|word| under(word, 256))
+            && [word::HEAD, word::SAVED_HEAD]
+                .iter()
+                .all(|word| under(word, 16))
+            && [word::KEY, word::READ_PSN, word::READ_MSN]
+                .iter()
+                .all(|word| under(word, 1 << 32))
+    }
+
     pub fn reset(&mut self) -> u8 {
         raw::reset(&mut self.words, &mut self.regions)
     }

@@ -1,5 +1,7 @@
 use mathlib.Core.Path.{sym, ap, _∙_}
-use Rattle.udalopek_spec.specs.Headers.{readHeaderNumber, readBth, readExtension, readCheck, reportedBth, reportedExtension}
+use mathlib.Core.List.{[], _∷_}
+use Rattle.header.specs.Read.{readNumber, readCheck}
+use Rattle.udalopek_spec.specs.Headers.{readHeaderNumber, readReport, readBth, readExtension, reportedBth, reportedExtension}
 use borrow.Author.Needs.{needs}
 use Rattle.udalopek.proofs.headers.udalopek_read_header.Statement.{statement}
 use Rattle.udalopek.proofs.headers.udalopek_read_header.Tie as tie
@@ -10,6 +12,9 @@ read-requires c κs = search needs
 enum-known-found : tie.Need-enum-known-found
 enum-known-found c = search needs
 
+u8-to-u64-requires : tie.Need-u8-to-u64-requires
+u8-to-u64-requires c κs = search needs
+
 enum-known-found-2 : tie.Need-enum-known-found-2
 enum-known-found-2 c = search needs
 
@@ -17,23 +22,21 @@ report-header-requires : tie.Need-report-header-requires
 report-header-requires c κs = search needs
 
 returns : tie.Need-returns
-unfolding readHeaderNumber readBth readExtension readCheck reportedBth reportedExtension
+unfolding readHeaderNumber readReport readBth readExtension readNumber readCheck reportedBth reportedExtension
 returns c =
-    let c1 = c .before in let c3 = c1 .before .before in
-    let A = c3 .before .before .args in
-    let e = sym (c3 .read .ensures) ∙ c1 .found .given .1 in
-    (sym (ap readCheck e), (sym (ap (λ h. reportedBth h (A .bth .now)) e), sym (ap (λ h. reportedExtension h (A .extension .now)) e)))
+    let c3 = c .before .before .before in let c5 = c3 .before .before in
+    let A = c5 .before .before .args in
+    let e = sym (c5 .read .ensures .0) ∙ c3 .found .given .1 in
+    (sym (ap readNumber e), (sym (ap (λ h. reportedBth h (A .bth .now)) e), (sym (ap (λ h. reportedExtension h (A .extension .now)) e), ap (λ n. n ∷ []) (c .before .u8-to-u64 .ensures .0) ∙ sym (ap (λ h. readCheck h ∷ []) e))))
 
 returns-2 : tie.Need-returns-2
-unfolding readHeaderNumber readBth readExtension readCheck reportedBth reportedExtension
+unfolding readHeaderNumber readReport readBth readExtension readNumber readCheck reportedBth reportedExtension
 returns-2 c =
-    let c4 = c .before .before .before .before in let c6 = c4 .before .before in
-    let A = c6 .before .before .args in
-    let e = sym (c6 .read .ensures) ∙ c4 .found2 .given .1 in (
-      c .report-header .ensures .0
-          ∙ sym (ap readCheck e),
-      (c .report-header .ensures .1 .0 ∙ sym (ap (λ h. reportedBth h (A .bth .now)) e), c .report-header .ensures .1 .1 ∙ sym (ap (λ h. reportedExtension h (A .extension .now)) e)),
-    )
+    let c5 = c .before .before .before .before .before in let c7 = c5 .before .before in
+    let A = c7 .before .before .args in
+    let R = c .report-header .ensures in
+    let e = sym (c7 .read .ensures .0) ∙ c5 .found2 .given .1 in
+    (R .0 ∙ sym (ap readNumber e), (R .1 .0 ∙ sym (ap (λ h. reportedBth h (A .bth .now)) e), (R .1 .1 ∙ sym (ap (λ h. reportedExtension h (A .extension .now)) e), sym (ap (λ h. readCheck h ∷ []) e))))
 
 pub udalopek-read-header-spec : {M : Type 1} → statement M
 udalopek-read-header-spec =
@@ -41,6 +44,7 @@ udalopek-read-header-spec =
     (tie.spec
     read-requires
     enum-known-found
+    u8-to-u64-requires
     enum-known-found-2
     report-header-requires
     returns

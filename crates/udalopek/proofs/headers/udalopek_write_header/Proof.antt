@@ -30,7 +30,7 @@ unfolding writeNumber writeOutput writeReport
 returns c =
     let c2 = c .before .before in let c5 = c2 .before .before .before in let c7 = c5 .before .before in
     let c8 = c7 .before in let c9 = c8 .before in let c10 = c9 .before in
-    (simp (← c10 .own-words .ensures, c9 .if1 .taken, ← c8 .bth-from .ensures, ← c7 .extension-from .ensures, ← c5 .write .ensures .0, ← c .refusal-number .ensures), simp (← c10 .own-words .ensures, c9 .if1 .taken, ← c8 .bth-from .ensures, ← c7 .extension-from .ensures, ← c5 .write .ensures .1, ← c5 .write .ensures .0, ← c2 .bytes-written .ensures) (refl, refl))
+    (simp (← c10 .own-words .ensures, c9 .if1 .taken, ← c8 .bth-from .ensures, ← c7 .extension-from .ensures, ← c5 .write .ensures .0, ← c .refusal-number .ensures), simp (← c10 .own-words .ensures, c9 .if1 .taken, ← c8 .bth-from .ensures, ← c7 .extension-from .ensures, ← c5 .write .ensures .1 .1, ← c5 .write .ensures .0, ← c2 .bytes-written .ensures) (refl, refl))
 
 returns-2 : tie.Need-returns-2
 unfolding writeNumber writeOutput writeReport

@@ -1,10 +1,11 @@
-use mathlib.Core.Path.{_≡_, refl, sym, ap, _∙_}
+use mathlib.Core.Path.{ap, _∙_}
+use mathlib.Core.Bool.{cond}
 use Rattle.udalopek_spec.proofs.Steps.{second, first, many, few, few-stray, said}
-use Rattle.udalopek_spec.proofs.Done.{done, undone, ready-words, unready-words}
-use Rattle.pair.specs.Answer.{statusNumber}
+use Rattle.udalopek_spec.proofs.Done.{ready-words}
+use Rattle.pair.specs.Answer.{statusNumber, executed}
 use Rattle.pair.specs.Host.{madeReady}
+use Rattle.abi_spec.specs.Words.{overwriteWords}
 use Rattle.abi_spec.specs.Pair.{pairWords}
-use Rattle.abi_spec.proofs.Laws.{overwrite-many}
 use Rattle.udalopek_spec.specs.Host.{readyNumber, readyWords}
 use borrow.Author.Needs.{needs}
 use Rattle.udalopek.proofs.host.udalopek_make_ready.Statement.{statement}
@@ -25,8 +26,8 @@ pair-said-requires c κs = search needs
 make-ready-requires : tie.Need-make-ready-requires
 make-ready-requires c κs = search needs
 
-number-requires : tie.Need-number-requires
-number-requires c κs = search needs
+leave-requires : tie.Need-leave-requires
+leave-requires c κs = search needs
 
 same-length : tie.Need-same-length
 same-length c = search needs
@@ -34,34 +35,15 @@ same-length c = search needs
 returns-2 : tie.Need-returns-2
 unfolding readyNumber madeReady
 returns-2 c =
-    let c3 = c .before .before .before in let c5 = c3 .before .before in let c7 = c5 .before .before in
-    let c9 = c7 .before .before in
-    let A = c9 .args in
-    let l = many (A .pair .now) (c7 .if1 .left) in
-    let q = said (A .pair .now) _ _ (c5 .strays .ensures) (c3 .pair-said .ensures) in
-    let e = c .before .before .make-ready .ensures ∙ ap madeReady q in
-    let n = c .before .number .ensures ∙ ap (λ o. statusNumber (o .status)) e in
-    (n ∙ second _ 34 _ l, unready-words (A .pair .now) l (undone _ _ n (c .if2 .taken)))
-
-leave-requires : tie.Need-leave-requires
-leave-requires c κs = search needs
-
-same-length-2 : tie.Need-same-length-2
-same-length-2 c = search needs
-
-returns-3 : tie.Need-returns-3
-unfolding readyNumber madeReady
-returns-3 c =
-    let c5 = c .before .before .before .before .before in let c6 = c5 .before in let c7 = c6 .before in
-    let c8 = c7 .before in let c10 = c8 .before .before in let c12 = c10 .before .before in
-    let c14 = c12 .before .before in
-    let A = c14 .args in
-    let l = many (A .pair .now) (c12 .if1 .left) in
-    let q = said (A .pair .now) _ _ (c10 .strays .ensures) (c8 .pair-said .ensures) in
-    let e = c7 .make-ready .ensures ∙ ap madeReady q in
-    let n = c6 .number .ensures ∙ ap (λ o. statusNumber (o .status)) e in
-    let w = c .before .before .leave .ensures .1 ∙ overwrite-many (A .pair .now) _ (c12 .if1 .left) ∙ ap (λ o. pairWords (o .pair)) e in
-    (c .before .before .leave .ensures .0 ∙ ap (λ o. statusNumber (o .status)) e ∙ second _ 34 _ l, ready-words (A .pair .now) l (done _ _ n (c5 .if2 .left)) _ w)
+    let c2 = c .before .before in let c4 = c2 .before .before in let c5 = c4 .before in let c7 = c5 .before .before in
+    let c9 = c7 .before .before in let A = c9 .before .before .args in
+    let l = many (A .pair .now) (c9 .if1 .left) in
+    let q = said (A .pair .now) _ _ (c7 .strays .ensures) (c5 .pair-said .ensures) in
+    let e = c4 .make-ready .ensures ∙ ap madeReady q in (
+      c2 .leave .ensures .0 ∙ ap (λ o. statusNumber (o .status)) e ∙ second _ 34 _ l,
+      c2 .leave .ensures .1 ∙ ap (λ o. cond (executed (o .status)) (overwriteWords (A .pair .now) (pairWords (o .pair))) (A .pair .now)) e
+          ∙ ready-words (A .pair .now) l,
+    )
 
 pub udalopek-make-ready-spec : {M : Type 1} → statement M
 udalopek-make-ready-spec =
@@ -71,9 +53,6 @@ udalopek-make-ready-spec =
     strays-requires
     pair-said-requires
     make-ready-requires
-    number-requires
-    same-length
-    returns-2
     leave-requires
-    same-length-2
-    returns-3)
+    same-length
+    returns-2)

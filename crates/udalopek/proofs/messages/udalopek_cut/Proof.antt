@@ -39,7 +39,7 @@ unfolding cutNumber cutOutput cutWords
 returns-2 c =
     let c1 = c .before in let c2 = c1 .before in let c3 = c2 .before in let c6 = c3 .before .before .before in
     let c8 = c6 .before .before in let c9 = c8 .before in let c10 = c9 .before in
-    (simp (tested, c10 .if1 .left, ← c9 .request-of .ensures, ← c6 .cut .ensures .0, ← c3 .refusal-number .ensures), simp (tested, c10 .if1 .left, ← c9 .request-of .ensures, ← c8 .next-psn .ensures, ← c6 .cut .ensures .1, ← c6 .cut .ensures .0, ← c3 .refusal-number .ensures, ← c2 .bytes-written .ensures, ← c1 .following-psn .ensures, ← c .cut-report .ensures) (refl, refl))
+    (simp (tested, c10 .if1 .left, ← c9 .request-of .ensures, ← c6 .cut .ensures .0, ← c3 .refusal-number .ensures), simp (tested, c10 .if1 .left, ← c9 .request-of .ensures, ← c8 .next-psn .ensures .0, ← c6 .cut .ensures .1 .1, ← c6 .cut .ensures .0, ← c3 .refusal-number .ensures, ← c2 .bytes-written .ensures, ← c1 .following-psn .ensures, ← c .cut-report .ensures) (refl, refl))
 
 pub udalopek-cut-spec : {M : Type 1} → statement M
 udalopek-cut-spec =
