@@ -14,7 +14,7 @@ pub fn store(mem: &mut [u8], at: usize, payload: &[u8])
         return;
     }
     let end = at + payload.len();
-    bytes::copy(payload, &mut mem[at..end]);
+    mem[at..end].copy_from_slice(payload);
 }
 
 // Four bytes as one number, low byte first: a word is read by halves, whose sums are short enough to bound.
@@ -82,7 +82,7 @@ pub fn fetch_add(mem: &mut [u8], at: usize, x: u64) -> u64
     ensures mem_after { mem.new ≡ fetch_added mem.old at x }
 {
     let old = read_word(mem, at);
-    let sum = std::num::wrapping_add_u64(old, x);
+    let sum = old.wrapping_add(x);
     write_word(mem, at, sum);
     old
 }

@@ -171,7 +171,7 @@ pub fn memory_offset(region: [u64; 7], address: u64, needed: usize) -> usize
         return 0;
     }
     let skip = number::saturating_sub_u64(address, region[REGION_ADDRESS]);
-    std::num::wrapping_add_u64(region[REGION_OFFSET], skip) as usize
+    region[REGION_OFFSET].wrapping_add(skip) as usize
 }
 
 // The first entry of a ring.

@@ -1,0 +1,6 @@
+use Rattle.sequence.proofs.Circle.{reduced}
+use borrow.Author.Rules.{rules}
+use Rattle.sequence.proofs.Psn.after.Goals as goal
+
+pub returns : goal.returns
+returns c = λ i. record { 0 = reduced c.args.self.0 c.args.n i }
