@@ -89,18 +89,13 @@ store-twice m at d e h =
     let whole : at + length (d ++ e) ≤ length m = omega (arith, length-append d e) in
     ap (λ z. store z (at + length d) e) one ∙ (two ∙ (overwrite-twice m at d e (omega arith) ∙ sym (store-overwrite m at (d ++ e) whole)))
 
--- what the kit's copy leaves in a part as long as its source is the source
+-- a part of memory that holds the bytes, put back, is the memory with the bytes over it
 module _ (m d : List ℕ) (at e : ℕ) (l : at + length d ≡ e) where
-  whole : take (length d) d ++ drop (length d) (mid_of at (e - at) m) ≡ d
-  whole =
-      let h : length (mid_of at (e - at) m) ≤ length d = simp (length-take, length-drop) (omega arith) in
-      rw (drop_of_length-le (mid_of at (e - at) m) h, append-nil, take-length)
-
-  pub copied : put_mid at (e - at) m (take (length d) d ++ drop (length d) (mid_of at (e - at) m)) ≡ overwrite m at d
+  pub copied : put_mid at (e - at) m d ≡ overwrite m at d
   unfolding overwrite
   copied =
       let k : at + (e - at) ≡ at + length d = omega arith in
-      rw whole (ap (λ x. take at m ++ (d ++ x)) (drop-drop (e - at) at m ∙ ap (λ n. drop n m) k))
+      ap (λ x. take at m ++ (d ++ x)) (drop-drop (e - at) at m ∙ ap (λ n. drop n m) k)
 
 -- no bytes change nothing, wherever they go
 pub overwrite-none : (m : List ℕ) (at : ℕ) (d : List ℕ) → length d ≡ 0 → overwrite m at d ≡ m

@@ -1,0 +1,30 @@
+-- one test for the two services
+use mathlib.Core.Path.{◌≡◌, refl, sym, ap, ◌∙◌}
+use mathlib.Core.Bool.{Bool, true, false, cond}
+use lib.Dec.{eqb}
+use Rattle.opcode.specs.declared.OpcodeClass.{OpcodeClass}
+use Rattle.opcode.specs.Opcode.{class_of, service_of, low_of, uc_has, low_class, reserved_class}
+use Rattle.opcode.specs.Service as Service
+use borrow.Author.Rules.{rules}
+use Rattle.opcode.proofs.class.Goals as goal
+
+once : (a b has : Bool) (x y : OpcodeClass) → cond (cond a true (cond b has false)) x y ≡ cond a x (cond b (cond has x y) y)
+once true b has x y = refl
+once false true has x y = refl
+once false false has x y = refl
+
+pub returns-then-has : goal.returns-then-has
+unfolding class_of
+returns-then-has c =
+        let n = c.args.opcode in
+    c.low_class.ensures
+    ∙ (ap (λ t. cond t (low_class (low_of n)) reserved_class) (sym (sym c.served-has.ensures ∙ c.if-has.true))
+    ∙ once (eqb (service_of n) Service.rc) (eqb (service_of n) Service.uc) (uc_has (low_of n)) (low_class (low_of n)) reserved_class)
+
+pub returns : goal.returns
+unfolding class_of
+returns c =
+        let n = c.args.opcode in
+    c.reserved_class.ensures
+    ∙ (ap (λ t. cond t (low_class (low_of n)) reserved_class) (sym (sym c.served-has.ensures ∙ c.if-has.false))
+    ∙ once (eqb (service_of n) Service.rc) (eqb (service_of n) Service.uc) (uc_has (low_of n)) (low_class (low_of n)) reserved_class)

@@ -1,0 +1,12 @@
+use Rattle.std.proofs.Common.{rules, le-ltb, lt-ltb}
+use Rattle.table.specs.View.{region_of}
+use Rattle.table.proofs.region_of.Goals as goal
+
+pub returns-then-i-ge-REGIONS : goal.returns-then-i-ge-REGIONS
+unfolding region_of
+returns-then-i-ge-REGIONS c = simp (← c.u32_to_u64.ensures.value, ← c.find-i.ensures.value, le-ltb _ _ c.if-i-ge-REGIONS.true)
+
+pub returns : goal.returns
+unfolding region_of
+returns c =
+        simp (← c.u32_to_u64.ensures.value, ← c.find-i.ensures.value, lt-ltb _ _ c.if-i-ge-REGIONS.false)

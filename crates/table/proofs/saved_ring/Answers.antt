@@ -1,0 +1,11 @@
+use Rattle.std.proofs.Common.{rules, le-ltb, lt-ltb}
+use Rattle.table.specs.View.{saved_ring}
+use Rattle.table.proofs.saved_ring.Goals as goal
+
+pub returns-then-count-lt-SAVED : goal.returns-then-count-lt-SAVED
+unfolding saved_ring
+returns-then-count-lt-SAVED c = simp (lt-ltb _ _ c.if-count-lt-SAVED.true)
+
+pub returns : goal.returns
+unfolding saved_ring
+returns c = simp (le-ltb _ _ c.if-count-lt-SAVED.false, ← c.saved_slot-head.ensures.value)
