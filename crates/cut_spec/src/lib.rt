@@ -7,7 +7,7 @@ use sequence::Psn;
 pub const MESSAGE_LIMIT: usize = 1048576;
 
 // What the packets of a connection have in common.
-#[derive(Drop)]
+#[derive(Clone, Copy)]
 pub struct Connection {
     pub service: u8,
     pub pmtu: usize,
@@ -16,7 +16,7 @@ pub struct Connection {
 }
 
 // Memory of the other side that a request names.
-#[derive(Drop)]
+#[derive(Clone, Copy)]
 pub struct Target {
     pub address: u64,
     pub key: u32,
@@ -24,7 +24,7 @@ pub struct Target {
 
 // What a message asks for. SENDs and WRITEs, and they alone, have bytes, which are lent beside this, and
 // may have an immediate.
-#[derive(Drop)]
+#[derive(Clone, Copy)]
 pub enum Request {
     Send,
     SendImmediate(u32),
@@ -36,7 +36,7 @@ pub enum Request {
 }
 
 // The PSN of the message after this one, or the number of the refusal.
-#[derive(Drop)]
+#[derive(Clone, Copy)]
 pub enum Following {
     Next(Psn),
     Refused(u8),

@@ -28,7 +28,7 @@ pub const OUTPUT_SHORT: u8 = 35;
 pub const BAD_NUMBER: u8 = 39;
 
 // Base transport header.
-#[derive(Drop)]
+#[derive(Clone, Copy)]
 pub struct Bth {
     pub opcode: u8,
     pub se: bool,
@@ -44,7 +44,7 @@ pub struct Bth {
 }
 
 // RDMA extended transport header.
-#[derive(Drop)]
+#[derive(Clone, Copy)]
 pub struct Reth {
     pub address: u64,
     pub key: u32,
@@ -52,7 +52,7 @@ pub struct Reth {
 }
 
 // Atomic extended transport header; swap is also FetchAdd's addend.
-#[derive(Drop)]
+#[derive(Clone, Copy)]
 pub struct AtomicEth {
     pub address: u64,
     pub key: u32,
@@ -61,14 +61,14 @@ pub struct AtomicEth {
 }
 
 // Acknowledge extended transport header.
-#[derive(Drop)]
+#[derive(Clone, Copy)]
 pub struct Aeth {
     pub syndrome: u8,
     pub msn: Msn,
 }
 
 // The headers after the BTH, in wire order, as one value: an absent header has no field to hold junk.
-#[derive(Drop)]
+#[derive(Clone, Copy)]
 pub enum Extension {
     Bare,
     Remote(Reth),
@@ -79,7 +79,7 @@ pub enum Extension {
     AtomicAcknowledge(Aeth, u64),
 }
 
-#[derive(Drop)]
+#[derive(Clone, Copy)]
 pub struct Header {
     pub bth: Bth,
     pub extension: Extension,
@@ -87,7 +87,7 @@ pub struct Header {
 
 // What reading finds: the header, or why the packet is dropped: the header check that failed first.
 // Reading alone makes four of them: reason::LENGTH, VERSION, SERVICE and SHORT.
-#[derive(Drop)]
+#[derive(Clone, Copy)]
 pub enum HeaderRead {
     Accepted(Header),
     Dropped(u8),
@@ -95,7 +95,7 @@ pub enum HeaderRead {
 
 // What a call answers that writes or counts: how many bytes or packets, or the number of its refusal.
 // A header is refused with BAD_NUMBER where there is no such header, OUTPUT_SHORT where the output is too short for it.
-#[derive(Drop)]
+#[derive(Clone, Copy)]
 pub enum Answer {
     Done(usize),
     Refused(u8),

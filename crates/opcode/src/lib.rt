@@ -72,7 +72,7 @@ pub const WITH_AETH: usize = BTH_LENGTH + AETH_LENGTH;
 
 pub const WITH_AETH_ATOMIC_ACK: usize = WITH_AETH + ATOMIC_ACK_ETH_LENGTH;
 
-#[derive(Drop)]
+#[derive(Clone, Copy)]
 pub struct OpcodeClass {
     pub kind: u8,
     pub place: u8,

@@ -27,7 +27,7 @@ pub const TIMER_LIMIT: u8 = 31;
 // What set-up is given, and reset brings back: numbers of the connection, the functions that are enabled, and the
 // length of the memory that will be lent. The timer code goes into not-ready NAKs. Here and in the pair large fields
 // stand before small ones: gaps between fields would be copied with them.
-#[derive(Drop)]
+#[derive(Clone, Copy)]
 pub struct Setup {
     pub pmtu: usize,
     pub memory: usize,
@@ -45,7 +45,7 @@ pub struct Setup {
 
 // An open message, of several packets: its kind, the bytes stored so far, and a WRITE's address, key and
 // DMA length as its First gave them.
-#[derive(Drop)]
+#[derive(Clone, Copy)]
 pub struct OpenMessage {
     pub kind: u8,
     pub stored: usize,
@@ -56,7 +56,7 @@ pub struct OpenMessage {
 
 // A READ that is being answered: how many responses are still to send, the bytes of memory that it reads, the PSN of
 // its first response, and the MSN that all of them carry.
-#[derive(Drop)]
+#[derive(Clone, Copy)]
 pub struct ReadAnswer {
     pub remaining: usize,
     pub offset: usize,
@@ -67,7 +67,7 @@ pub struct ReadAnswer {
 
 // The pair's numbers. Its tables (regions, entries, saved atomics) are lent beside it; the rings say which rows of the
 // last two are in use. An open SEND holds the entry at the head of its ring.
-#[derive(Drop)]
+#[derive(Clone, Copy)]
 pub struct Pair {
     pub setup: Setup,
     pub message: OpenMessage,
@@ -81,7 +81,7 @@ pub struct Pair {
 }
 
 // What a call answers; the rules' number of each is Status::number.
-#[derive(Drop)]
+#[derive(Clone, Copy)]
 pub enum Status {
     Executed,
     Acknowledged,
@@ -105,7 +105,7 @@ pub enum Status {
 }
 
 // What a host call leaves: its answer, and the pair to go on with.
-#[derive(Drop)]
+#[derive(Clone, Copy)]
 pub struct HostOutcome {
     pub status: Status,
     pub pair: Pair,

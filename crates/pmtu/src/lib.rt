@@ -4,7 +4,7 @@ ghost use Rattle.std.specs.Prelude.{◌≡◌, not};
 ghost use Rattle.pmtu.specs.Pieces.{pmtu_fits, pieces, place_at, part_at};
 
 // A part of the bytes, from start up to, and without, end.
-#[derive(Drop)]
+#[derive(Clone, Copy)]
 pub struct Range {
     pub start: usize,
     pub end: usize,

@@ -5,7 +5,7 @@ use crate::print::text;
 use libc::STDIN_FILENO;
 
 // Whether there was a whole record, and its packet's length, 0 if not.
-#[derive(Drop)]
+#[derive(Clone, Copy)]
 pub(crate) struct Record {
     pub(crate) whole: bool,
     pub(crate) length: usize,

@@ -8,7 +8,7 @@ pub const ATOMIC_LENGTH: usize = 8;
 
 // What the headers after the BTH say, each number 0 and each flag false where no header has it; swap is also FetchAdd's
 // addend.
-#[derive(Drop)]
+#[derive(Clone, Copy)]
 pub struct Operands {
     pub address: u64,
     pub key: u32,
@@ -21,7 +21,7 @@ pub struct Operands {
 
 // A request packet as numbers: the kind and place of its opcode, AckReq, PadCnt and PSN, where its payload starts, how
 // many bytes stand there, pad included, and the operands.
-#[derive(Drop)]
+#[derive(Clone, Copy)]
 pub struct Packet {
     pub kind: u8,
     pub place: u8,
@@ -34,7 +34,7 @@ pub struct Packet {
 }
 
 // What the header checks of a pair find: the packet, or the check that failed first.
-#[derive(Drop)]
+#[derive(Clone, Copy)]
 pub enum Admission {
     Admitted(Packet),
     Dropped(u8),

@@ -4,7 +4,7 @@ use sequence::{Msn, Psn};
 
 // The report to the host of a message that took a receive entry: the entry's number, the message's bytes, and the
 // immediate if there is one. Where nothing completes, every number is 0 and every flag false.
-#[derive(Drop)]
+#[derive(Clone, Copy)]
 pub struct Completion {
     pub some: bool,
     pub number: u64,
@@ -25,7 +25,7 @@ pub const CMP_SWAP: u8 = 3;
 // Here and in a pair large fields come before small ones, so that there are no gaps to copy.
 
 // What happens to memory: the act, and where; the payload's start and size in the packet, or an atomic's operands.
-#[derive(Drop)]
+#[derive(Clone, Copy)]
 pub struct Change {
     pub at: usize,
     pub start: usize,
@@ -37,7 +37,7 @@ pub struct Change {
 
 // How an executed packet moves the pair on: the message that is open afterwards, how many PSNs are taken, whether a
 // message ends, and the completion.
-#[derive(Drop)]
+#[derive(Clone, Copy)]
 pub struct Progress {
     pub message: OpenMessage,
     pub completion: Completion,
@@ -51,7 +51,7 @@ pub const NO_PACKET: u8 = 255;
 // What is sent: an ACK or NAK, an Atomic Acknowledge, the responses of a READ, or nothing. Its kind, PSN, syndrome and
 // MSN; an atomic's value; where in memory a READ reads, how many bytes, and how many of its responses are left. The PSN
 // of a READ is that of its first response.
-#[derive(Drop)]
+#[derive(Clone, Copy)]
 pub struct Reply {
     pub value: u64,
     pub offset: usize,
@@ -65,7 +65,7 @@ pub struct Reply {
 
 // What a packet leads to, before anything is done: the answer, and what becomes of memory, of the pair and of the
 // output. The MSN of the reply and the value that an atomic finds are known when it is done.
-#[derive(Drop)]
+#[derive(Clone, Copy)]
 pub struct Decision {
     pub progress: Progress,
     pub reply: Reply,
@@ -75,7 +75,7 @@ pub struct Decision {
 
 // What inbound and next response leave: the answer, the pair to go on with, a completion, and how many bytes of output
 // were written.
-#[derive(Drop)]
+#[derive(Clone, Copy)]
 pub struct Outcome {
     pub status: Status,
     pub pair: Pair,

@@ -4,15 +4,15 @@ ghost use Rattle.std.specs.Prelude.{◌≡◌};
 ghost use Rattle.sequence.specs.Sequence.{distance, psn_after, msn_next, psn_class};
 
 // The number of a packet.
-#[derive(Drop)]
+#[derive(Clone, Copy)]
 pub struct Psn(pub u32);
 
 // The number of messages completed.
-#[derive(Drop)]
+#[derive(Clone, Copy)]
 pub struct Msn(pub u32);
 
 // What a packet's number is beside the expected one.
-#[derive(Drop)]
+#[derive(Clone, Copy)]
 pub enum Class {
     Expected,
     Ahead,

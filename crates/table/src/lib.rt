@@ -41,7 +41,7 @@ const SAVED_VALUE: usize = 1;
 
 // Memory that peers may name by a key.
 // A row of length 0 is empty.
-#[derive(Drop)]
+#[derive(Clone, Copy)]
 pub struct Region {
     pub key: u32,
     pub address: u64,
@@ -53,7 +53,7 @@ pub struct Region {
 }
 
 // Memory for one message, under a number of the host's choice.
-#[derive(Drop)]
+#[derive(Clone, Copy)]
 pub struct Entry {
     pub number: u64,
     pub offset: u64,
@@ -61,14 +61,14 @@ pub struct Entry {
 }
 
 // Which rows are in use: count of them, from row head on, after the last the first.
-#[derive(Drop)]
+#[derive(Clone, Copy)]
 pub struct Ring {
     pub head: usize,
     pub count: usize,
 }
 
 // The value that a saved atomic answered, if there is one.
-#[derive(Drop)]
+#[derive(Clone, Copy)]
 pub enum Saved {
     Value(u64),
     Nothing,

@@ -1,0 +1,7 @@
+use Rattle.pair.specs.Pair.{fresh_pair}
+use borrow.Author.Rules.{rules}
+use Rattle.host_calls.proofs.fresh.Goals as goal
+
+pub returns : goal.returns
+unfolding fresh_pair
+returns c = simp (← c.no_message-message.ensures)

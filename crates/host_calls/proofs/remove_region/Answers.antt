@@ -1,0 +1,14 @@
+use mathlib.Core.Path.{refl}
+use borrow.Author.Tests.{le-leb, lt-leb}
+use Rattle.pair.specs.Host.{remove_status, remove_regions}
+use Rattle.pair.specs.Answer.{executed, status_number}
+use borrow.Author.Rules.{rules}
+use Rattle.host_calls.proofs.remove_region.Goals as goal
+
+pub returns-then-at-ge-REGIONS : goal.returns-then-at-ge-REGIONS
+unfolding remove_status remove_regions executed status_number
+returns-then-at-ge-REGIONS c = record { value = simp (← c.u32_to_u64.ensures.value, ← c.find-at.ensures.value, le-leb _ _ c.if-at-ge-REGIONS.true); regions_after = simp (← c.u32_to_u64.ensures.value, ← c.find-at.ensures.value, le-leb _ _ c.if-at-ge-REGIONS.true) }
+
+pub returns : goal.returns
+unfolding remove_status remove_regions executed status_number
+returns c = record { value = simp (← c.u32_to_u64.ensures.value, ← c.find-at.ensures.value, lt-leb _ _ c.if-at-ge-REGIONS.false); regions_after = simp (← c.u32_to_u64.ensures.value, ← c.find-at.ensures.value, lt-leb _ _ c.if-at-ge-REGIONS.false) }

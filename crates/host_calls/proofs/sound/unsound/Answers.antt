@@ -1,0 +1,6 @@
+use Rattle.host_calls.proofs.Halves.{halves}
+use borrow.Author.Rules.{rules}
+use Rattle.host_calls.proofs.sound.unsound.Goals as goal
+
+pub returns : goal.returns
+returns c = simp (halves, ← c.numbers_unsound-numbers.ensures, ← c.work_unsound.ensures)
