@@ -1,0 +1,11 @@
+use Rattle.request_spec.specs.Verdict.{fragment}
+use borrow.Author.Rules.{rules}
+use Rattle.request_checks.proofs.fragment.Goals as goal
+
+pub returns-then-one : goal.returns-then-one
+unfolding fragment
+returns-then-one c = simp (← c.single-one.ensures, c.if-one.true, ← c.starts-begins.ensures)
+
+pub returns : goal.returns
+unfolding fragment
+returns c = simp (← c.single-one.ensures, c.if-one.false)
