@@ -4,7 +4,7 @@ ghost use Rattle.std.specs.Prelude.{◌≡◌, ◌*◌, ◌/◌, ◌%◌, ◌^�
 ghost use Rattle.opcode.specs.Kind as Kind;
 ghost use Rattle.opcode.specs.Service as Service;
 ghost use Rattle.opcode.specs.Place.{starts, ends};
-ghost use Rattle.opcode.specs.Opcode.{per_service, low_class, reserved_class, uc_has, class_of};
+ghost use Rattle.opcode.specs.Opcode.{per_service, kind_of, place_in, place_of, send_write_follows, follows_of, length_of, low_class, reserved_class, uc_has, class_of};
 
 // How many opcodes a service has: those of the low five bits.
 pub const PER_SERVICE: u8 = 32;
@@ -42,7 +42,25 @@ pub const LAST: u8 = 2;
 
 pub const ONLY: u8 = 4;
 
-// The opcode of a READ response that is the only one, in the low five bits.
+// Opcodes, in the low five bits, where kind and place alone do not say which headers follow.
+const SEND_LAST_IMMEDIATE: u8 = 3;
+
+const SEND_ONLY_IMMEDIATE: u8 = 5;
+
+const WRITE_FIRST: u8 = 6;
+
+const WRITE_LAST_IMMEDIATE: u8 = 9;
+
+const WRITE_ONLY: u8 = 10;
+
+const WRITE_ONLY_IMMEDIATE: u8 = 11;
+
+const READ_RESPONSE_FIRST: u8 = 13;
+
+const READ_RESPONSE_MIDDLE: u8 = 14;
+
+const READ_RESPONSE_LAST: u8 = 15;
+
 pub const READ_RESPONSE_ONLY: u8 = 16;
 
 // The headers that follow the BTH.
@@ -60,14 +78,28 @@ pub const AETH: u8 = 5;
 
 pub const AETH_ATOMIC_ACK: u8 = 6;
 
-// Bytes of headers, each by itself.
+// Bytes of each header.
 pub const BTH_LENGTH: usize = 12;
+
+const RETH_LENGTH: usize = 16;
+
+const IMMEDIATE_LENGTH: usize = 4;
+
+const ATOMIC_ETH_LENGTH: usize = 28;
 
 const AETH_LENGTH: usize = 4;
 
 const ATOMIC_ACK_ETH_LENGTH: usize = 8;
 
-// Bytes of the BTH with what follows it.
+// Bytes of the BTH with the headers that follow it.
+pub const WITH_RETH: usize = BTH_LENGTH + RETH_LENGTH;
+
+pub const WITH_RETH_IMMEDIATE: usize = WITH_RETH + IMMEDIATE_LENGTH;
+
+pub const WITH_IMMEDIATE: usize = BTH_LENGTH + IMMEDIATE_LENGTH;
+
+pub const WITH_ATOMIC_ETH: usize = BTH_LENGTH + ATOMIC_ETH_LENGTH;
+
 pub const WITH_AETH: usize = BTH_LENGTH + AETH_LENGTH;
 
 pub const WITH_AETH_ATOMIC_ACK: usize = WITH_AETH + ATOMIC_ACK_ETH_LENGTH;
@@ -78,6 +110,73 @@ pub struct OpcodeClass {
     pub place: u8,
     pub follows: u8,
     pub length: usize,
+}
+
+fn kind_of(low: u8) -> u8
+    ensures { result ≡ kind_of low }
+{
+    if low < WRITE {
+        return SEND;
+    }
+    if low < READ {
+        return WRITE;
+    }
+    if low == READ {
+        return READ;
+    }
+    if low < ACKNOWLEDGE {
+        return READ_RESPONSE;
+    }
+    if low == ACKNOWLEDGE {
+        return ACKNOWLEDGE;
+    }
+    if low == ATOMIC_ACKNOWLEDGE {
+        return ATOMIC_ACKNOWLEDGE;
+    }
+    if low == CMP_SWAP {
+        return CMP_SWAP;
+    }
+    if low == FETCH_ADD {
+        return FETCH_ADD;
+    }
+    RESERVED
+}
+
+// The place of a SEND's opcode, or of a WRITE's counted from its First.
+fn place_in(n: u8) -> u8
+    ensures { result ≡ place_in n }
+{
+    if n == FIRST {
+        return FIRST;
+    }
+    if n == MIDDLE {
+        return MIDDLE;
+    }
+    if n < ONLY {
+        return LAST;
+    }
+    ONLY
+}
+
+fn place_of(low: u8) -> u8
+    ensures { result ≡ place_of low }
+{
+    if low < WRITE {
+        return place_in(low);
+    }
+    if low < READ {
+        return place_in(low - WRITE);
+    }
+    if low == READ_RESPONSE_FIRST {
+        return FIRST;
+    }
+    if low == READ_RESPONSE_MIDDLE {
+        return MIDDLE;
+    }
+    if low == READ_RESPONSE_LAST {
+        return LAST;
+    }
+    ONLY
 }
 
 // Whether a packet at this place begins its message.
@@ -95,6 +194,103 @@ pub fn ends(place: u8) -> bool
     ensures { result ≡ ends place }
 {
     LAST <= place
+}
+
+fn send_write_follows(low: u8) -> u8
+    ensures { result ≡ send_write_follows low }
+{
+    if low == SEND_LAST_IMMEDIATE {
+        return IMMEDIATE;
+    }
+    if low == SEND_ONLY_IMMEDIATE {
+        return IMMEDIATE;
+    }
+    if low == WRITE_FIRST {
+        return RETH;
+    }
+    if low == WRITE_LAST_IMMEDIATE {
+        return IMMEDIATE;
+    }
+    if low == WRITE_ONLY {
+        return RETH;
+    }
+    if low == WRITE_ONLY_IMMEDIATE {
+        return RETH_IMMEDIATE;
+    }
+    NONE
+}
+
+fn follows_of(low: u8) -> u8
+    ensures { result ≡ follows_of low }
+{
+    if low < READ {
+        return send_write_follows(low);
+    }
+    if low == READ {
+        return RETH;
+    }
+    if low == READ_RESPONSE_FIRST {
+        return AETH;
+    }
+    if low == READ_RESPONSE_LAST {
+        return AETH;
+    }
+    if low == READ_RESPONSE_ONLY {
+        return AETH;
+    }
+    if low == ACKNOWLEDGE {
+        return AETH;
+    }
+    if low == ATOMIC_ACKNOWLEDGE {
+        return AETH_ATOMIC_ACK;
+    }
+    if low == CMP_SWAP {
+        return ATOMIC_ETH;
+    }
+    if low == FETCH_ADD {
+        return ATOMIC_ETH;
+    }
+    NONE
+}
+
+// The length of the BTH and the headers that follow it.
+fn length_of(follows: u8) -> usize
+    ensures { result ≡ length_of follows }
+{
+    if follows == RETH {
+        return WITH_RETH;
+    }
+    if follows == RETH_IMMEDIATE {
+        return WITH_RETH_IMMEDIATE;
+    }
+    if follows == IMMEDIATE {
+        return WITH_IMMEDIATE;
+    }
+    if follows == ATOMIC_ETH {
+        return WITH_ATOMIC_ETH;
+    }
+    if follows == AETH {
+        return WITH_AETH;
+    }
+    if follows == AETH_ATOMIC_ACK {
+        return WITH_AETH_ATOMIC_ACK;
+    }
+    BTH_LENGTH
+}
+
+fn low_class(low: u8) -> OpcodeClass
+    ensures { result ≡ low_class low }
+{
+    let kind = kind_of(low);
+    let place = place_of(low);
+    let follows = follows_of(low);
+    let length = length_of(follows);
+    OpcodeClass {
+        kind,
+        place,
+        follows,
+        length,
+    }
 }
 
 // The table of classes, indexed by the opcode's low five bits. It is one number a column, with an octal digit for each row:
@@ -134,7 +330,7 @@ fn digit(column: u64, row: u8) -> u8
 
 // The class that the row says. 32 and 8 are added, and taken off by the remainder, so that no digit makes a difference
 // negative.
-fn low_class(low: u8) -> OpcodeClass
+fn table_class(low: u8) -> OpcodeClass
     requires { low < per_service }
     ensures { result ≡ low_class low }
 {
@@ -182,7 +378,7 @@ fn served(service: u8, low: u8) -> bool
     uc_has(low)
 }
 
-// The class of an opcode: the one function that knows what opcodes mean. low_class stands in it once, so that the
+// The class of an opcode: the one function that knows what opcodes mean. table_class stands in it once, so that the
 // compiler inlines it where packets come in.
 pub fn class(opcode: u8) -> OpcodeClass
     ensures { result ≡ class_of opcode }
@@ -190,7 +386,7 @@ pub fn class(opcode: u8) -> OpcodeClass
     let low = opcode % PER_SERVICE;
     let has = served(opcode / PER_SERVICE, low);
     if has {
-        return low_class(low);
+        return table_class(low);
     }
     reserved_class()
 }

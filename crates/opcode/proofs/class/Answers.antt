@@ -16,15 +16,15 @@ once false false has x y = refl
 pub returns-then-has : goal.returns-then-has
 unfolding class_of
 returns-then-has c =
-        let n = c.args.opcode in
-    c.low_class.ensures
+    let n = c.args.opcode in
+    c.table_class.ensures
     ∙ (ap (λ t. cond t (low_class (low_of n)) reserved_class) (sym (sym c.served-has.ensures ∙ c.if-has.true))
     ∙ once (eqb (service_of n) Service.rc) (eqb (service_of n) Service.uc) (uc_has (low_of n)) (low_class (low_of n)) reserved_class)
 
 pub returns : goal.returns
 unfolding class_of
 returns c =
-        let n = c.args.opcode in
+    let n = c.args.opcode in
     c.reserved_class.ensures
     ∙ (ap (λ t. cond t (low_class (low_of n)) reserved_class) (sym (sym c.served-has.ensures ∙ c.if-has.false))
     ∙ once (eqb (service_of n) Service.rc) (eqb (service_of n) Service.uc) (uc_has (low_of n)) (low_class (low_of n)) reserved_class)

@@ -1,16 +1,8 @@
-use mathlib.Core.Path.{refl}
+use Rattle.opcode.specs.Opcode.{low_class}
 use borrow.Author.Rules.{rules}
-use Rattle.lemmas.proofs.Tables.{passes}
-use Rattle.opcode.specs.Opcode.{kind_of, place_in, place_of, send_write_follows, follows_of, length_of, low_class}
-use Rattle.opcode.proofs.Rows.{row-class}
 use Rattle.opcode.proofs.low_class.Goals as goal
 
-pub overflow_add-result-3 : goal.overflow_add-result-3
-overflow_add-result-3 c = search rules
--- refl is the test of the whole table
-
 pub returns : goal.returns
-unfolding passes low_class kind_of place_in place_of send_write_follows follows_of length_of
+unfolding low_class
 returns c =
-        row-class _ _ _ _ c.args.low c.requires _ _ _ _ _ c.row_of-row.ensures.value c.digit-before.ensures c.digit-below.ensures
-    c.digit-follows.ensures c.digit-words.ensures refl
+        simp (← c.kind_of-kind.ensures, ← c.place_of-place.ensures, ← c.follows_of-follows.ensures, ← c.length_of-length.ensures)

@@ -1,0 +1,7 @@
+use Rattle.header.specs.Read.{atomic_of}
+use borrow.Author.Rules.{rules}
+use Rattle.decode.proofs.read_atomic.Goals as goal
+
+pub returns : goal.returns
+unfolding atomic_of
+returns c = cc

@@ -1,0 +1,7 @@
+use Rattle.header.specs.Read.{bth_of}
+use borrow.Author.Rules.{rules}
+use Rattle.decode.proofs.read_bth.Goals as goal
+
+pub returns : goal.returns
+unfolding bth_of
+returns c = cc

@@ -1,0 +1,8 @@
+use Rattle.packet.specs.Packet.{pad_of}
+use mathlib.Core.Path.{refl}
+use borrow.Author.Rules.{rules}
+use Rattle.packet.proofs.pad.Goals as goal
+
+pub returns : goal.returns
+unfolding pad_of
+returns c = refl
