@@ -176,14 +176,17 @@ not-many k reads (inl e) = omega arith
 not-many k reads (inr (inl e)) = omega arith
 not-many k reads (inr (inr (inl e))) = omega arith
 not-many k reads (inr (inr (inr (inl e)))) = omega arith
+not-many k reads (inr (inr (inr (inr x)))) = elim x [ ]
 not-many k swaps (inl e) = omega arith
 not-many k swaps (inr (inl e)) = omega arith
 not-many k swaps (inr (inr (inl e))) = omega arith
 not-many k swaps (inr (inr (inr (inl e)))) = omega arith
+not-many k swaps (inr (inr (inr (inr x)))) = elim x [ ]
 not-many k adds (inl e) = omega arith
 not-many k adds (inr (inl e)) = omega arith
 not-many k adds (inr (inr (inl e))) = omega arith
 not-many k adds (inr (inr (inr (inl e)))) = omega arith
+not-many k adds (inr (inr (inr (inr x)))) = elim x [ ]
 
 low-is : (low k : ℕ) → Bare k → kind_of low ≡ k → low ≡ k
 low-is low k B h = go (kind-low low)

@@ -1,0 +1,6 @@
+use borrow.Author.Rules.{rules}
+use Rattle.apply.proofs.state.closing.Goals as goal
+
+pub returns : goal.returns
+returns c =
+        simp (← c.no_message-message.ensures)

@@ -1,0 +1,5 @@
+use borrow.Author.Rules.{rules}
+use Rattle.reply.proofs.reply_only.Goals as goal
+
+pub returns : goal.returns
+returns c = cc
