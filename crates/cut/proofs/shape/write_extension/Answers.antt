@@ -1,0 +1,11 @@
+use Rattle.cut_spec.specs.Cut.{write_extension}
+use borrow.Author.Rules.{rules}
+use Rattle.cut.proofs.shape.write_extension.Goals as goal
+
+pub returns-then-begins : goal.returns-then-begins
+unfolding write_extension
+returns-then-begins c = simp (← c.starts-begins.ensures, c.if-begins.true, ← c.reth_for-a.ensures)
+
+pub returns : goal.returns
+unfolding write_extension
+returns c = simp (← c.starts-begins.ensures, c.if-begins.false)
