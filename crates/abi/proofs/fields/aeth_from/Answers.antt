@@ -1,0 +1,7 @@
+use Rattle.abi_spec.specs.Fields.{aeth_from}
+use borrow.Author.Rules.{rules}
+use Rattle.abi.proofs.fields.aeth_from.Goals as goal
+
+pub returns : goal.returns
+unfolding aeth_from
+returns c = cc
