@@ -1,0 +1,5 @@
+use borrow.Author.Rules.{rules}
+use Rattle.execute.proofs.single.whole_message.Goals as goal
+
+pub returns : goal.returns
+returns c = cc
