@@ -3,6 +3,10 @@ use Rattle.request_spec.specs.Verdict.{payload_size}
 use borrow.Author.Rules.{rules}
 use Rattle.execute.proofs.message.completion_of.Goals as goal
 
+pub counted-length-requires : goal.counted-length-requires
+unfolding payload_size
+counted-length-requires c = search rules
+
 pub returns-then-done : goal.returns-then-done
 unfolding completion_of payload_size
 returns-then-done c =

@@ -5,6 +5,10 @@ use Rattle.request_spec.specs.Verdict.{payload_size}
 use borrow.Author.Rules.{rules}
 use Rattle.execute.proofs.message.store_payload.Goals as goal
 
+pub message_after-message-requires : goal.message_after-message-requires
+unfolding payload_size
+message_after-message-requires c = search rules
+
 pub returns : goal.returns
 unfolding store_payload payload_size
 returns c =

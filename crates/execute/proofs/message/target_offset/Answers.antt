@@ -18,7 +18,7 @@ returns-then-kind-eq-SEND c = simp (← c.usize_to_u64-stored.ensures, eq-eqb _ 
 pub returns-then-needed-eq0 : goal.returns-then-needed-eq0
 returns-then-needed-eq0 c =
     let A = c.args in
-    nowhere A.kind A.m A.t3 A.region c.if-kind-eq-SEND.false c.saturating_sub-needed.result c.saturating_sub-needed.ensures c.if-needed-eq0.true
+    nowhere A.kind A.m A.entry A.region c.if-kind-eq-SEND.false c.saturating_sub-needed.result c.saturating_sub-needed.ensures c.if-needed-eq0.true
 
 pub overflow_add-m : goal.overflow_add-m
 unfolding bytes_to_come
@@ -30,5 +30,5 @@ overflow_add-m c =
 pub returns : goal.returns
 returns c =
     let A = c.args in
-    at_offset A.kind A.m A.t3 A.region c.if-kind-eq-SEND.false c.saturating_sub-needed.result c.saturating_sub-needed.ensures c.usize_to_u64-stored.result
+    at_offset A.kind A.m A.entry A.region c.if-kind-eq-SEND.false c.saturating_sub-needed.result c.saturating_sub-needed.ensures c.usize_to_u64-stored.result
     c.usize_to_u64-stored.ensures c.memory_offset.result c.memory_offset.ensures (c.requires.offset c.if-kind-eq-SEND.false)
