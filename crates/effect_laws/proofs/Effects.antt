@@ -116,6 +116,21 @@ module _ (arrival : Arrival) where
   quiet_by status.OutputShort short = record { pair = refl; tables = only-read (no_reply status.OutputShort); unexecuted = unexecuted-by status.OutputShort nothing_sent; outgoing = refl; out = refl }
   quiet_by status.OutOfRange range = record { pair = refl; tables = only-read (no_reply status.OutOfRange); unexecuted = unexecuted-by status.OutOfRange nothing_sent; outgoing = refl; out = refl }
   quiet_by status.ReadUnfinished unfinished = record { pair = refl; tables = only-read (no_reply status.ReadUnfinished); unexecuted = unexecuted-by status.ReadUnfinished nothing_sent; outgoing = refl; out = refl }
+  quiet_by status.Executed x = elim x [ ]
+  quiet_by status.Acknowledged x = elim x [ ]
+  quiet_by status.ReadAccepted x = elim x [ ]
+  quiet_by status.AtomicExecuted x = elim x [ ]
+  quiet_by status.DuplicateAnswered x = elim x [ ]
+  quiet_by status.Abandoned x = elim x [ ]
+  quiet_by status.SequenceNak x = elim x [ ]
+  quiet_by status.InvalidRequestNak x = elim x [ ]
+  quiet_by status.AccessNak x = elim x [ ]
+  quiet_by status.NotReadyNak x = elim x [ ]
+  quiet_by status.TableFull x = elim x [ ]
+  quiet_by status.WrongState x = elim x [ ]
+  quiet_by status.NoSuchKey x = elim x [ ]
+  quiet_by status.KeyInUse x = elim x [ ]
+  quiet_by status.BadNumber x = elim x [ ]
 
   fixed-with : (state : ℕ) (nakmark : Bool) (a : ReadAnswer) → Fixed q (with q state nakmark a)
   fixed-with state nakmark a = record { setup = refl; expected = refl; msn = refl; message = refl; entries = refl; saved = refl }
@@ -203,9 +218,9 @@ module _ (arrival : Arrival) where
   unfolding completion_of completes ends
   silent-by k t number h = rw (lt-leb 2 k.place h) silent
 
-  entries_by : (b c : Bool) → b ≡ c → entries_by b q.entries ≡ cond c (ring_taken q.entries) q.entries
+  entries_by_lem : (b c : Bool) → b ≡ c → entries_by b q.entries ≡ cond c (ring_taken q.entries) q.entries
   unfolding entries_by
-  entries_by b c e = rw e
+  entries_by_lem b c e = rw e
 
   -- acknowledged or not, and however many PSNs are taken, by the rule of the service
   stores-packet-by : (asked : Bool) (n : ℕ) (t : OpenMessage) (entry region : List ℕ)
@@ -225,8 +240,8 @@ module _ (arrival : Arrival) where
         memory = (d.change.at, omega (arith, w, payload-most), ap (store m d.change.at) (payload-is p));
         ends = λ h. (ap (λ x. x.msn) e ∙ ended k.place h, ap (λ x. x.message) e ∙ message-by t k.place (payload_size k) h);
         onward = λ h. (ap (λ x. x.msn) e ∙ goes_on_lem k.place h, silent-by k t _ h);
-        completes = λ h. ap (λ x. x.entries) e ∙ entries_by d.progress.completion.some true h;
-        silent = λ h. ap (λ x. x.entries) e ∙ entries_by d.progress.completion.some false h;
+        completes = λ h. ap (λ x. x.entries) e ∙ entries_by_lem d.progress.completion.some true h;
+        silent = λ h. ap (λ x. x.entries) e ∙ entries_by_lem d.progress.completion.some false h;
         read = ap (λ x. x.read) e;
         ring = ap (λ x. x.saved) e;
         saved = refl;
