@@ -46,10 +46,10 @@ module _ (rows : List (List ℕ)) (r : Ring) (es : List Entry) (is : map entry_o
   unfolding ring_taken
   taken_is h = ring-rest rows r.head r.count h ∙ ap (drop 1) is
 
-  pub entries_by : (b : Bool) → (b ≡ true → 1 ≤ r.count) → map entry_of (in_ring entry_slot rows (entries_by b r)) ≡ cond b (drop 1 es) es
+  pub entries_by_lem : (b : Bool) → (b ≡ true → 1 ≤ r.count) → map entry_of (in_ring entry_slot rows (entries_by b r)) ≡ cond b (drop 1 es) es
   unfolding entries_by
-  entries_by true h = taken_is (h refl)
-  entries_by false h = is
+  entries_by_lem true h = taken_is (h refl)
+  entries_by_lem false h = is
 
 -- an entry that calls posted lies in memory
 pub entry-fits : (memory : ℕ) (rows : List (List ℕ)) (r : Ring) → EntriesSound memory rows r → 1 ≤ r.count

@@ -29,7 +29,7 @@ use Rattle.delivery_steps.proofs.Chain.{Stands, Good}
 use Rattle.delivery_steps.proofs.Cutting.{place_for, cut_packet}
 use Rattle.delivery_steps.proofs.Rel.{OpenedFor, Link}
 use Rattle.delivery_steps.proofs.Checks.{ends_is}
-use Rattle.delivery_steps.proofs.Entries.{entries_by, count-is, head-is, entry-fits}
+use Rattle.delivery_steps.proofs.Entries.{entries_by_lem, count-is, head-is, entry-fits}
 use Rattle.delivery_steps.proofs.Effects.{Does, opened-next}
 use Rattle.delivery_steps.proofs.Requests.{Carries, Sends}
 use Rattle.delivery_steps.proofs.InMemory.{send-memory-is, send-completes, send-long}
@@ -135,7 +135,7 @@ module _ (ms : List Message) (S : List Slot) (p : Plain) (x : Run) (L : Link ms 
       → map entry_of (in_ring entry_slot x.whole.entries (entries_by b x.whole.pair.entries))
       ≡ cond (is_last t) [] (held_now p t) ++ waiting_now p t
   ring-is a b e f g =
-      entries_by x.whole.entries x.whole.pair.entries (p.held ++ p.waiting) L.entries b (λ z. entered.some)
+      entries_by_lem x.whole.entries x.whole.pair.entries (p.held ++ p.waiting) L.entries b (λ z. entered.some)
       ∙ (taking a b p.held p.waiting (λ z. started z) (λ z. going z)
       ∙ λ i. cond (sym g i) [] (cond (sym e i) (take 1 p.waiting) p.held) ++ cond (sym e i) (drop 1 p.waiting) p.waiting)
     where

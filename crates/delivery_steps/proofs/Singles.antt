@@ -30,7 +30,7 @@ use Rattle.delivery_steps.proofs.Operands.{address_of, key_of}
 use Rattle.delivery_steps.proofs.Rel.{IsOf, OpenedFor, Link}
 use Rattle.delivery_steps.proofs.Verdicts.{offset-is}
 use Rattle.delivery_steps.proofs.Checks.{now}
-use Rattle.delivery_steps.proofs.Entries.{entries_by}
+use Rattle.delivery_steps.proofs.Entries.{entries_by_lem}
 use Rattle.delivery_steps.proofs.Effects.{Does, opened-next}
 use Rattle.delivery_steps.proofs.Requests.{Single, Reads, Swaps}
 
@@ -72,7 +72,7 @@ module _ (ms : List Message) (S : List Slot) (p : Plain) (x : Run) (L : Link ms 
 
   ring-is : map entry_of (in_ring entry_slot x.whole.entries (entries_by false x.whole.pair.entries)) ≡ cond (is_last t) [] (held_now p t) ++ waiting_now p t
   ring-is =
-      entries_by x.whole.entries x.whole.pair.entries (p.held ++ p.waiting) L.entries false (λ z. absurd (true≢false (sym z)))
+      entries_by_lem x.whole.entries x.whole.pair.entries (p.held ++ p.waiting) L.entries false (λ z. absurd (true≢false (sym z)))
       ∙ (ap (λ h. h ++ p.waiting) idle.1 ∙ λ i. cond (sym last-is i) [] (held_now p t) ++ cond (sym needs-entry-is i) (drop 1 p.waiting) p.waiting)
 
   opened-is : OpenedFor (eqb (slot S (suc p.k)).index 0) (slot S (suc p.k)) x.whole.pair.message (cond (is_last t) [] (held_now p t))

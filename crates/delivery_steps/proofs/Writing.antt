@@ -28,7 +28,7 @@ use Rattle.delivery_steps.proofs.Cutting.{place_for, cut_packet}
 use Rattle.delivery_steps.proofs.Operands.{address_of, key_of}
 use Rattle.delivery_steps.proofs.Rel.{OpenedFor, Link}
 use Rattle.delivery_steps.proofs.Checks.{ends_is}
-use Rattle.delivery_steps.proofs.Entries.{entries_by, count-is, head-is}
+use Rattle.delivery_steps.proofs.Entries.{entries_by_lem, count-is, head-is}
 use Rattle.delivery_steps.proofs.Effects.{Does, opened-next}
 use Rattle.delivery_steps.proofs.Requests.{Carries, Writes}
 use Rattle.delivery_steps.proofs.InMemory.{write-memory-is, write-completes, write-long}
@@ -107,7 +107,7 @@ module _ (ms : List Message) (S : List Slot) (p : Plain) (x : Run) (L : Link ms 
   ring-is : map entry_of (in_ring entry_slot x.whole.entries (entries_by (is_last t && takes_entry t.message.request) x.whole.pair.entries))
       ≡ cond (is_last t) [] (held_now p t) ++ waiting_now p t
   ring-is =
-      entries_by x.whole.entries x.whole.pair.entries (p.held ++ p.waiting) L.entries (is_last t && takes_entry t.message.request) (λ z. (taken (needs-entry-is ∙ z)).0)
+      entries_by_lem x.whole.entries x.whole.pair.entries (p.held ++ p.waiting) L.entries (is_last t && takes_entry t.message.request) (λ z. (taken (needs-entry-is ∙ z)).0)
       ∙ (ap (λ h. cond (is_last t && takes_entry t.message.request) (drop 1 (h ++ p.waiting)) (h ++ p.waiting)) none-held
       ∙ (giving (is_last t) (takes_entry t.message.request) p.waiting
       ∙ λ i. cond (is_last t) [] (cond (sym needs-entry-is i) (take 1 p.waiting) (sym none-held i)) ++ cond (sym needs-entry-is i) (drop 1 p.waiting) p.waiting))

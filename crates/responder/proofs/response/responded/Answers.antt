@@ -1,0 +1,6 @@
+use mathlib.Core.Path.{ap}
+use borrow.Author.Rules.{rules}
+use Rattle.responder.proofs.response.responded.Goals as goal
+
+pub returns : goal.returns
+returns c = ap (λ o. record { status = o.status; pair = o.pair; completion = o.completion; outgoing = c.args.outgoing }) c.unchanged-o.ensures
