@@ -94,6 +94,7 @@ uc-leaves a s = go (uc-answers a s)
     go (inr (inr (inr (inl e)))) = quiet (inr (omega (arith, e)))
     go (inr (inr (inr (inr (inl e))))) = quiet (inr (omega (arith, e)))
     go (inr (inr (inr (inr (inr (inl e)))))) = quiet (inr (omega (arith, e)))
+    go (inr (inr (inr (inr (inr (inr x)))))) = elim x [ ]
 
 -- with no message open nothing is held; with a SEND open the first is
 none-held : (r : Pair) (rows : List (List ℕ)) → r.message ≡ (record { kind = 255; stored = 0; address = 0; key = 0; length = 0 })

@@ -3,9 +3,6 @@ use Rattle.responder.proofs.Steps.{whole}
 use borrow.Author.Rules.{rules}
 use Rattle.responder.proofs.inbound.Goals as goal
 
-pub shape_of-mem : goal.shape_of-mem
-shape_of-mem c = c.mem-1.given
-
 pub returns : goal.returns
 returns c =
     let A = c.args in
