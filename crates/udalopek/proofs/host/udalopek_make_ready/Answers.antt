@@ -1,0 +1,31 @@
+use mathlib.Core.Path.{ap, ◌∙◌}
+use mathlib.Core.Bool.{cond}
+use Rattle.udalopek_spec.proofs.Steps.{second, first, many, few, few-stray, said}
+use Rattle.udalopek_spec.proofs.Done.{ready_words_lem}
+use Rattle.pair.specs.Answer.{status_number, executed}
+use Rattle.pair.specs.Host.{made_ready}
+use Rattle.abi_spec.specs.Words.{overwrite_words}
+use Rattle.abi_spec.specs.Pair.{pair_words}
+use Rattle.udalopek_spec.specs.Host.{ready_number, ready_words}
+use borrow.Author.Rules.{rules}
+use Rattle.udalopek.proofs.host.udalopek_make_ready.Goals as goal
+
+pub returns-then-pair-ne-PAIR : goal.returns-then-pair-ne-PAIR
+unfolding ready_number ready_words
+returns-then-pair-ne-PAIR c =
+    let f = few _ c.if-pair-ne-PAIR.true in
+    record { value = first _ 34 _ f; pair_after = first _ _ _ (few-stray _ f) }
+
+pub returns : goal.returns
+unfolding ready_number made_ready
+returns c =
+    let A = c.args in
+    let l = many A.pair.now c.if-pair-ne-PAIR.false in
+    let q = said A.pair.now _ _ c.strays-stray.ensures c.pair_said-q.ensures in
+    let e = c.make_ready-left.ensures ∙ ap made_ready q in
+    let all = (
+      c.leave.ensures.value ∙ ap (λ o. status_number o.status) e ∙ second _ 34 _ l,
+      c.leave.ensures.pair_after ∙ ap (λ o. cond (executed o.status) (overwrite_words A.pair.now (pair_words o.pair)) A.pair.now) e
+          ∙ ready_words_lem A.pair.now l,
+    ) in
+    record { value = all.0; pair_after = all.1 }

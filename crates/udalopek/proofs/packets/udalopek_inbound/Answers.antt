@@ -1,0 +1,37 @@
+use mathlib.Core.Path.{◌≡◌, refl, sym, ap, ◌∙◌}
+use Rattle.udalopek_spec.proofs.Steps.{second, first, many, few, said}
+use Rattle.responder_spec.specs.Inbound.{inbound}
+use Rattle.responder.specs.Unchanged.{outcome_with}
+use Rattle.responder.proofs.Steps.{whole}
+use Rattle.udalopek_spec.proofs.Left.{left-words}
+use Rattle.udalopek_spec.specs.Packets.{lent, arrival_with, returned, refused_with, returning, words_left, inbound_of, inbound_returned, report_words}
+use borrow.Author.Rules.{rules}
+use Rattle.udalopek.proofs.packets.udalopek_inbound.Goals as goal
+
+pub returns-then-pair-ne-PAIR : goal.returns-then-pair-ne-PAIR
+unfolding inbound_returned
+returns-then-pair-ne-PAIR c = first _ _ _ (few _ c.if-pair-ne-PAIR.true)
+
+pub returns : goal.returns
+unfolding inbound_returned
+returns c =
+    let A = c.args in
+    let n = many A.pair.now c.if-pair-ne-PAIR.false in
+    let q = c.pair_said-q.result in
+    let o = said A.pair.now _ q c.strays-stray.ensures c.pair_said-q.ensures in
+    let l = lent A.pair.now A.regions.now A.entries.now A.saved.now A.mem.now A.packet.now A.out.now in
+    let d = c.decided-d.result in
+    let i = c.decided-d.ensures in
+    let next = c.pair_after-next.result in
+    let j = c.pair_after-next.ensures in
+    let w = c.write_ack-outgoing in
+    let r =
+    whole (arrival_with l q) d i c.change-value.result c.change-value.ensures.value next j c.reply_with-reply.result c.reply_with-reply.ensures
+    _ c.change-value.ensures.mem_after _ c.keep.ensures w.result w.ensures.0 _ w.ensures.1 (outcome_with next d w.result) refl
+    ∙ ap (λ x. inbound (arrival_with l x)) o in
+    (λ k. returned
+    ((c.number.ensures ∙ ap (λ x. x.number) r) k)
+    (left-words l n q o d i next j _ c.put_left.ensures k)
+    (r k).whole.saved (r k).memory (r k).out
+    ((c.report_words.ensures ∙ ap (λ x. report_words x.outgoing x.completion) r) k))
+    ∙ second _ (refused_with 34 l) (returning (words_left l) (inbound_of l)) n
