@@ -10,8 +10,12 @@ unfolding read_header_number read_report read_bth read_extension read_number rea
 returns-in-Dropped c =
     let A = c.args in
     let e = sym c.read-found.ensures.value ∙ c.in-Dropped.is in
-    let all = (sym (ap read_number e), (sym (ap (λ h. reported_bth h A.bth.now) e), (sym (ap (λ h. reported_extension h A.extension.now) e), ap (λ n. n ∷ []) c.u8_to_u64.ensures.value ∙ sym (ap (λ h. read_check h ∷ []) e)))) in
-    record { value = all.0; bth_after = all.1.0; extension_after = all.1.1.0; report_after = all.1.1.1 }
+    record {
+      value = sym (ap read_number e);
+      bth_after = sym (ap (λ h. reported_bth h A.bth.now) e);
+      extension_after = sym (ap (λ h. reported_extension h A.extension.now) e);
+      report_after = ap (λ n. n ∷ []) c.u8_to_u64.ensures.value ∙ sym (ap (λ h. read_check h ∷ []) e);
+    }
 
 pub returns-in-Accepted : goal.returns-in-Accepted
 unfolding read_header_number read_report read_bth read_extension read_number read_check reported_bth reported_extension
@@ -19,5 +23,9 @@ returns-in-Accepted c =
     let A = c.args in
     let R = c.report_header.ensures in
     let e = sym c.read-found.ensures.value ∙ c.in-Accepted.is in
-    let all = (R.0 ∙ sym (ap read_number e), (R.1.0 ∙ sym (ap (λ h. reported_bth h A.bth.now) e), (R.1.1 ∙ sym (ap (λ h. reported_extension h A.extension.now) e), sym (ap (λ h. read_check h ∷ []) e)))) in
-    record { value = all.0; bth_after = all.1.0; extension_after = all.1.1.0; report_after = all.1.1.1 }
+    record {
+      value = R.value ∙ sym (ap read_number e);
+      bth_after = R.bth_after ∙ sym (ap (λ h. reported_bth h A.bth.now) e);
+      extension_after = R.extension_after ∙ sym (ap (λ h. reported_extension h A.extension.now) e);
+      report_after = sym (ap (λ h. read_check h ∷ []) e);
+    }

@@ -18,8 +18,7 @@ returns c =
     let A = c.args in
     let l = many _ c.if-pair-ne-PAIR.false in
     let q = said A.pair.now _ _ c.strays-stray.ensures c.pair_said-q.ensures in
-    let all = (
-      c.number.ensures ∙ ap status_number (c.add_region-status.ensures.value ∙ ap (λ x. add_status x A.regions.now (record { key = A.key; address = A.address; length = A.length; offset = A.offset; write = A.write; read = A.read; atomic = A.atomic })) q) ∙ second _ 34 _ l,
-      c.add_region-status.ensures.regions_after ∙ ap (λ x. add_regions x A.regions.now (record { key = A.key; address = A.address; length = A.length; offset = A.offset; write = A.write; read = A.read; atomic = A.atomic })) q ∙ second _ _ _ l,
-    ) in
-    record { value = all.0; regions_after = all.1 }
+    record {
+      value = c.number.ensures ∙ ap status_number (c.add_region-status.ensures.value ∙ ap (λ x. add_status x A.regions.now (record { key = A.key; address = A.address; length = A.length; offset = A.offset; write = A.write; read = A.read; atomic = A.atomic })) q) ∙ second _ 34 _ l;
+      regions_after = c.add_region-status.ensures.regions_after ∙ ap (λ x. add_regions x A.regions.now (record { key = A.key; address = A.address; length = A.length; offset = A.offset; write = A.write; read = A.read; atomic = A.atomic })) q ∙ second _ _ _ l;
+    }

@@ -23,9 +23,8 @@ returns c =
     let l = many A.pair.now c.if-pair-ne-PAIR.false in
     let q = said A.pair.now _ _ c.strays-stray.ensures c.pair_said-q.ensures in
     let e = c.make_ready-left.ensures ∙ ap made_ready q in
-    let all = (
-      c.leave.ensures.value ∙ ap (λ o. status_number o.status) e ∙ second _ 34 _ l,
-      c.leave.ensures.pair_after ∙ ap (λ o. cond (executed o.status) (overwrite_words A.pair.now (pair_words o.pair)) A.pair.now) e
-          ∙ ready_words_lem A.pair.now l,
-    ) in
-    record { value = all.0; pair_after = all.1 }
+    record {
+      value = c.leave.ensures.value ∙ ap (λ o. status_number o.status) e ∙ second _ 34 _ l;
+      pair_after = c.leave.ensures.pair_after ∙ ap (λ o. cond (executed o.status) (overwrite_words A.pair.now (pair_words o.pair)) A.pair.now) e
+          ∙ ready_words_lem A.pair.now l;
+    }

@@ -12,8 +12,11 @@ pub returns-then-pair-ne-PAIR : goal.returns-then-pair-ne-PAIR
 unfolding post_number post_words post_table
 returns-then-pair-ne-PAIR c =
     let f = few _ c.if-pair-ne-PAIR.true in
-    let all = (first _ 34 _ f, (first _ _ _ (few-stray _ f), first _ _ _ f)) in
-    record { value = all.0; pair_after = all.1.0; entries_after = all.1.1 }
+    record {
+      value = first _ 34 _ f;
+      pair_after = first _ _ _ (few-stray _ f);
+      entries_after = first _ _ _ f;
+    }
 
 pub returns-then-answer-ne0 : goal.returns-then-answer-ne0
 unfolding post_number post_table posted
@@ -24,8 +27,11 @@ returns-then-answer-ne0 c =
     let e = c.post_entry-posted.ensures.value ∙ ap (λ x. posted x (record { number = A.number; offset = A.offset; length = A.length })) q in
     let n = c.number-answer.ensures ∙ ap (λ o. status_number o.status) e in
     let rows = c.post_entry-posted.ensures.entries_after ∙ ap (λ x. post_entries x A.entries.now (record { number = A.number; offset = A.offset; length = A.length })) q ∙ second _ _ _ l in
-    let all = (n ∙ second _ 34 _ l, (unposted-words A.pair.now l _ (undone _ _ n c.if-answer-ne0.true), rows)) in
-    record { value = all.0; pair_after = all.1.0; entries_after = all.1.1 }
+    record {
+      value = n ∙ second _ 34 _ l;
+      pair_after = unposted-words A.pair.now l _ (undone _ _ n c.if-answer-ne0.true);
+      entries_after = rows;
+    }
 
 pub returns : goal.returns
 unfolding post_number post_table posted
@@ -37,5 +43,8 @@ returns c =
     let n = c.number-answer.ensures ∙ ap (λ o. status_number o.status) e in
     let rows = c.post_entry-posted.ensures.entries_after ∙ ap (λ x. post_entries x A.entries.now (record { number = A.number; offset = A.offset; length = A.length })) q ∙ second _ _ _ l in
     let w = c.put_entries.ensures ∙ ap (λ o. entries_put A.pair.now o.pair.entries) e in
-    let all = (n ∙ second _ 34 _ l, (posted-words A.pair.now l _ (done _ _ n c.if-answer-ne0.false) _ w, rows)) in
-    record { value = all.0; pair_after = all.1.0; entries_after = all.1.1 }
+    record {
+      value = n ∙ second _ 34 _ l;
+      pair_after = posted-words A.pair.now l _ (done _ _ n c.if-answer-ne0.false) _ w;
+      entries_after = rows;
+    }

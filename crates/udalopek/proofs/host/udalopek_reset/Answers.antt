@@ -14,8 +14,11 @@ pub returns-then-pair-ne-PAIR : goal.returns-then-pair-ne-PAIR
 unfolding reset_number reset_words reset_table
 returns-then-pair-ne-PAIR c =
     let f = few _ c.if-pair-ne-PAIR.true in
-    let all = (first _ 34 _ f, (first _ _ _ (few-stray _ f), first _ _ _ f)) in
-    record { value = all.0; pair_after = all.1.0; regions_after = all.1.1 }
+    record {
+      value = first _ 34 _ f;
+      pair_after = first _ _ _ (few-stray _ f);
+      regions_after = first _ _ _ f;
+    }
 
 pub returns : goal.returns
 unfolding reset_number reset_table reset_to
@@ -24,8 +27,10 @@ returns c =
     let l = many A.pair.now c.if-pair-ne-PAIR.false in
     let q = said A.pair.now _ _ c.strays-stray.ensures c.pair_said-q.ensures in
     let e = c.reset-left.ensures.value ∙ ap reset_to q in
-    record { value = c.leave.ensures.value ∙ ap (λ o. status_number o.status) e ∙ second _ 34 _ l; pair_after = (
-        c.leave.ensures.pair_after ∙ ap (λ o. cond (executed o.status) (overwrite_words A.pair.now (pair_words o.pair)) A.pair.now) e
-            ∙ reset-words A.pair.now l,
-        c.reset-left.ensures.regions_after ∙ ap (λ x. reset_regions x A.regions.now) q ∙ second _ _ _ l,
-      ); regions_after =  }
+    record {
+      value = c.leave.ensures.value ∙ ap (λ o. status_number o.status) e ∙ second _ 34 _ l;
+      pair_after =
+          c.leave.ensures.pair_after ∙ ap (λ o. cond (executed o.status) (overwrite_words A.pair.now (pair_words o.pair)) A.pair.now) e
+              ∙ reset-words A.pair.now l;
+      regions_after = c.reset-left.ensures.regions_after ∙ ap (λ x. reset_regions x A.regions.now) q ∙ second _ _ _ l;
+    }

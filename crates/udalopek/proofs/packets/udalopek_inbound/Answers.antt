@@ -27,7 +27,7 @@ returns c =
     let w = c.write_ack-outgoing in
     let r =
     whole (arrival_with l q) d i c.change-value.result c.change-value.ensures.value next j c.reply_with-reply.result c.reply_with-reply.ensures
-    _ c.change-value.ensures.mem_after _ c.keep.ensures w.result w.ensures.0 _ w.ensures.1 (outcome_with next d w.result) refl
+    _ c.change-value.ensures.mem_after _ c.keep.ensures w.result w.ensures.value _ w.ensures.out_after (outcome_with next d w.result) refl
     ∙ ap (λ x. inbound (arrival_with l x)) o in
     (λ k. returned
     ((c.number.ensures ∙ ap (λ x. x.number) r) k)

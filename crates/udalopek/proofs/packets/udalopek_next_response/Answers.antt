@@ -13,8 +13,12 @@ pub returns-then-pair-ne-PAIR : goal.returns-then-pair-ne-PAIR
 unfolding next_number next_words next_output next_report
 returns-then-pair-ne-PAIR c =
     let f = few _ c.if-pair-ne-PAIR.true in
-    let all = (first _ 34 _ f, (first _ _ _ (few-stray _ f), (first _ _ _ f, first _ _ _ f))) in
-    record { value = all.0; pair_after = all.1.0; out_after = all.1.1.0; report_after = all.1.1.1 }
+    record {
+      value = first _ 34 _ f;
+      pair_after = first _ _ _ (few-stray _ f);
+      out_after = first _ _ _ f;
+      report_after = first _ _ _ f;
+    }
 
 pub returns-then-number-ne0 : goal.returns-then-number-ne0
 unfolding next_number next_output next_report next_response
@@ -26,8 +30,12 @@ returns-then-number-ne0 c =
     let n = c.number-number.ensures ∙ ap (λ o. status_number o.status) e in
     let out = c.next_response-got.ensures.out_after ∙ ap (λ x. next_out x A.mem.now A.out.now) q ∙ second _ _ _ l in
     let report = ap (λ k. k ∷ []) (c.usize_to_u64.ensures ∙ ap (λ x. x.outgoing) e) ∙ second _ _ _ l in
-    let all = (n ∙ second _ 34 _ l, (undrained-words A.pair.now l _ _ (undone _ _ n c.if-number-ne0.true), (out, report))) in
-    record { value = all.0; pair_after = all.1.0; out_after = all.1.1.0; report_after = all.1.1.1 }
+    record {
+      value = n ∙ second _ 34 _ l;
+      pair_after = undrained-words A.pair.now l _ _ (undone _ _ n c.if-number-ne0.true);
+      out_after = out;
+      report_after = report;
+    }
 
 pub returns : goal.returns
 unfolding next_number next_output next_report next_response
@@ -40,5 +48,9 @@ returns c =
     let out = c.next_response-got.ensures.out_after ∙ ap (λ x. next_out x A.mem.now A.out.now) q ∙ second _ _ _ l in
     let report = ap (λ k. k ∷ []) (c.usize_to_u64.ensures ∙ ap (λ x. x.outgoing) e) ∙ second _ _ _ l in
     let w = c.put_read.ensures ∙ ap (λ o. read_put A.pair.now o.pair.read) e in
-    let all = (n ∙ second _ 34 _ l, (drained-words A.pair.now l A.mem.now A.out.now (done _ _ n c.if-number-ne0.false) _ w, (out, report))) in
-    record { value = all.0; pair_after = all.1.0; out_after = all.1.1.0; report_after = all.1.1.1 }
+    record {
+      value = n ∙ second _ 34 _ l;
+      pair_after = drained-words A.pair.now l A.mem.now A.out.now (done _ _ n c.if-number-ne0.false) _ w;
+      out_after = out;
+      report_after = report;
+    }
