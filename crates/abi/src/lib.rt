@@ -1,4 +1,6 @@
 // A pair and a header as words of 64 bits, the form in which other languages lend and get them.
+#![tactic(auto)]
+
 mod fields;
 
 ghost use Rattle.std.specs.Prelude.{◌≡◌, false, cond, ◌%◌, ◌^◌, ◌≤◌, eqb, length};

@@ -16,7 +16,7 @@ use Rattle.memory.specs.Memory.{store}
 use Rattle.memory.proofs.Overwrite.{store-overwrite, store-twice, overwrite-start}
 use Rattle.packet.specs.Packet.{pad_of, payload_out, packet_bytes}
 use Rattle.packet.proofs.Pads.{pad-least}
-use Rattle.pmtu.specs.Pieces.{pmtu_fits, pieces, place_at, part_at, piece_at}
+use Rattle.pmtu.specs.Pieces.{pmtu_fits, pieces, place_at, part_at}
 use Rattle.pmtu.specs.declared.Range.{Range}
 use Rattle.pmtu.proofs.Cuts.{parts_within, part_of, at_most}
 use Rattle.pmtu.proofs.Counting.{pmtus, bounds}

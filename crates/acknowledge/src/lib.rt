@@ -1,6 +1,8 @@
 // The packets that a responder sends: ACKs and NAKs, Atomic Acknowledges, READ responses. `write` writes any of them;
 // inbound sends no READ response, and calls the part of it that writes the others. The definitions stand in the crate
 // responder_spec.
+#![tactic(auto)]
+
 mod response;
 
 ghost use Rattle.std.specs.Prelude.{◌≡◌, cond, ◌||◌, ◌++◌, ◌≤◌, eqb, ltb, length};

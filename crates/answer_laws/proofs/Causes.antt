@@ -2,7 +2,6 @@
 use Prim.Native.Nat.{ℕ, ◌%◌, ◌≤◌}
 use mathlib.Core.Path.{◌≡◌, refl, sym, subst}
 use mathlib.Core.Bool.{Bool, true, false}
-use mathlib.Core.List.{List}
 use mathlib.Core.Logic.{inl, inr}
 use native.Mathlib.Omega.{arith}
 use lib.Dec.{eqb}
@@ -13,9 +12,7 @@ use Rattle.header.specs.Check.{header_reason, admitted}
 use Rattle.header.specs.declared.HeaderRead.{HeaderRead}
 use Rattle.header.specs.declared.HeaderRead.TheVariants as read
 use Rattle.header.proofs.Reasons.{accepted-by}
-use Rattle.pair.specs.Answer.{status_number}
 use Rattle.pair.specs.declared.OpenMessage.{OpenMessage}
-use Rattle.pair.specs.declared.Pair.{Pair}
 use Rattle.request_spec.specs.Packet.{packet_of}
 use Rattle.request_spec.specs.Claims.{GoesOn, Place, Carries}
 use Rattle.request_spec.proofs.Taken.{any_place}

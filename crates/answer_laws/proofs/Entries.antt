@@ -14,7 +14,6 @@ use Rattle.table.specs.Table.{entry_capacity, entry_slot}
 use Rattle.table.specs.View.{in_ring}
 use Rattle.table.specs.declared.Ring.{Ring}
 use Rattle.table.proofs.Rings.{entry-ring}
-use Rattle.pair.specs.Answer.{status_number}
 use Rattle.pair.specs.View.{entries_of, held_of, waiting_of}
 use Rattle.pair.specs.Claims.{Sound}
 use Rattle.pair.specs.declared.OpenMessage.{OpenMessage}

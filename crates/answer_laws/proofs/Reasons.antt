@@ -2,7 +2,6 @@
 use Prim.Native.Nat.{ℕ, ◌≤◌}
 use mathlib.Core.Path.{◌≡◌, refl, sym, subst, ◌∙◌}
 use mathlib.Core.Bool.{Bool, true, false, true≢false}
-use mathlib.Core.List.{List}
 use mathlib.Core.Logic.{◌⊎◌, inl, inr}
 use native.Mathlib.Omega.{arith}
 use lib.Dec.{eqb}
@@ -19,9 +18,7 @@ use Rattle.header.proofs.Reasons.{accepted-by}
 use Rattle.table.specs.View.{region_of, newest_saved}
 use Rattle.table.specs.declared.Saved.{Saved}
 use Rattle.table.specs.declared.Saved.TheVariants.{Value, Nothing}
-use Rattle.pair.specs.Answer.{status_number}
 use Rattle.pair.specs.declared.OpenMessage.{OpenMessage}
-use Rattle.pair.specs.declared.Pair.{Pair}
 use Rattle.request_spec.specs.Claims.{Carries, IsAtomic, Served}
 use Rattle.request_spec.proofs.Order.{served}
 use Rattle.request_spec.specs.declared.Packet.{Packet}

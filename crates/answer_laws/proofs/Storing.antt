@@ -51,7 +51,7 @@ use Rattle.decision_laws.proofs.Ways.Way.{away, places, exchanges, delivers}
 use Rattle.decision_laws.proofs.Ways.{viewed_in, acts, code_by, decided-way, only-by, only-stored, payload-size}
 use Rattle.decision_laws.proofs.Ways.{payload-is, ends-true, ends-false, few, which, which-atomic, region-is}
 use Rattle.decision_laws.proofs.Ways.{or-true, and-false, Way}
-use Rattle.decision_laws.proofs.Views.{viewed, viewed-sound, current-closed}
+use Rattle.decision_laws.proofs.Views.{viewed-sound, current-closed}
 
 -- Storing
 module _ (arrival : Arrival) (S : Sound arrival.whole.pair) (n : length arrival.memory ≡ arrival.whole.pair.setup.memory)

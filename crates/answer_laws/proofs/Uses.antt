@@ -32,7 +32,7 @@ use Rattle.decision_laws.proofs.Rows.Row.{quiet, ahead, invalid, access, unready
 use Rattle.decision_laws.proofs.Rows.UcRow.{unheard, abandon, deliver}
 use Rattle.decision_laws.proofs.Rows.AnyRow.{reliable, unreliable}
 use Rattle.decision_laws.proofs.Rows.{region_by, Quiet, Row, UcRow, AnyRow, either, decided-row}
-use Rattle.decision_laws.proofs.Views.{viewed, viewed-sound}
+use Rattle.decision_laws.proofs.Views.{viewed-sound}
 use Rattle.decision_laws.proofs.Ways.Way.{away, places, exchanges, delivers}
 use Rattle.decision_laws.proofs.Ways.{Way, viewed_in, Other, code_by, few, decided-way}
 use Rattle.answer_laws.proofs.Answers.{head_first}

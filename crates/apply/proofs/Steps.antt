@@ -1,5 +1,5 @@
 -- Laws of plain values behind the functions: numbers of packets, a part of a packet.
-use Prim.Native.Nat.{ℕ, ◌+◌, ◌-◌, ◌%◌, min}
+use Prim.Native.Nat.{ℕ, ◌+◌, ◌-◌, min}
 use mathlib.Core.Path.{◌≡◌, refl, sym, ap, ◌∙◌}
 use mathlib.Core.Bool.{Bool, true, false}
 use mathlib.Core.List.{List}

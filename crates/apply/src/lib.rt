@@ -1,5 +1,7 @@
 // What a decision does: to memory, to the saved atomics and to the pair. The definitions stand in the crate
 // responder_spec.
+#![tactic(auto)]
+
 mod state;
 
 ghost use Rattle.std.specs.Prelude.{◌≡◌, cond, take, drop};

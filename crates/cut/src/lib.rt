@@ -1,4 +1,6 @@
 // Messages cut into packets: one call writes one packet, straight from the lent message.
+#![tactic(auto)]
+
 mod shape;
 
 ghost use Rattle.std.specs.Prelude.{◌≡◌, length};

@@ -1,5 +1,7 @@
 // Messages cut into packets: what a message is, and the definitions and laws of its cut. The code that cuts is the
 // crate cut.
+#![tactic(auto)]
+
 use header::{AtomicEth, Reth};
 use sequence::Psn;
 

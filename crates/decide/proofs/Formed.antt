@@ -10,7 +10,6 @@ use Rattle.sequence.specs.declared.Class.{Class}
 use Rattle.sequence.specs.declared.Class.TheVariants as class
 use Rattle.opcode.specs.Service as Service
 use Rattle.table.specs.View.{newest_saved}
-use Rattle.pair.specs.declared.Pair.{Pair}
 use Rattle.request_spec.specs.Verdict.{current}
 use Rattle.request_spec.specs.declared.Packet.{Packet}
 use Rattle.responder_spec.specs.Decide.{ahead_decision, duplicate_decision, region_for, head_entry, decision_by_class, rc_decision, packet_decision}

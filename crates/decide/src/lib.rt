@@ -1,5 +1,7 @@
 // What a request leads to: a decision, which changes nothing yet, by the rules of the pair's service. The definitions
 // stand in the crate responder_spec.
+#![tactic(auto)]
+
 ghost use Rattle.std.specs.Prelude.{◌≡◌, cond, eqb};
 ghost use Rattle.sequence.specs.Sequence.{psn_class};
 ghost use Rattle.opcode.specs.Service as Service;

@@ -26,7 +26,6 @@ use Rattle.table.specs.View.{region_of, newest_saved}
 use Rattle.table.specs.declared.Saved.{Saved}
 use Rattle.table.specs.declared.Saved.TheVariants.{Value, Nothing}
 use Rattle.pair.specs.Answer.{status_number, executed}
-use Rattle.pair.specs.Pair.{no_message}
 use Rattle.pair.specs.Sound.{pair_unsound}
 use Rattle.pair.specs.Claims.{Sound}
 use Rattle.pair.specs.Calls.{Whole}

@@ -30,7 +30,6 @@ use Rattle.pair.specs.Claims.{Sound}
 use Rattle.pair.specs.Calls.{Whole, with_pair}
 use Rattle.pair.specs.declared.Setup.{Setup}
 use Rattle.pair.specs.declared.OpenMessage.{OpenMessage}
-use Rattle.pair.specs.declared.Pair.{Pair}
 use Rattle.pair.specs.declared.Status.{Status}
 use Rattle.pair.specs.declared.Status.TheVariants as status
 use Rattle.request_spec.specs.Packet.{packet_of}
@@ -46,7 +45,7 @@ use Rattle.responder_spec.specs.Decide.{store_payload, run_atomic, accept_read, 
 use Rattle.responder_spec.specs.Decide.{expected_decision, duplicate_read, duplicate_atomic, is_atomic}
 use Rattle.responder_spec.specs.Decide.{duplicate_decision, region_for, head_entry, decision_by_class, rc_decision}
 use Rattle.responder_spec.specs.Decide.{orphaned, strays, closed_by, abandoning, uc_execute}
-use Rattle.responder_spec.specs.Decide.{uc_checked_decision, uc_decision, packet_decision, or_drop, inbound_refusal}
+use Rattle.responder_spec.specs.Decide.{uc_checked_decision, uc_decision, packet_decision, or_drop}
 use Rattle.responder_spec.specs.Decide.{decision}
 use Rattle.responder_spec.specs.Apply.{acts_atomic}
 use Rattle.request_spec.specs.Packet.{packet_in}

@@ -1,4 +1,6 @@
 // Headers read from the bytes of a packet, with no copy of them.
+#![tactic(auto)]
+
 mod field;
 mod operands;
 

@@ -1,4 +1,6 @@
 // What a duplicate is answered with. The definitions stand in the crate responder_spec.
+#![tactic(auto)]
+
 ghost use Rattle.std.specs.Prelude.{◌≡◌, false, cond};
 ghost use Rattle.opcode.specs.Kind as Kind;
 ghost use Rattle.table.specs.View.{newest_saved};

@@ -10,7 +10,6 @@ use lib.ListN.{length, take, drop, get_or}
 use borrow.Author.Tests.{eq-eqb, ne_eqb, lt-leb, le-leb, eqb-true, eqb-false}
 use Rattle.responder_spec.specs.Arrival.{Arrival, Left}
 use Rattle.sequence.specs.Sequence.{distance, psn_after, msn_next}
-use Rattle.sequence.specs.declared.Psn.{Psn}
 use Rattle.sequence.specs.declared.Msn.{Msn}
 use Rattle.opcode.specs.Opcode.{follows_of, low_class}
 use Rattle.header.specs.Read.{bth_of, reth_of, extension_of, header_of}

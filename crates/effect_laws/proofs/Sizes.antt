@@ -1,16 +1,14 @@
 -- Memory and output keep their lengths.
 use Prim.Native.Nat.{ℕ, ◌-◌, ◌≤◌}
 use mathlib.Core.Path.{◌≡◌, refl}
-use mathlib.Core.Bool.{Bool, true, false, cond}
-use mathlib.Core.List.{List, []}
+use mathlib.Core.Bool.{Bool, true, false}
+use mathlib.Core.List.{List}
 use native.Mathlib.Omega.{arith}
 use lib.Dec.{eqb}
-use lib.ListN.{length, take, drop, length-append, length-drop}
+use lib.ListN.{length, drop, length-append, length-drop}
 use Rattle.responder_spec.specs.Arrival.{Arrival}
 use Rattle.responder_spec.specs.Decide.{refusal_of}
 use Rattle.header.specs.Write.{bth_bytes, aeth_bytes, extension_bytes, header_bytes}
-use Rattle.memory.specs.Memory.{store}
-use Rattle.memory.specs.Word.{fetch_added, swapped}
 use Rattle.memory.proofs.Overwrite.{length-store}
 use Rattle.memory.proofs.Words.{fetch-within, swap-within}
 use Rattle.pair.specs.Answer.{executed}

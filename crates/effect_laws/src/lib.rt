@@ -1,1 +1,3 @@
+#![tactic(auto)]
+
 // What each answer of the responder leaves, and which calls are refused.

@@ -1,4 +1,6 @@
 // Headers written as bytes.
+#![tactic(auto)]
+
 mod width;
 
 ghost use Rattle.std.specs.Prelude.{◌≡◌, not, ◌+◌, ◌≤◌, length};

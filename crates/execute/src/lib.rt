@@ -1,5 +1,7 @@
 // What a request leads to that is not a duplicate: it is executed, or a check refuses it. A decision, which changes
 // nothing yet, by the rules of either service. The definitions stand in the crate responder_spec.
+#![tactic(auto)]
+
 mod message;
 mod single;
 mod uc;

@@ -1,5 +1,7 @@
 // Packet headers as values, and the tests of service and P_Key. The definitions of reading and writing them, and the
 // proof that each undoes the other, stand in specs/ and proofs/; the code in decode and encode.
+#![tactic(auto)]
+
 pub mod reason;
 
 ghost use Rattle.std.specs.Prelude.{◌≡◌};

@@ -1,7 +1,7 @@
 -- The two halves are the whole.
 use mathlib.Core.Path.{◌≡◌, refl}
 use mathlib.Core.Bool.{Bool, true, false, ◌||◌}
-use Rattle.pair.specs.Sound.{setup_unsound, counters_unsound, ring_unsound, message_unsound, read_unsound, pair_unsound}
+use Rattle.pair.specs.Sound.{setup_unsound, counters_unsound, ring_unsound, pair_unsound}
 use Rattle.pair.specs.declared.Pair.{Pair}
 use Rattle.table.specs.Table.{entry_capacity, saved_capacity}
 use Rattle.host_calls.specs.Halves.{numbers_unsound, work_unsound}

@@ -1,4 +1,6 @@
 // The calls of the host.
+#![tactic(auto)]
+
 pub mod sound;
 
 ghost use Rattle.std.specs.Prelude.{◌≡◌};

@@ -34,7 +34,7 @@ use Rattle.udalopek_spec.proofs.Widths.{TypeWidths, Fitting, inbound-widths}
 use Rattle.delivery_spec.specs.Stream.{Message, packet_count, Slot, slot, stream, packet_at}
 use Rattle.delivery_spec.specs.Plain.{AllInside, Plain, Call}
 use Rattle.delivery_spec.specs.Plain.Call.{Hand, Next, Post}
-use Rattle.delivery_spec.specs.Demand.{Run, handing, step, run, Fresh, AllCallsPermitted, Agree, Asked}
+use Rattle.delivery_spec.specs.Demand.{Run, handing, step, run, Fresh, Agree}
 use Rattle.delivery_spec.specs.Made.{NoneSetUp}
 use Rattle.delivery_steps.proofs.Chain.{Sent, good, reliable-serves}
 use Rattle.delivery_steps.proofs.Cutting.{header_for, cuttable, psn-small}

@@ -1,5 +1,7 @@
 // Lists packets for people: reads records of a 2-byte length and a packet from standard input, and
 // writes each packet's header fields in words, or why the packet is dropped.
+#![tactic(auto)]
+
 mod fields;
 mod packet;
 mod print;

@@ -1,4 +1,6 @@
 // Leaves on lent bytes.
+#![tactic(auto)]
+
 ghost use Rattle.std.specs.Prelude.{◌≡◌, ◌+◌, ◌<◌, ◌≤◌, length, take, drop};
 ghost use Rattle.memory.specs.Memory.{store};
 ghost use Rattle.memory.specs.Word.{low_bytes, low_number, word_at, store_word, fetch_added, swapped};

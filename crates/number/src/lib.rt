@@ -1,5 +1,7 @@
 // Leaves on numbers: widening, which keeps the number, and subtraction, which stops at 0. As calls, they hand their
 // caller the equation.
+#![tactic(auto)]
+
 ghost use Rattle.std.specs.Prelude.{◌≡◌, cond, ◌-◌, ◌<◌, min};
 
 pub fn u8_to_u32(x: u8) -> u32

@@ -1,5 +1,7 @@
 // What an opcode says of its packet: kind of request or response, place in the message, the headers
 // after the BTH, and the length of all headers.
+#![tactic(auto)]
+
 ghost use Rattle.std.specs.Prelude.{◌≡◌, ◌*◌, ◌/◌, ◌%◌, ◌^◌, ◌≤◌, ◌<◌, true, false, cond, eqb, ltb};
 ghost use Rattle.opcode.specs.Kind as Kind;
 ghost use Rattle.opcode.specs.Service as Service;

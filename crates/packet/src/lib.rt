@@ -1,4 +1,6 @@
 // Packets: a header, a payload and its pad, written in one pass into a lent output.
+#![tactic(auto)]
+
 ghost use Rattle.std.specs.Prelude.{◌≡◌, ◌≤◌, length, replicate};
 ghost use Rattle.memory.specs.Memory.{store};
 ghost use Rattle.header.specs.Write.{answer_number};

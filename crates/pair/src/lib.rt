@@ -1,5 +1,7 @@
 // The queue pair: its numbers, its answers, and what its host's calls are to do. The calls themselves are the crate
 // host_calls.
+#![tactic(auto)]
+
 mod answer;
 
 ghost use Rattle.std.specs.Prelude.{◌≡◌};

@@ -1,5 +1,7 @@
 // Bytes cut at the PMTU: how many pieces, and each piece's place and part. Requests and READ responses
 // are cut alike, so this is about numbers alone.
+#![tactic(auto)]
+
 ghost use Rattle.std.specs.Prelude.{◌≡◌, not};
 ghost use Rattle.pmtu.specs.Pieces.{pmtu_fits, pieces, place_at, part_at};
 

@@ -1,5 +1,7 @@
 // Replays recorded packets to a responder: reads records of a 2-byte length and a packet from standard input, and
 // writes a line for each, the number of the answer and the pair's expected PSN and MSN after it.
+#![tactic(auto)]
+
 mod print;
 mod record;
 mod setting;

@@ -1,4 +1,6 @@
 // Replies, and decisions that execute nothing. The definitions stand in the crate responder_spec.
+#![tactic(auto)]
+
 ghost use Rattle.std.specs.Prelude.{◌≡◌};
 ghost use Rattle.responder_spec.specs.Reply.{sending, read_reply, read_begun};
 ghost use Rattle.responder_spec.specs.Decide.{no_completion, no_change, reply_only, no_reply, acknowledging, ahead_decision};

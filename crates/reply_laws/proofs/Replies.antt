@@ -12,8 +12,6 @@ use borrow.Author.Tests.{ne_eqb}
 use Rattle.responder_spec.specs.Arrival.{Arrival, Left}
 use Rattle.responder_spec.specs.Decide.{refusal_of}
 use Rattle.sequence.specs.Sequence.{psn_after, msn_next}
-use Rattle.sequence.specs.declared.Psn.{Psn}
-use Rattle.sequence.specs.declared.Msn.{Msn}
 use Rattle.sequence.proofs.Circle.{after-below}
 use Rattle.opcode.specs.Opcode.{follows_of, length_of, low_class, class_of}
 use Rattle.header.specs.Bytes.{Bytes}

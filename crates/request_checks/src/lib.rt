@@ -1,5 +1,7 @@
 // The request checks of a responder: tests on numbers, each naming the failing case, and the number of the first that
 // fails. The definitions and their laws stand in the crate request_spec.
+#![tactic(auto)]
+
 mod key;
 mod lengths;
 mod place;

@@ -1,4 +1,6 @@
 // The request checks of a responder. Here their types; the definitions stand in specs/, their laws in proofs/.
+#![tactic(auto)]
+
 pub mod check;
 
 use sequence::Psn;

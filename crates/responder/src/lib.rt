@@ -1,5 +1,7 @@
 // The two calls of a responder: a packet comes in, and the next response of a READ goes out. The definitions stand
 // in the crate responder_spec.
+#![tactic(auto)]
+
 mod refuse;
 mod response;
 

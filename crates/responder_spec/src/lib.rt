@@ -1,4 +1,6 @@
 // What a responder does, as definitions in specs/; their laws are the crates .._laws. Here the types.
+#![tactic(auto)]
+
 use pair::{OpenMessage, Pair, Status};
 use sequence::{Msn, Psn};
 

@@ -1,1 +1,3 @@
+#![tactic(auto)]
+
 // The responses of a READ as packets.

@@ -1,5 +1,7 @@
 // Packet sequence numbers and message sequence numbers: two kinds of 24-bit number that never
 // stand for each other.
+#![tactic(auto)]
+
 ghost use Rattle.std.specs.Prelude.{◌≡◌};
 ghost use Rattle.sequence.specs.Sequence.{distance, psn_after, msn_next, psn_class};
 

@@ -1,4 +1,6 @@
 // The tables of a pair, lent as rows of numbers: regions, receive entries, saved atomics.
+#![tactic(auto)]
+
 ghost use Rattle.std.specs.Prelude.{◌≡◌, ◌%◌, ◌^◌, ◌<◌, ◌≤◌, [], slice_index_or};
 ghost use Rattle.table.specs.View.{region_of, ring_from, newest, newest_saved, saved_ring, saved_rows};
 ghost use Rattle.table.specs.Table.{region_capacity, entry_capacity, saved_capacity, entry_slot, saved_slot, memory_offset, sought, first_from, region_row, entry_row, outside, past_top, region_outside};

@@ -3,7 +3,6 @@ use Prim.Native.Nat.{ℕ, ◌+◌}
 use mathlib.Core.Path.{◌≡◌, ap, ◌∙◌}
 use mathlib.Core.Bool.{Bool, true, false}
 use mathlib.Core.List.{List, ◌++◌}
-use lib.ListN.{length}
 use borrow.Author.Tests.{eq-eqb}
 use Rattle.sequence.specs.Sequence.{distance, psn_after}
 use Rattle.sequence.specs.declared.Psn.{Psn}

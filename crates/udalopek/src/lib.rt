@@ -1,5 +1,7 @@
 // The library for other languages: numbers pass as themselves, a slice as a pointer and a length, a table as a pointer.
 // Every function answers a number of the rules, and reports the rest through what it is lent.
+#![tactic(auto)]
+
 mod headers;
 mod host;
 mod left;

@@ -2,19 +2,17 @@
 use Prim.Native.Nat.{ℕ}
 use mathlib.Core.Path.{◌≡◌, refl, sym, ap, ◌∙◌}
 use mathlib.Core.Bool.{Bool, true, false, cond, not}
-use mathlib.Core.List.{List, [], ◌∷◌}
+use mathlib.Core.List.{List}
 use mathlib.Core.Logic.{◌⊎◌, inl, inr}
 use lib.Dec.{eqb, ltb}
-use lib.ListN.{length, set}
+use lib.ListN.{length}
 use Rattle.sequence.specs.Sequence.{psn_after}
 use Rattle.sequence.specs.declared.Psn.{Psn}
 use Rattle.sequence.specs.declared.Msn.{Msn}
-use Rattle.header.specs.Bytes.{bit}
 use Rattle.table.specs.declared.Ring.{Ring}
 use Rattle.table.specs.View.{saved_ring}
 use Rattle.pair.specs.Answer.{status_number, executed}
 use Rattle.pair.specs.Sound.{pair_unsound}
-use Rattle.pair.specs.Pair.{no_message}
 use Rattle.pair.specs.declared.OpenMessage.{OpenMessage}
 use Rattle.pair.specs.declared.ReadAnswer.{ReadAnswer}
 use Rattle.pair.specs.declared.Pair.{Pair}
@@ -22,14 +20,14 @@ use Rattle.pair.specs.declared.Status.{Status}
 use Rattle.pair.specs.declared.Status.TheVariants as status
 use Rattle.responder_spec.specs.Arrival.{Arrival}
 use Rattle.responder_spec.specs.Apply.{acts_atomic, saved_ring_by, ring_taken, entries_by, msn_by, read_answer_by, executed_pair, pair_by_number, pair_by}
-use Rattle.responder_spec.specs.Decide.{no_reply, inbound_refusal, reads_full, decision}
+use Rattle.responder_spec.specs.Decide.{no_reply, inbound_refusal, decision}
 use Rattle.responder_spec.specs.Inbound.{inbound, left_by}
 use Rattle.responder_spec.specs.declared.Decision.{Decision}
 use Rattle.abi_spec.specs.Pair.{other_length, strays, pair_of, pair_words}
 use Rattle.abi_spec.proofs.Laws.{stray-tested}
 use Rattle.udalopek_spec.specs.Packets.{Lent, arrival_with, inbound_of, words_left}
 use Rattle.udalopek_spec.specs.Left.{counters_put, message_put, entries_put, read_put, saved_put, state_put, entries_put_if, read_put_if, saved_put_if, executed_put, put_by_number}
-use Rattle.udalopek_spec.proofs.Steps.{own-words, counted, first, second}
+use Rattle.udalopek_spec.proofs.Steps.{own-words, counted}
 
 -- an executed packet: what can change, and three parts that may
 module _ (q : Pair) (e : Psn) (n : Msn) (m : OpenMessage) (r s : Ring) (a : ReadAnswer) where

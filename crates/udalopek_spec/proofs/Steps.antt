@@ -1,13 +1,13 @@
 -- What the exported functions leave, over plain values: each step takes what its callees answered.
 use Prim.Native.Nat.{ℕ}
 use mathlib.Core.Path.{◌≡◌, refl, sym, ap, ◌∙◌}
-use mathlib.Core.Bool.{Bool, true, false, cond, not, ◌||◌}
-use mathlib.Core.List.{List, [], ◌∷◌}
+use mathlib.Core.Bool.{Bool, true, false, cond, not}
+use mathlib.Core.List.{List}
 use lib.Dec.{eqb}
 use lib.ListN.{length}
 use native.Mathlib.Omega.{arith}
 use borrow.Author.Tests.{eqb-true, eq-eqb, ne_eqb}
-use Rattle.lemmas.proofs.Tests.{or_left, not-false}
+use Rattle.lemmas.proofs.Tests.{not-false}
 use Rattle.pair.specs.declared.Pair.{Pair}
 use Rattle.abi_spec.specs.Pair.{other_length, strays, said_by, pair_of, pair_words}
 use Rattle.abi_spec.proofs.Laws.{ranges-tested, words-said}

@@ -1,5 +1,7 @@
 // The bytes of each header, built as a value to be copied out once. A number over its field's width
 // gives its low bits.
+#![tactic(auto)]
+
 ghost use Rattle.std.specs.Prelude.{◌≡◌, ◌<◌};
 ghost use Rattle.header.specs.Bytes.{four, eight, bit};
 ghost use Rattle.header.specs.Write.{bth_bytes, reth_bytes, atomic_bytes, aeth_bytes};

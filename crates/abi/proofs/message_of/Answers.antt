@@ -1,5 +1,4 @@
 use Rattle.abi_spec.specs.Pair.{message_of}
-use borrow.Author.Rules.{rules}
 use Rattle.abi.proofs.message_of.Goals as goal
 
 pub returns : goal.returns

@@ -1,13 +1,7 @@
-use native.Mathlib.Numerals.{add-one}
-use Prim.Native.Nat.{ℕ, ◌-◌, ◌≤◌}
-use mathlib.Core.Path.{◌≡◌, refl, sym, ap, ◌∙◌}
-use mathlib.Core.List.{List, ◌++◌}
-use lib.ListN.{length, take, drop, set, get_or, length-set}
-use borrow.Author.Tests.{eq-eqb, ne_eqb}
-use Rattle.abi_spec.specs.Words.{overwrite_words}
-use Rattle.abi_spec.proofs.Lists.{overwrite-one, overwrite-all}
-use borrow.Author.Rules.{rules}
-use native.Mathlib.Omega.{arith}
+use Prim.Native.Nat.{◌-◌, ◌≤◌}
+use mathlib.Core.Path.{◌≡◌}
+use mathlib.Core.List.{◌++◌}
+use lib.ListN.{length, take, drop}
 use Rattle.abi.proofs.overwrite_words.Given as goal
 
 abbrev pub invariant-loop-i : goal.invariant-loop-i

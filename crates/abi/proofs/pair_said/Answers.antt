@@ -1,6 +1,5 @@
 use borrow.Author.Tests.{le-leb, le-ltb, lt-leb, lt-ltb}
 use Rattle.abi_spec.specs.Pair.{said_by}
-use borrow.Author.Rules.{rules}
 use Rattle.abi.proofs.pair_said.Goals as goal
 
 pub returns-then-w-lt-PAIR : goal.returns-then-w-lt-PAIR

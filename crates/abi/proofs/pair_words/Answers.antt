@@ -1,6 +1,5 @@
 use mathlib.Core.Path.{refl}
 use Rattle.abi_spec.specs.Pair.{pair_words}
-use borrow.Author.Rules.{rules}
 use Rattle.abi.proofs.pair_words.Goals as goal
 
 pub returns : goal.returns

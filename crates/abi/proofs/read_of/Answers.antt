@@ -1,5 +1,4 @@
 use Rattle.abi_spec.specs.Pair.{read_of}
-use borrow.Author.Rules.{rules}
 use Rattle.abi.proofs.read_of.Goals as goal
 
 pub returns : goal.returns

@@ -1,11 +1,10 @@
 use native.Mathlib.Numerals.{add-one}
-use Prim.Native.Nat.{ℕ, suc, ◌-◌, ◌≤◌}
-use mathlib.Core.Path.{◌≡◌, refl, sym, ap, ◌∙◌}
+use Prim.Native.Nat.{ℕ, suc, ◌-◌}
+use mathlib.Core.Path.{refl, sym, ap, ◌∙◌}
 use mathlib.Core.Bool.{cond, false}
-use lib.ListN.{length, drop}
+use lib.ListN.{drop}
 use Rattle.abi_spec.specs.Words.{eq_words}
 use Rattle.abi_spec.proofs.Lists.{so-far-next, so-far-end, other_length_lem}
-use borrow.Author.Rules.{rules}
 use native.Mathlib.Omega.{arith}
 use Rattle.abi.proofs.same.Goals as goal
 

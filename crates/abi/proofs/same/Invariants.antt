@@ -1,12 +1,8 @@
-use native.Mathlib.Numerals.{add-one}
-use Prim.Native.Nat.{ℕ, suc, ◌-◌, ◌≤◌}
-use mathlib.Core.Path.{◌≡◌, refl, sym, ap, ◌∙◌}
+use Prim.Native.Nat.{◌-◌, ◌≤◌}
+use mathlib.Core.Path.{◌≡◌}
 use mathlib.Core.Bool.{cond, false}
 use lib.ListN.{length, drop}
 use Rattle.abi_spec.specs.Words.{eq_words}
-use Rattle.abi_spec.proofs.Lists.{so-far-next, so-far-end, other_length_lem}
-use borrow.Author.Rules.{rules}
-use native.Mathlib.Omega.{arith}
 use Rattle.abi.proofs.same.Given as goal
 
 abbrev pub invariant-loop-i : goal.invariant-loop-i

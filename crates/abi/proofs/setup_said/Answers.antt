@@ -1,5 +1,4 @@
 use Rattle.abi_spec.specs.Pair.{setup_said}
-use borrow.Author.Rules.{rules}
 use Rattle.abi.proofs.setup_said.Goals as goal
 
 pub returns : goal.returns

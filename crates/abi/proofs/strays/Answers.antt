@@ -2,7 +2,6 @@ use mathlib.Core.Path.{sym, ap, ◌∙◌}
 use mathlib.Core.Bool.{not, ◌||◌}
 use borrow.Author.Tests.{eq-eqb, ne_eqb}
 use Rattle.abi_spec.specs.Pair.{strays, other_length}
-use borrow.Author.Rules.{rules}
 use Rattle.abi.proofs.strays.Goals as goal
 
 pub returns-then-w-ne-PAIR : goal.returns-then-w-ne-PAIR

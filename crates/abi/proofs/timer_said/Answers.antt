@@ -1,5 +1,4 @@
 use Rattle.abi_spec.specs.Pair.{timer_said}
-use borrow.Author.Rules.{rules}
 use Rattle.abi.proofs.timer_said.Goals as goal
 
 pub returns-then-stray : goal.returns-then-stray

@@ -1,5 +1,4 @@
 use borrow.Author.Tests.{eq-eqb, ne_eqb}
-use borrow.Author.Rules.{rules}
 use Rattle.acknowledge.proofs.acknowledges.Goals as goal
 
 pub returns-then-kind-eq-ACKNOWLEDGE : goal.returns-then-kind-eq-ACKNOWLEDGE

@@ -1,7 +1,6 @@
 use Rattle.acknowledge.specs.Sendable.{unsendable}
 use Rattle.responder_spec.specs.Reply.{reply_bytes}
 use borrow.Author.Tests.{eq-eqb, ne_eqb}
-use borrow.Author.Rules.{rules}
 use Rattle.acknowledge.proofs.write.Goals as goal
 
 pub returns-then-r-eq-READ_RESPONSE : goal.returns-then-r-eq-READ_RESPONSE

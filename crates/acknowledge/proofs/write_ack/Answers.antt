@@ -4,7 +4,6 @@ use Rattle.header.specs.Write.{bth_bytes, aeth_bytes}
 use borrow.Author.Tests.{lt-ltb, le-ltb}
 use mathlib.Core.List.{◌++◌}
 use mathlib.Core.Path.{sym, ap, ◌∙◌}
-use borrow.Author.Rules.{rules}
 use Rattle.acknowledge.proofs.write_ack.Goals as goal
 
 pub returns-then-out-lt-WITH_AETH_ATOMIC_ACK : goal.returns-then-out-lt-WITH_AETH_ATOMIC_ACK

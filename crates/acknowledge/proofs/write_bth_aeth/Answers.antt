@@ -4,7 +4,6 @@ use Rattle.memory.specs.Memory.{store}
 use Rattle.header.specs.Write.{bth_bytes, aeth_bytes}
 use native.Mathlib.Omega.{arith}
 use mathlib.Core.Path.{refl, ap, ◌∙◌}
-use borrow.Author.Rules.{rules}
 use Rattle.acknowledge.proofs.write_bth_aeth.Goals as goal
 
 pub returns : goal.returns

@@ -1,7 +1,6 @@
 use borrow.Author.Tests.{eq-eqb, ne_eqb}
 use Rattle.memory.specs.Memory.{store}
 use mathlib.Core.Path.{ap, ◌∙◌}
-use borrow.Author.Rules.{rules}
 use Rattle.acknowledge.proofs.write_value.Goals as goal
 
 pub returns-then-kind-eq-ATOMIC_ACKNOWLEDGE : goal.returns-then-kind-eq-ATOMIC_ACKNOWLEDGE

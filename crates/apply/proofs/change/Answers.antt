@@ -1,6 +1,5 @@
 use borrow.Author.Tests.{eq-eqb, ne_eqb}
 use Rattle.responder_spec.specs.Apply.{memory_by, value_by, acts_atomic}
-use borrow.Author.Rules.{rules}
 use Rattle.apply.proofs.change.Goals as goal
 
 pub returns-then-c-eq-STORE : goal.returns-then-c-eq-STORE

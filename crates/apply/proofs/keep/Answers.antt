@@ -1,4 +1,3 @@
-use borrow.Author.Rules.{rules}
 use Rattle.apply.proofs.keep.Goals as goal
 
 pub returns-then-atomic : goal.returns-then-atomic

@@ -1,7 +1,6 @@
 use mathlib.Core.Path.{ap, ◌∙◌}
 use Rattle.memory.specs.Memory.{store}
 use Rattle.apply.proofs.Steps.{part_cut}
-use borrow.Author.Rules.{rules}
 use Rattle.apply.proofs.store_part.Goals as goal
 
 pub returns : goal.returns

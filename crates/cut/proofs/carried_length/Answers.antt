@@ -1,5 +1,4 @@
 use Rattle.cut_spec.specs.Message.{carried_length}
-use borrow.Author.Rules.{rules}
 use Rattle.cut.proofs.carried_length.Goals as goal
 
 pub returns-then-carrying : goal.returns-then-carrying

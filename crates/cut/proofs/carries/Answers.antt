@@ -1,5 +1,4 @@
 use Rattle.cut_spec.specs.Message.{carries}
-use borrow.Author.Rules.{rules}
 use Rattle.cut.proofs.carries.Goals as goal
 
 pub returns-in-Send : goal.returns-in-Send

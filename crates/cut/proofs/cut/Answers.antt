@@ -1,7 +1,6 @@
 use Rattle.header.proofs.Writes.{numbered}
 use Rattle.cut_spec.proofs.Whole.{cut-numbers}
 use Rattle.cut_spec.proofs.Steps.{refused, range_inside, whole}
-use borrow.Author.Rules.{rules}
 use Rattle.cut.proofs.cut.Goals as goal
 
 pub returns-then-code-ne0 : goal.returns-then-code-ne0

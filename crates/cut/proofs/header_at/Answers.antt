@@ -4,7 +4,6 @@ use Rattle.pmtu.proofs.Cuts.{place-bound}
 use Prim.Native.Nat.{◌≤◌}
 use mathlib.Core.Path.{sym, subst}
 use native.Mathlib.Omega.{arith}
-use borrow.Author.Rules.{rules}
 use Rattle.cut.proofs.header_at.Goals as goal
 
 pub low_for-low-requires : goal.low_for-low-requires

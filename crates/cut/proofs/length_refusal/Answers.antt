@@ -1,6 +1,5 @@
 use borrow.Author.Tests.{le-ltb, lt-ltb}
 use Rattle.cut_spec.specs.Message.{length_refusal}
-use borrow.Author.Rules.{rules}
 use Rattle.cut.proofs.length_refusal.Goals as goal
 
 pub returns-then-unfit : goal.returns-then-unfit

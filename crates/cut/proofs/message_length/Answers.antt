@@ -1,5 +1,4 @@
 use Rattle.cut_spec.specs.Message.{message_length}
-use borrow.Author.Rules.{rules}
 use Rattle.cut.proofs.message_length.Goals as goal
 
 pub returns-in-Send : goal.returns-in-Send

@@ -4,7 +4,6 @@ use Rattle.header.proofs.Writes.{told}
 use Rattle.cut_spec.proofs.Answers.{next-numbers}
 use borrow.Author.Tests.{eq-eqb, le-leb, lt-leb, ne_eqb}
 use Rattle.cut_spec.specs.Next.{next_answer, next_refusal, following_by, following_number, next_psn, psns_of}
-use borrow.Author.Rules.{rules}
 use Rattle.cut.proofs.next_psn.Goals as goal
 
 pub returns-then-first-ge-SPACE : goal.returns-then-first-ge-SPACE

@@ -3,7 +3,6 @@ use Rattle.header.proofs.Writes.{told}
 use Rattle.cut_spec.proofs.Answers.{count-numbers}
 use borrow.Author.Tests.{eq-eqb, ne_eqb}
 use Rattle.cut_spec.specs.Message.{packets_answer, packets_of}
-use borrow.Author.Rules.{rules}
 use Rattle.cut.proofs.packets.Goals as goal
 
 pub returns-then-code-ne0 : goal.returns-then-code-ne0

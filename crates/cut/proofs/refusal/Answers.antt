@@ -1,7 +1,6 @@
 use Rattle.cut_spec.specs.Message.{packets_of}
 use borrow.Author.Tests.{le-leb, le-ltb, lt-leb, lt-ltb}
 use Rattle.cut_spec.specs.Cut.{cut_refusal}
-use borrow.Author.Rules.{rules}
 use Rattle.cut.proofs.refusal.Goals as goal
 
 pub returns-then-bad : goal.returns-then-bad

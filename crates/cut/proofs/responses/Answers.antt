@@ -4,7 +4,6 @@ use Rattle.cut_spec.proofs.Answers.{count-numbers}
 use borrow.Author.Tests.{eq-eqb, ne_eqb}
 use Rattle.cut_spec.specs.Message.{responses_answer}
 use Rattle.cut_spec.specs.declared.Request.TheVariants.{Send}
-use borrow.Author.Rules.{rules}
 use Rattle.cut.proofs.responses.Goals as goal
 
 pub returns-then-code-ne0 : goal.returns-then-code-ne0

@@ -2,7 +2,6 @@ use Rattle.cut_spec.proofs.Steps.{unfit-last}
 use borrow.Author.Tests.{le-leb}
 use Rattle.cut_spec.specs.Cut.{cut_unfit}
 use Rattle.lemmas.proofs.Auto.{tested}
-use borrow.Author.Rules.{rules}
 use Rattle.cut.proofs.unfit.Goals as goal
 
 pub returns-then-uncut : goal.returns-then-uncut

@@ -1,7 +1,6 @@
 use mathlib.Core.Path.{sym, ◌∙◌}
 use Rattle.execute.proofs.Places.{whole}
 use Rattle.decide.proofs.Formed.{formed, expected, ahead, duplicate}
-use borrow.Author.Rules.{rules}
 use Rattle.decide.proofs.decision.Goals as goal
 
 pub returns-then-none : goal.returns-then-none

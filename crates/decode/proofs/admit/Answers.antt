@@ -4,7 +4,6 @@ use Rattle.header.specs.Read.{read_by}
 use Rattle.decode.proofs.Admits.{dropped, passed}
 use Rattle.decode.proofs.Told.{admission-told}
 use Rattle.decode.proofs.Room.{whole, room-of-class, room-left}
-use borrow.Author.Rules.{rules}
 use Rattle.decode.proofs.admit.Goals as goal
 
 pub returns-then-bad : goal.returns-then-bad

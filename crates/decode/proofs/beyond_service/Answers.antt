@@ -1,6 +1,5 @@
 use borrow.Author.Tests.{eq-eqb, ne_eqb}
 use Rattle.header.specs.Check.{beyond_service}
-use borrow.Author.Rules.{rules}
 use Rattle.decode.proofs.beyond_service.Goals as goal
 
 pub returns-then-service-ne-UC : goal.returns-then-service-ne-UC

@@ -1,6 +1,5 @@
 use borrow.Author.Tests.{eq-eqb, le-leb, le-ltb, lt-leb, lt-ltb, ne_eqb}
 use Rattle.decode.specs.Reason.{bth_reason}
-use borrow.Author.Rules.{rules}
 use Rattle.decode.proofs.bth_reason.Goals as goal
 
 pub returns-then-b-ne0 : goal.returns-then-b-ne0

@@ -4,7 +4,6 @@ use Rattle.decode.proofs.Room.{whole, room-of-class}
 use borrow.Author.Tests.{eq-eqb, ne_eqb}
 use Rattle.header.specs.Read.{read_header, read_by, read_reason, header_of}
 use Rattle.lemmas.proofs.Auto.{tested}
-use borrow.Author.Rules.{rules}
 use Rattle.decode.proofs.read.Goals as goal
 
 pub returns-then-bad : goal.returns-then-bad

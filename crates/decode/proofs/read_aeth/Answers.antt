@@ -1,5 +1,4 @@
 use Rattle.header.specs.Read.{aeth_of}
-use borrow.Author.Rules.{rules}
 use Rattle.decode.proofs.read_aeth.Goals as goal
 
 pub returns : goal.returns

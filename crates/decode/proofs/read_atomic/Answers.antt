@@ -1,5 +1,4 @@
 use Rattle.header.specs.Read.{atomic_of}
-use borrow.Author.Rules.{rules}
 use Rattle.decode.proofs.read_atomic.Goals as goal
 
 pub returns : goal.returns

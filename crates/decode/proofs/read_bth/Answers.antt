@@ -1,5 +1,4 @@
 use Rattle.header.specs.Read.{bth_of}
-use borrow.Author.Rules.{rules}
 use Rattle.decode.proofs.read_bth.Goals as goal
 
 pub returns : goal.returns

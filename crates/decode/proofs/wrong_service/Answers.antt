@@ -1,5 +1,4 @@
 use Rattle.header.specs.Check.{wrong_service}
-use borrow.Author.Rules.{rules}
 use Rattle.decode.proofs.wrong_service.Goals as goal
 
 pub returns-then-other : goal.returns-then-other

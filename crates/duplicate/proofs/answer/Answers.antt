@@ -2,7 +2,6 @@ use mathlib.Core.Path.{sym, ◌∙◌}
 use Rattle.responder_spec.specs.Decide.{duplicate_decision}
 use borrow.Author.Tests.{eq-eqb, ne_eqb}
 use Rattle.lemmas.proofs.Auto.{tested}
-use borrow.Author.Rules.{rules}
 use Rattle.duplicate.proofs.answer.Goals as goal
 
 pub returns-then-part : goal.returns-then-part

@@ -1,5 +1,4 @@
 use Rattle.responder_spec.specs.Decide.{no_reply}
-use borrow.Author.Rules.{rules}
 use Rattle.duplicate.proofs.duplicate_atomic.Goals as goal
 
 pub returns-in-Value : goal.returns-in-Value

@@ -3,7 +3,6 @@ use mathlib.Core.Path.{◌∙◌}
 use native.Mathlib.Omega.{arith}
 use Rattle.duplicate.proofs.Keys.{answered-offset}
 use Rattle.responder_spec.specs.Decide.{duplicate_read}
-use borrow.Author.Rules.{rules}
 use Rattle.duplicate.proofs.duplicate_read.Goals as goal
 
 pub returns-then-fails : goal.returns-then-fails

@@ -1,6 +1,5 @@
 use borrow.Author.Tests.{eq-eqb, ne_eqb}
 use Rattle.responder_spec.specs.Decide.{duplicate_read_fails}
-use borrow.Author.Rules.{rules}
 use Rattle.duplicate.proofs.duplicate_read_fails.Goals as goal
 
 pub returns-then-off : goal.returns-then-off

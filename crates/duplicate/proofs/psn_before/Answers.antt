@@ -1,5 +1,4 @@
 use Rattle.responder_spec.specs.Decide.{psn_before}
-use borrow.Author.Rules.{rules}
 use Rattle.duplicate.proofs.psn_before.Goals as goal
 
 pub returns : goal.returns

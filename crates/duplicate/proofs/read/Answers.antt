@@ -3,7 +3,6 @@ use lib.Dec.{eqb}
 use Rattle.request_checks.proofs.Keys.{none-stored-yet}
 use Rattle.request_spec.specs.Verdict.{single}
 use Rattle.responder_spec.specs.Decide.{region_for}
-use borrow.Author.Rules.{rules}
 use Rattle.duplicate.proofs.read.Goals as goal
 
 pub duplicate_read-requires : goal.duplicate_read-requires

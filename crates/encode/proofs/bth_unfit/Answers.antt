@@ -4,7 +4,6 @@ use borrow.Author.Tests.{lt-ltb, le-ltb, eq-eqb, ne_eqb}
 use Rattle.lemmas.proofs.Tests.{not-ltb}
 use Rattle.header.specs.Write.{bth_fits}
 use Rattle.lemmas.proofs.Auto.{tested}
-use borrow.Author.Rules.{rules}
 use Rattle.encode.proofs.bth_unfit.Goals as goal
 
 pub returns-then-other : goal.returns-then-other

@@ -1,6 +1,5 @@
 use borrow.Author.Tests.{eq-eqb, ne_eqb}
 use Rattle.header.specs.Write.{extension_fits}
-use borrow.Author.Rules.{rules}
 use Rattle.encode.proofs.extension_unfit.Goals as goal
 
 pub returns-then-follows-own : goal.returns-then-follows-own

@@ -1,5 +1,4 @@
 use Rattle.header.specs.Write.{follows_by}
-use borrow.Author.Rules.{rules}
 use Rattle.encode.proofs.follows_by.Goals as goal
 
 pub returns-in-Bare : goal.returns-in-Bare

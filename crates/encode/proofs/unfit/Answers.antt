@@ -1,5 +1,4 @@
 use Rattle.encode.proofs.Steps.{by-bth, by-extension}
-use borrow.Author.Rules.{rules}
 use Rattle.encode.proofs.unfit.Goals as goal
 
 pub returns-then-wide : goal.returns-then-wide

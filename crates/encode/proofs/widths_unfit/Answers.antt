@@ -1,5 +1,4 @@
 use Rattle.header.specs.Write.{widths_fit}
-use borrow.Author.Rules.{rules}
 use Rattle.encode.proofs.widths_unfit.Goals as goal
 
 pub returns-in-Bare : goal.returns-in-Bare

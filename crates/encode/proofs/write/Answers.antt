@@ -1,6 +1,5 @@
 use Rattle.header.proofs.Writes.{numbered, write-numbers}
 use Rattle.encode.proofs.Steps.{by-fields, by_length, room, whole}
-use borrow.Author.Rules.{rules}
 use Rattle.encode.proofs.write.Goals as goal
 
 pub returns-then-none : goal.returns-then-none

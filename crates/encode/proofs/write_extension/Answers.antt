@@ -5,7 +5,6 @@ use lib.ListN.{length}
 use Rattle.header.specs.Write.{reth_bytes, aeth_bytes}
 use Rattle.encode.proofs.Steps.{in_two}
 use Rattle.header.specs.Write.{extension_bytes}
-use borrow.Author.Rules.{rules}
 use Rattle.encode.proofs.write_extension.Goals as goal
 
 pub returns-in-Bare : goal.returns-in-Bare

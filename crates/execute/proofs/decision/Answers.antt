@@ -9,7 +9,6 @@ use Rattle.execute.specs.Either.{either}
 use Rattle.execute.proofs.Places.{executable, whole, timed}
 use Rattle.execute.proofs.Steps.{loses, passed, current-at-check, refuses, executes}
 use borrow.Author.Tests.{eq-eqb, ne_eqb}
-use borrow.Author.Rules.{rules}
 use Rattle.execute.proofs.decision.Goals as goal
 
 pub returns-then-none : goal.returns-then-none

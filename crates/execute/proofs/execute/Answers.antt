@@ -2,7 +2,6 @@ use mathlib.Core.Path.{sym, ◌∙◌}
 use Rattle.responder_spec.specs.Decide.{execute}
 use Rattle.execute.proofs.Steps.{stored, bare, none}
 use borrow.Author.Tests.{eq-eqb, ne_eqb}
-use borrow.Author.Rules.{rules}
 use Rattle.execute.proofs.execute.Goals as goal
 
 pub store_payload-requires : goal.store_payload-requires

@@ -1,6 +1,5 @@
 use Rattle.execute.proofs.Steps.{failed-by}
 use borrow.Author.Tests.{eq-eqb, ne_eqb}
-use borrow.Author.Rules.{rules}
 use Rattle.execute.proofs.failed.Goals as goal
 
 pub returns-then-check-eq-ENTRY : goal.returns-then-check-eq-ENTRY

@@ -1,6 +1,5 @@
 use Rattle.responder_spec.specs.Decide.{region_for}
 use borrow.Author.Tests.{eq-eqb, ne_eqb}
-use borrow.Author.Rules.{rules}
 use Rattle.execute.proofs.key_region.Goals as goal
 
 pub returns-then-kind-eq-SEND : goal.returns-then-kind-eq-SEND

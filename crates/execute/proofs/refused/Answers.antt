@@ -1,4 +1,3 @@
-use borrow.Author.Rules.{rules}
 use Rattle.execute.proofs.refused.Goals as goal
 
 pub returns-then-uc : goal.returns-then-uc

@@ -1,5 +1,4 @@
 use Rattle.execute.specs.Fits.{unformed}
-use borrow.Author.Rules.{rules}
 use Rattle.execute.proofs.unformed.Goals as goal
 
 pub returns-then-part : goal.returns-then-part

@@ -1,9 +1,7 @@
-use mathlib.Core.Path.{refl}
 use borrow.Author.Tests.{eq-eqb, ne_eqb}
 use Rattle.pair.specs.Host.{add_status, add_regions}
 use Rattle.pair.specs.Answer.{executed, status_number}
 use Rattle.lemmas.proofs.Auto.{tested}
-use borrow.Author.Rules.{rules}
 use Rattle.host_calls.proofs.add_region.Goals as goal
 
 pub returns-then-pair-eq-ERROR : goal.returns-then-pair-eq-ERROR

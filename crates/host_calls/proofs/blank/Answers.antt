@@ -1,7 +1,6 @@
 use mathlib.Core.Path.{ap}
 use Rattle.pair.specs.Pair.{moved}
 use Rattle.pair.specs.Pair.{blank_pair, fresh_pair}
-use borrow.Author.Rules.{rules}
 use Rattle.host_calls.proofs.blank.Goals as goal
 
 pub returns : goal.returns

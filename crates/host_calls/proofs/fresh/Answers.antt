@@ -1,5 +1,4 @@
 use Rattle.pair.specs.Pair.{fresh_pair}
-use borrow.Author.Rules.{rules}
 use Rattle.host_calls.proofs.fresh.Goals as goal
 
 pub returns : goal.returns

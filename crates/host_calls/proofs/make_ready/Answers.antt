@@ -1,7 +1,6 @@
 use borrow.Author.Tests.{eq-eqb, ne_eqb}
 use Rattle.pair.specs.Host.{made_ready, ready_status}
 use Rattle.pair.specs.Answer.{executed, status_number}
-use borrow.Author.Rules.{rules}
 use Rattle.host_calls.proofs.make_ready.Goals as goal
 
 pub returns-then-pair-ne-INIT : goal.returns-then-pair-ne-INIT

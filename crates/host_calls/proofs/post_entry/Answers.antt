@@ -1,9 +1,7 @@
-use mathlib.Core.Path.{refl}
 use borrow.Author.Tests.{eq-eqb, ne_eqb}
 use Rattle.pair.specs.Host.{posted, post_entries, post_status}
 use Rattle.pair.specs.Answer.{executed, status_number}
 use Rattle.lemmas.proofs.Auto.{tested}
-use borrow.Author.Rules.{rules}
 use Rattle.host_calls.proofs.Halves.{halves}
 use Rattle.host_calls.proofs.post_entry.Goals as goal
 

@@ -1,8 +1,6 @@
-use mathlib.Core.Path.{refl}
 use borrow.Author.Tests.{le-leb, lt-leb}
 use Rattle.pair.specs.Host.{remove_status, remove_regions}
 use Rattle.pair.specs.Answer.{executed, status_number}
-use borrow.Author.Rules.{rules}
 use Rattle.host_calls.proofs.remove_region.Goals as goal
 
 pub returns-then-at-ge-REGIONS : goal.returns-then-at-ge-REGIONS

@@ -1,7 +1,5 @@
-use mathlib.Core.Path.{refl}
 use Rattle.pair.specs.Host.{reset_to, reset_regions, reset_status}
 use Rattle.pair.specs.Answer.{executed, status_number}
-use borrow.Author.Rules.{rules}
 use Rattle.host_calls.proofs.reset.Goals as goal
 
 pub returns-then-bad : goal.returns-then-bad

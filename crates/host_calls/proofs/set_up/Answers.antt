@@ -1,8 +1,6 @@
-use mathlib.Core.Path.{refl}
 use borrow.Author.Tests.{le-ltb, lt-ltb}
 use Rattle.pair.specs.Host.{set_up, set_up_regions, set_up_status}
 use Rattle.pair.specs.Answer.{executed, status_number}
-use borrow.Author.Rules.{rules}
 use Rattle.host_calls.proofs.set_up.Goals as goal
 
 pub returns-then-unfit : goal.returns-then-unfit

@@ -1,4 +1,4 @@
-use Rattle.std.proofs.Common.{rules, eq-eqb, ne_eqb}
+use Rattle.std.proofs.Common.{eq-eqb, ne_eqb}
 use Rattle.memory.specs.Word.{swapped}
 use Rattle.memory.proofs.cmp_swap.Goals as goal
 
@@ -11,5 +11,5 @@ returns-then-old-compare c =
 pub returns : goal.returns
 unfolding swapped
 returns c =
-        let read = c.read_word-old.ensures in
+    let read = c.read_word-old.ensures in
     record { value = read; mem_after = simp (← read, eq-eqb _ _ c.if-old-compare.false, ← c.write_word.ensures) }

@@ -1,4 +1,4 @@
-use Rattle.std.proofs.Common.{◌≡◌, suc, ◌+◌, get_or, ap, arith, rules}
+use Rattle.std.proofs.Common.{◌≡◌, suc, ◌+◌, get_or, ap, arith}
 use Rattle.lemmas.proofs.Lists.{elements, take-elements}
 use Rattle.memory.specs.Word.{low_number}
 use Rattle.memory.proofs.half.Goals as goal

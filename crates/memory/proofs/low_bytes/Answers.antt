@@ -1,4 +1,4 @@
-use Rattle.std.proofs.Common.{refl, rules}
+use Rattle.std.proofs.Common.{refl}
 use Rattle.memory.specs.Word.{low_bytes}
 use Rattle.memory.proofs.low_bytes.Goals as goal
 

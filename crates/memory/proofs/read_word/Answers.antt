@@ -1,4 +1,4 @@
-use Rattle.std.proofs.Common.{sym, arith, rules}
+use Rattle.std.proofs.Common.{sym, arith}
 use Rattle.memory.proofs.Words.{word_in, word_out, word-halves}
 use Rattle.memory.proofs.read_word.Goals as goal
 

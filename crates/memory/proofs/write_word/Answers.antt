@@ -1,8 +1,7 @@
 use Rattle.memory.specs.Word.{store_word}
-use Rattle.std.proofs.Common.{rules}
 use Rattle.memory.proofs.write_word.Goals as goal
 
 pub returns : goal.returns
 unfolding store_word
 returns c =
-        simp (← c.low_bytes-word.ensures, ← c.store.ensures)
+    simp (← c.low_bytes-word.ensures, ← c.store.ensures)

@@ -5,7 +5,6 @@ use lib.Dec.{eqb}
 use Rattle.opcode.specs.declared.OpcodeClass.{OpcodeClass}
 use Rattle.opcode.specs.Opcode.{class_of, service_of, low_of, uc_has, low_class, reserved_class}
 use Rattle.opcode.specs.Service as Service
-use borrow.Author.Rules.{rules}
 use Rattle.opcode.proofs.class.Goals as goal
 
 once : (a b has : Bool) (x y : OpcodeClass) → cond (cond a true (cond b has false)) x y ≡ cond a x (cond b (cond has x y) y)

@@ -1,7 +1,6 @@
 use borrow.Author.Tests.{eq-eqb, le-ltb, lt-ltb, ne_eqb}
 use Rattle.opcode.specs.Opcode.{place_of}
 use Rattle.lemmas.proofs.Auto.{tested}
-use borrow.Author.Rules.{rules}
 use Rattle.opcode.proofs.place_of.Goals as goal
 
 pub returns-then-low-lt-WRITE : goal.returns-then-low-lt-WRITE
@@ -19,14 +18,14 @@ returns-then-low-eq-READ_RESPONSE_FIRST c = simp (tested, c.if-low-lt-WRITE.fals
 pub returns-then-low-eq-READ_RESPONSE_MIDDLE : goal.returns-then-low-eq-READ_RESPONSE_MIDDLE
 unfolding place_of
 returns-then-low-eq-READ_RESPONSE_MIDDLE c =
-        simp (le-ltb _ _ c.if-low-lt-WRITE.false, le-ltb _ _ c.if-low-lt-READ.false, ne_eqb _ _ c.if-low-eq-READ_RESPONSE_FIRST.false, eq-eqb _ _ c.if-low-eq-READ_RESPONSE_MIDDLE.true)
+    simp (le-ltb _ _ c.if-low-lt-WRITE.false, le-ltb _ _ c.if-low-lt-READ.false, ne_eqb _ _ c.if-low-eq-READ_RESPONSE_FIRST.false, eq-eqb _ _ c.if-low-eq-READ_RESPONSE_MIDDLE.true)
 
 pub returns-then-low-eq-READ_RESPONSE_LAST : goal.returns-then-low-eq-READ_RESPONSE_LAST
 unfolding place_of
 returns-then-low-eq-READ_RESPONSE_LAST c =
-        simp (tested, c.if-low-lt-WRITE.false, c.if-low-lt-READ.false, c.if-low-eq-READ_RESPONSE_FIRST.false, c.if-low-eq-READ_RESPONSE_MIDDLE.false, eq-eqb _ _ c.if-low-eq-READ_RESPONSE_LAST.true)
+    simp (tested, c.if-low-lt-WRITE.false, c.if-low-lt-READ.false, c.if-low-eq-READ_RESPONSE_FIRST.false, c.if-low-eq-READ_RESPONSE_MIDDLE.false, eq-eqb _ _ c.if-low-eq-READ_RESPONSE_LAST.true)
 
 pub returns : goal.returns
 unfolding place_of
 returns c =
-        simp (tested, c.if-low-lt-WRITE.false, c.if-low-lt-READ.false, c.if-low-eq-READ_RESPONSE_FIRST.false, c.if-low-eq-READ_RESPONSE_MIDDLE.false, c.if-low-eq-READ_RESPONSE_LAST.false)
+    simp (tested, c.if-low-lt-WRITE.false, c.if-low-lt-READ.false, c.if-low-eq-READ_RESPONSE_FIRST.false, c.if-low-eq-READ_RESPONSE_MIDDLE.false, c.if-low-eq-READ_RESPONSE_LAST.false)

@@ -1,5 +1,4 @@
 use borrow.Author.Tests.{eq-eqb, ne_eqb}
-use borrow.Author.Rules.{rules}
 use Rattle.opcode.proofs.served.Goals as goal
 
 pub returns-then-service-eq-RC : goal.returns-then-service-eq-RC

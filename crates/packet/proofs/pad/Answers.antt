@@ -1,6 +1,5 @@
 use Rattle.packet.specs.Packet.{pad_of}
 use mathlib.Core.Path.{refl}
-use borrow.Author.Rules.{rules}
 use Rattle.packet.proofs.pad.Goals as goal
 
 pub returns : goal.returns

@@ -3,7 +3,6 @@ use native.Mathlib.Omega.{arith}
 use borrow.Author.Tests.{eq-eqb, le-ltb, lt-ltb, ne_eqb}
 use Rattle.packet.specs.Packet.{refusal_by}
 use Rattle.lemmas.proofs.Auto.{tested}
-use borrow.Author.Rules.{rules}
 use Rattle.packet.proofs.refusal.Goals as goal
 
 pub returns-then-unfit : goal.returns-then-unfit

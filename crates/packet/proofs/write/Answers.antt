@@ -2,7 +2,6 @@ use native.Mathlib.Omega.{arith}
 use Rattle.header.proofs.Writes.{numbered}
 use Rattle.packet.proofs.Refusals.{packet-numbers}
 use Rattle.packet.proofs.Bytes.{refused, through, whole}
-use borrow.Author.Rules.{rules}
 use Rattle.packet.proofs.write.Goals as goal
 
 pub returns-then-code-ne0 : goal.returns-then-code-ne0

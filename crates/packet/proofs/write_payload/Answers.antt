@@ -6,7 +6,6 @@ use native.Mathlib.Omega.{arith}
 use Rattle.packet.proofs.Pads.{pad-small}
 use Rattle.packet.proofs.Bytes.{payload-left-out}
 use Rattle.packet.specs.Packet.{payload_out}
-use borrow.Author.Rules.{rules}
 use Rattle.packet.proofs.write_payload.Goals as goal
 
 pub returns-then-out-at : goal.returns-then-out-at

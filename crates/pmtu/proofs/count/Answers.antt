@@ -1,6 +1,5 @@
 use Rattle.pmtu.proofs.Leaves.{count_none, count-uncut, count-whole, count-more, count_small}
 use native.Mathlib.Omega.{arith}
-use borrow.Author.Rules.{rules}
 use Rattle.pmtu.proofs.count.Goals as goal
 
 pub returns-then-n-eq0 : goal.returns-then-n-eq0
@@ -11,7 +10,7 @@ returns-then-pmtu-eq0 c = count-uncut c.args.n c.args.pmtu c.if-n-eq0.false c.if
 
 pub returns-then-n-pmtu-eq0 : goal.returns-then-n-pmtu-eq0
 returns-then-n-pmtu-eq0 c =
-        count-whole c.args.n c.args.pmtu c.if-n-eq0.false c.if-n-pmtu-eq0.true
+    count-whole c.args.n c.args.pmtu c.if-n-eq0.false c.if-n-pmtu-eq0.true
 
 pub overflow_add-result : goal.overflow_add-result
 overflow_add-result c =
@@ -20,4 +19,4 @@ overflow_add-result c =
 
 pub returns : goal.returns
 returns c =
-        count-more c.args.n c.args.pmtu c.if-n-eq0.false c.if-n-pmtu-eq0.false
+    count-more c.args.n c.args.pmtu c.if-n-eq0.false c.if-n-pmtu-eq0.false

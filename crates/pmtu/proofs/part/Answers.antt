@@ -1,6 +1,5 @@
 use Rattle.pmtu.proofs.Leaves.{part-uncut, part-past, part-within, part-rest, part-full}
 use native.Mathlib.Omega.{arith}
-use borrow.Author.Rules.{rules}
 use Rattle.pmtu.proofs.part.Goals as goal
 
 pub returns-then-pmtu-eq0 : goal.returns-then-pmtu-eq0
@@ -8,7 +7,7 @@ returns-then-pmtu-eq0 c = part-uncut c.args.n c.args.pmtu c.args.i c.if-pmtu-eq0
 
 pub returns-then-n-pmtu : goal.returns-then-n-pmtu
 returns-then-n-pmtu c =
-        part-past c.args.n c.args.pmtu c.args.i c.if-pmtu-eq0.false c.if-n-pmtu.true
+    part-past c.args.n c.args.pmtu c.args.i c.if-pmtu-eq0.false c.if-n-pmtu.true
 
 pub overflow_mul-start : goal.overflow_mul-start
 overflow_mul-start c =
@@ -16,7 +15,7 @@ overflow_mul-start c =
 
 pub overflow_sub-n : goal.overflow_sub-n
 overflow_sub-n c =
-        part-within c.args.n c.args.pmtu c.args.i c.if-n-pmtu.false
+    part-within c.args.n c.args.pmtu c.args.i c.if-n-pmtu.false
 
 pub returns-then-n-start : goal.returns-then-n-start
 returns-then-n-start c =

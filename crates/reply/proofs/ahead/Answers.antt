@@ -1,5 +1,4 @@
 use Rattle.responder_spec.specs.Decide.{ahead_decision}
-use borrow.Author.Rules.{rules}
 use Rattle.reply.proofs.ahead.Goals as goal
 
 pub returns-then-nakmark : goal.returns-then-nakmark

@@ -1,5 +1,4 @@
 use Rattle.responder_spec.specs.Decide.{no_reply}
-use borrow.Author.Rules.{rules}
 use Rattle.reply.proofs.no_reply.Goals as goal
 
 pub returns : goal.returns

@@ -1,4 +1,3 @@
-use borrow.Author.Rules.{rules}
 use Rattle.reply.proofs.reply_only.Goals as goal
 
 pub returns : goal.returns

@@ -1,4 +1,3 @@
-use borrow.Author.Rules.{rules}
 use Rattle.request_checks.proofs.bytes_check.Goals as goal
 
 pub returns-then-lacking : goal.returns-then-lacking

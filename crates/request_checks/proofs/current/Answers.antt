@@ -1,5 +1,4 @@
 use Rattle.request_spec.specs.Verdict.{current}
-use borrow.Author.Rules.{rules}
 use Rattle.request_checks.proofs.current.Goals as goal
 
 pub returns-then-begins : goal.returns-then-begins

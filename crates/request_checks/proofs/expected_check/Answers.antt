@@ -1,4 +1,3 @@
-use borrow.Author.Rules.{rules}
 use Rattle.request_checks.proofs.expected_check.Goals as goal
 
 pub returns-then-unexpected : goal.returns-then-unexpected

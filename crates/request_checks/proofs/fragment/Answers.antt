@@ -1,5 +1,4 @@
 use Rattle.request_spec.specs.Verdict.{fragment}
-use borrow.Author.Rules.{rules}
 use Rattle.request_checks.proofs.fragment.Goals as goal
 
 pub returns-then-one : goal.returns-then-one

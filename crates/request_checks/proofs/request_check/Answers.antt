@@ -1,4 +1,3 @@
-use borrow.Author.Rules.{rules}
 use Rattle.request_checks.proofs.request_check.Goals as goal
 
 pub returns-then-off : goal.returns-then-off

@@ -1,6 +1,5 @@
 use Rattle.responder_spec.specs.Arrival.{arriving}
 use Rattle.responder.proofs.Steps.{refused, left_at_once, admitted-packet}
-use borrow.Author.Rules.{rules}
 use Rattle.responder.proofs.decided.Goals as goal
 
 pub returns-then-number-ne0 : goal.returns-then-number-ne0

@@ -1,6 +1,5 @@
 use Rattle.responder_spec.specs.Arrival.{arriving}
 use Rattle.responder.proofs.Steps.{whole}
-use borrow.Author.Rules.{rules}
 use Rattle.responder.proofs.inbound.Goals as goal
 
 pub returns : goal.returns

@@ -1,4 +1,4 @@
-use Rattle.std.proofs.Common.{[], get_or, ap, rules}
+use Rattle.std.proofs.Common.{[], get_or, ap}
 use Rattle.table.proofs.entry_at.Goals as goal
 
 pub returns : goal.returns

@@ -1,4 +1,4 @@
-use Rattle.std.proofs.Common.{sym, mod-lt, arith, rules}
+use Rattle.std.proofs.Common.{sym, arith}
 use native.Mathlib.Nat.{add-mod}
 use Rattle.table.specs.Table.{entry_capacity, entry_slot}
 use Rattle.table.proofs.entry_slot.Goals as goal

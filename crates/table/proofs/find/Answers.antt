@@ -1,5 +1,5 @@
-use Rattle.std.proofs.Common.{◌≡◌, ◌-◌, ◌≤◌, sym, refl, ◌∙◌, arith, rules}
-use Rattle.table.specs.Table.{region_capacity, first_from}
+use Rattle.std.proofs.Common.{sym, refl, ◌∙◌, arith}
+use Rattle.table.specs.Table.{region_capacity}
 use Rattle.table.proofs.Leaves.{first-here, first_next, first-end}
 use Rattle.table.proofs.find.Goals as goal
 

@@ -1,4 +1,4 @@
-use Rattle.std.proofs.Common.{rules, eq-eqb, ne_eqb}
+use Rattle.std.proofs.Common.{eq-eqb, ne_eqb}
 use Rattle.table.specs.Table.{memory_offset}
 use Rattle.table.proofs.memory_offset.Goals as goal
 

@@ -1,4 +1,4 @@
-use Rattle.std.proofs.Common.{rules, le-ltb, lt-ltb}
+use Rattle.std.proofs.Common.{le-ltb, lt-ltb}
 use Rattle.table.specs.View.{newest_saved}
 use Rattle.table.proofs.newest.Goals as goal
 

@@ -1,6 +1,5 @@
-use Rattle.std.proofs.Common.{◌≡◌, sym, refl, ◌∙◌, arith, rules}
+use Rattle.std.proofs.Common.{sym, refl, ◌∙◌, arith}
 use Rattle.table.specs.Table.{saved_slot}
-use Rattle.table.specs.View.{ring_from, newest}
 use Rattle.table.proofs.Rings.{newest-here, newest-next, newest-none}
 use Rattle.table.proofs.newest_of.Goals as goal
 

@@ -1,7 +1,6 @@
-use Rattle.std.proofs.Common.{◌≡◌, sym, refl, ◌∙◌, arith, rules}
+use Rattle.std.proofs.Common.{◌≡◌}
 use Rattle.table.specs.Table.{saved_slot}
 use Rattle.table.specs.View.{ring_from, newest}
-use Rattle.table.proofs.Rings.{newest-here, newest-next, newest-none}
 use Rattle.table.proofs.newest_of.Given as goal
 
 abbrev pub invariant-loop-rest : goal.invariant-loop-rest

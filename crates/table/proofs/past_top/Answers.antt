@@ -1,4 +1,4 @@
-use Rattle.std.proofs.Common.{arith, rules}
+use Rattle.std.proofs.Common.{arith}
 use Rattle.table.proofs.Leaves.{rest-past-top}
 use Rattle.table.proofs.past_top.Goals as goal
 

@@ -1,4 +1,4 @@
-use Rattle.std.proofs.Common.{rules, le-ltb, lt-ltb}
+use Rattle.std.proofs.Common.{le-ltb, lt-ltb}
 use Rattle.table.specs.View.{region_of}
 use Rattle.table.proofs.region_of.Goals as goal
 
@@ -9,4 +9,4 @@ returns-then-i-ge-REGIONS c = simp (← c.u32_to_u64.ensures.value, ← c.find-i
 pub returns : goal.returns
 unfolding region_of
 returns c =
-        simp (← c.u32_to_u64.ensures.value, ← c.find-i.ensures.value, lt-ltb _ _ c.if-i-ge-REGIONS.false)
+    simp (← c.u32_to_u64.ensures.value, ← c.find-i.ensures.value, lt-ltb _ _ c.if-i-ge-REGIONS.false)

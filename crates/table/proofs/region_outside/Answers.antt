@@ -1,4 +1,4 @@
-use Rattle.std.proofs.Common.{rules, eq-eqb, ne_eqb}
+use Rattle.std.proofs.Common.{eq-eqb, ne_eqb}
 use Rattle.table.specs.Table.{region_outside}
 use Rattle.table.proofs.region_outside.Goals as goal
 
@@ -13,4 +13,4 @@ returns-then-off c = simp (ne_eqb _ _ c.if-length-eq0.false, ← c.outside-off.e
 pub returns : goal.returns
 unfolding region_outside
 returns c =
-        simp (ne_eqb _ _ c.if-length-eq0.false, ← c.outside-off.ensures, c.if-off.false, ← c.past_top.ensures)
+    simp (ne_eqb _ _ c.if-length-eq0.false, ← c.outside-off.ensures, c.if-off.false, ← c.past_top.ensures)

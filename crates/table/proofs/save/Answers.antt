@@ -1,5 +1,4 @@
 use Rattle.table.specs.View.{saved_rows}
-use Rattle.std.proofs.Common.{rules}
 use Rattle.table.proofs.save.Goals as goal
 
 pub returns : goal.returns

@@ -1,4 +1,4 @@
-use Rattle.std.proofs.Common.{rules, le-ltb, lt-ltb}
+use Rattle.std.proofs.Common.{le-ltb, lt-ltb}
 use Rattle.table.specs.View.{saved_ring}
 use Rattle.table.proofs.saved_ring.Goals as goal
 

@@ -1,4 +1,4 @@
-use Rattle.std.proofs.Common.{sym, mod-lt, arith, rules}
+use Rattle.std.proofs.Common.{sym, arith}
 use native.Mathlib.Nat.{add-mod}
 use Rattle.table.specs.Table.{saved_capacity, saved_slot}
 use Rattle.table.proofs.saved_slot.Goals as goal

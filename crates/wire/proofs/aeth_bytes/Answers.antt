@@ -1,6 +1,5 @@
 use mathlib.Core.Path.{refl}
 use Rattle.header.specs.Write.{aeth_bytes}
-use borrow.Author.Rules.{rules}
 use Rattle.wire.proofs.aeth_bytes.Goals as goal
 
 pub returns : goal.returns

@@ -1,6 +1,5 @@
 use mathlib.Core.Path.{refl}
 use Rattle.header.specs.Write.{atomic_bytes}
-use borrow.Author.Rules.{rules}
 use Rattle.wire.proofs.atomic_bytes.Goals as goal
 
 pub returns : goal.returns

@@ -1,5 +1,4 @@
 use Rattle.header.specs.Write.{bth_bytes}
-use borrow.Author.Rules.{rules}
 use Rattle.wire.proofs.bth_bytes.Goals as goal
 
 pub returns : goal.returns

@@ -1,6 +1,5 @@
 use mathlib.Core.Path.{refl}
 use Rattle.header.specs.Write.{reth_bytes}
-use borrow.Author.Rules.{rules}
 use Rattle.wire.proofs.reth_bytes.Goals as goal
 
 pub returns : goal.returns

@@ -1,5 +1,4 @@
 use Rattle.abi_spec.specs.Fields.{aeth_from}
-use borrow.Author.Rules.{rules}
 use Rattle.abi.proofs.fields.aeth_from.Goals as goal
 
 pub returns : goal.returns

@@ -1,5 +1,4 @@
 use Rattle.abi_spec.specs.Fields.{atomic_from}
-use borrow.Author.Rules.{rules}
 use Rattle.abi.proofs.fields.atomic_from.Goals as goal
 
 pub returns : goal.returns

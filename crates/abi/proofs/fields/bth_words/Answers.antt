@@ -1,6 +1,5 @@
 use Rattle.abi_spec.specs.Fields.{bth_words}
 use mathlib.Core.Path.{refl}
-use borrow.Author.Rules.{rules}
 use Rattle.abi.proofs.fields.bth_words.Goals as goal
 
 pub returns : goal.returns

@@ -1,7 +1,6 @@
 use borrow.Author.Tests.{eq-eqb, ne_eqb}
 use Rattle.abi_spec.specs.Fields.{extension_from}
 use Rattle.lemmas.proofs.Auto.{tested}
-use borrow.Author.Rules.{rules}
 use Rattle.abi.proofs.fields.extension_from.Goals as goal
 
 pub returns-then-follows-eq-RETH : goal.returns-then-follows-eq-RETH

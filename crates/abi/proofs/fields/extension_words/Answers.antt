@@ -1,5 +1,4 @@
 use Rattle.abi_spec.specs.Fields.{extension_words}
-use borrow.Author.Rules.{rules}
 use Rattle.abi.proofs.fields.extension_words.Goals as goal
 
 pub returns-in-Bare : goal.returns-in-Bare

@@ -1,5 +1,4 @@
 use Rattle.abi_spec.specs.Fields.{reth_from}
-use borrow.Author.Rules.{rules}
 use Rattle.abi.proofs.fields.reth_from.Goals as goal
 
 pub returns : goal.returns

@@ -1,5 +1,4 @@
 use Rattle.responder_spec.specs.Reply.{index_of}
-use borrow.Author.Rules.{rules}
 use Rattle.acknowledge.proofs.response.index_of.Goals as goal
 
 pub returns : goal.returns

@@ -3,7 +3,6 @@ use Rattle.lemmas.proofs.Tests.{over-left}
 use borrow.Author.Tests.{lt-ltb}
 use native.Mathlib.Omega.{arith}
 use Prim.Native.Nat.{◌+◌}
-use borrow.Author.Rules.{rules}
 use Rattle.acknowledge.proofs.response.unsendable_response.Goals as goal
 
 pub returns-then-none : goal.returns-then-none

@@ -8,7 +8,6 @@ use lib.ListN.{length}
 use native.Mathlib.Omega.{arith}
 use mathlib.Core.Path.{sym, subst, ap, ◌∙◌}
 use Prim.Native.Nat.{◌≤◌}
-use borrow.Author.Rules.{rules}
 use Rattle.acknowledge.proofs.response.write_headers.Goals as goal
 
 pub response_opcode-low-requires : goal.response_opcode-low-requires

@@ -1,4 +1,3 @@
-use borrow.Author.Rules.{rules}
 use Rattle.apply.proofs.state.closing.Goals as goal
 
 pub returns : goal.returns

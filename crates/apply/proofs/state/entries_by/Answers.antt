@@ -1,5 +1,4 @@
 use Rattle.responder_spec.specs.Apply.{entries_by, ring_taken}
-use borrow.Author.Rules.{rules}
 use Rattle.apply.proofs.state.entries_by.Goals as goal
 
 pub returns-then-completes : goal.returns-then-completes

@@ -1,5 +1,4 @@
 use Rattle.responder_spec.specs.Apply.{executed_pair}
-use borrow.Author.Rules.{rules}
 use Rattle.apply.proofs.state.executed_pair.Goals as goal
 
 pub returns : goal.returns

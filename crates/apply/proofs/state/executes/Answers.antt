@@ -1,5 +1,4 @@
 use Rattle.pair.specs.Answer.{status_number}
-use borrow.Author.Rules.{rules}
 use Rattle.apply.proofs.state.executes.Goals as goal
 
 pub returns : goal.returns

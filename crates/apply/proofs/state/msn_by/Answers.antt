@@ -1,5 +1,4 @@
 use Rattle.responder_spec.specs.Apply.{msn_by}
-use borrow.Author.Rules.{rules}
 use Rattle.apply.proofs.state.msn_by.Goals as goal
 
 pub returns-then-ends : goal.returns-then-ends

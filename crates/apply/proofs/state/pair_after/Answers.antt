@@ -1,6 +1,5 @@
 use Rattle.pair.specs.Answer.{status_number}
 use Rattle.responder_spec.specs.Apply.{pair_by_number, pair_by}
-use borrow.Author.Rules.{rules}
 use Rattle.apply.proofs.state.pair_after.Goals as goal
 
 pub returns-then-executed : goal.returns-then-executed

@@ -1,5 +1,4 @@
 use Rattle.responder_spec.specs.Apply.{saved_ring_by}
-use borrow.Author.Rules.{rules}
 use Rattle.apply.proofs.state.saved_ring_by.Goals as goal
 
 pub returns-then-atomic : goal.returns-then-atomic

@@ -1,5 +1,4 @@
 use Rattle.cut_spec.specs.Cut.{bth_at}
-use borrow.Author.Rules.{rules}
 use Rattle.cut.proofs.shape.bth_at.Goals as goal
 
 pub returns : goal.returns

@@ -1,5 +1,4 @@
 use Rattle.cut_spec.specs.Cut.{extension_for}
-use borrow.Author.Rules.{rules}
 use Rattle.cut.proofs.shape.extension_for.Goals as goal
 
 pub returns-in-Send : goal.returns-in-Send

@@ -1,5 +1,4 @@
 use Rattle.cut_spec.specs.Cut.{write_extension}
-use borrow.Author.Rules.{rules}
 use Rattle.cut.proofs.shape.write_extension.Goals as goal
 
 pub returns-then-begins : goal.returns-then-begins

@@ -1,7 +1,6 @@
 use borrow.Author.Tests.{le-leb, lt-leb}
 use Rattle.opcode.specs.Place.{ends}
 use Rattle.cut_spec.specs.Cut.{write_immediate_extension}
-use borrow.Author.Rules.{rules}
 use Rattle.cut.proofs.shape.write_immediate_extension.Goals as goal
 
 pub returns-then-place-ge-LAST : goal.returns-then-place-ge-LAST

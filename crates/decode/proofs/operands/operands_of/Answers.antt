@@ -11,7 +11,6 @@ use Rattle.header.specs.declared.Aeth.{Aeth}
 use Rattle.header.specs.declared.Extension.TheVariants.{Bare, Acknowledge, AtomicAcknowledge}
 use Rattle.request_spec.specs.Packet.{alone, operands_of}
 use Rattle.decode.proofs.Room.{room}
-use borrow.Author.Rules.{rules}
 use Rattle.decode.proofs.operands.operands_of.Goals as goal
 
 -- a response's headers say nothing

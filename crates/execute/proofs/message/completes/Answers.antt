@@ -1,6 +1,5 @@
 use Rattle.responder_spec.specs.Decide.{completes}
 use Rattle.request_spec.specs.Verdict.{uses_entry}
-use borrow.Author.Rules.{rules}
 use Rattle.execute.proofs.message.completes.Goals as goal
 
 pub returns-then-last : goal.returns-then-last

@@ -1,5 +1,4 @@
 use Rattle.responder_spec.specs.Decide.{message_after}
-use borrow.Author.Rules.{rules}
 use Rattle.execute.proofs.message.message_after.Goals as goal
 
 pub returns-then-last : goal.returns-then-last

@@ -5,7 +5,6 @@ use borrow.Author.Tests.{eq-eqb}
 use Rattle.responder_spec.specs.Decide.{target_offset}
 use Rattle.request_spec.specs.Verdict.{bytes_to_come}
 use Rattle.table.specs.Table.{memory_offset}
-use borrow.Author.Rules.{rules}
 use Rattle.execute.proofs.message.target_offset.Goals as goal
 
 pub overflow_add-result : goal.overflow_add-result

@@ -1,7 +1,6 @@
 use mathlib.Core.Path.{◌∙◌}
 use Rattle.execute.proofs.Places.{own-remainder}
 use Rattle.responder_spec.specs.Decide.{run_atomic}
-use borrow.Author.Rules.{rules}
 use Rattle.execute.proofs.single.run_atomic.Goals as goal
 
 pub returns : goal.returns

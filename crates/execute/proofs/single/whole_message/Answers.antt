@@ -1,4 +1,3 @@
-use borrow.Author.Rules.{rules}
 use Rattle.execute.proofs.single.whole_message.Goals as goal
 
 pub returns : goal.returns

@@ -1,7 +1,6 @@
 use Rattle.request_spec.proofs.Answered.{row_told}
 use Rattle.responder_spec.specs.Decide.{abandoning}
 use borrow.Author.Tests.{eq-eqb, ne_eqb}
-use borrow.Author.Rules.{rules}
 use Rattle.execute.proofs.uc.abandoning.Goals as goal
 
 pub returns-then-check-eq-ENTRY_OUTSIDE : goal.returns-then-check-eq-ENTRY_OUTSIDE

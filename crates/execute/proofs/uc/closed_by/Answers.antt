@@ -1,5 +1,4 @@
 use Rattle.responder_spec.specs.Decide.{closed_by}
-use borrow.Author.Rules.{rules}
 use Rattle.execute.proofs.uc.closed_by.Goals as goal
 
 pub returns-then-begins : goal.returns-then-begins

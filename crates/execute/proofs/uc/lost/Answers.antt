@@ -1,4 +1,3 @@
-use borrow.Author.Rules.{rules}
 use Rattle.execute.proofs.uc.lost.Goals as goal
 
 pub returns-then-orphan : goal.returns-then-orphan

@@ -1,5 +1,4 @@
 use Rattle.responder_spec.specs.Decide.{orphaned}
-use borrow.Author.Rules.{rules}
 use Rattle.execute.proofs.uc.orphaned.Goals as goal
 
 pub returns-then-begins : goal.returns-then-begins

@@ -1,6 +1,5 @@
 use borrow.Author.Tests.{eq-eqb, ne_eqb}
 use Rattle.responder_spec.specs.Decide.{strays}
-use borrow.Author.Rules.{rules}
 use Rattle.execute.proofs.uc.strays.Goals as goal
 
 pub returns-then-begins : goal.returns-then-begins

@@ -1,7 +1,6 @@
 use borrow.Author.Tests.{eq-eqb, le-leb, ne_eqb}
 use Rattle.pair.specs.Sound.{message_unsound, write_unsound}
 use Rattle.lemmas.proofs.Auto.{tested}
-use borrow.Author.Rules.{rules}
 use Rattle.host_calls.proofs.sound.message_unsound.Goals as goal
 
 pub returns-then-kind-eq-CLOSED : goal.returns-then-kind-eq-CLOSED

@@ -1,5 +1,4 @@
 use Rattle.host_calls.specs.Halves.{numbers_unsound}
-use borrow.Author.Rules.{rules}
 use Rattle.host_calls.proofs.sound.numbers_unsound.Goals as goal
 
 pub returns-then-a : goal.returns-then-a

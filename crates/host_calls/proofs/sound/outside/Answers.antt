@@ -1,4 +1,3 @@
-use borrow.Author.Rules.{rules}
 use Rattle.host_calls.proofs.sound.outside.Goals as goal
 
 pub returns : goal.returns

@@ -1,7 +1,6 @@
 use borrow.Author.Tests.{eq-eqb, le-ltb, lt-ltb, ne_eqb}
 use Rattle.pair.specs.Sound.{read_unsound}
 use Rattle.lemmas.proofs.Auto.{tested}
-use borrow.Author.Rules.{rules}
 use Rattle.host_calls.proofs.sound.read_unsound.Goals as goal
 
 pub returns-then-remaining-eq0 : goal.returns-then-remaining-eq0

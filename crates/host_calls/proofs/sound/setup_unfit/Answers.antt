@@ -1,7 +1,6 @@
 use borrow.Author.Tests.{eq-eqb, le-leb}
 use Rattle.pair.specs.Sound.{setup_unfit}
 use Rattle.lemmas.proofs.Auto.{tested}
-use borrow.Author.Rules.{rules}
 use Rattle.host_calls.proofs.sound.setup_unfit.Goals as goal
 
 pub returns-then-pmtu : goal.returns-then-pmtu

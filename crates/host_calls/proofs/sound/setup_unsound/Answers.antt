@@ -1,5 +1,4 @@
 use Rattle.pair.specs.Sound.{setup_unsound}
-use borrow.Author.Rules.{rules}
 use Rattle.host_calls.proofs.sound.setup_unsound.Goals as goal
 
 pub returns-then-unfit : goal.returns-then-unfit

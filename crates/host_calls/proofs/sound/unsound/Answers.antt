@@ -1,5 +1,4 @@
 use Rattle.host_calls.proofs.Halves.{halves}
-use borrow.Author.Rules.{rules}
 use Rattle.host_calls.proofs.sound.unsound.Goals as goal
 
 pub returns : goal.returns

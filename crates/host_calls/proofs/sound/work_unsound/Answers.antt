@@ -1,5 +1,4 @@
 use Rattle.host_calls.specs.Halves.{work_unsound}
-use borrow.Author.Rules.{rules}
 use Rattle.host_calls.proofs.sound.work_unsound.Goals as goal
 
 pub returns-then-numbers : goal.returns-then-numbers

@@ -1,4 +1,3 @@
-use borrow.Author.Rules.{rules}
 use Rattle.pair.proofs.Status.is.Goals as goal
 
 pub returns : goal.returns

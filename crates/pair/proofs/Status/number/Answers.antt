@@ -1,5 +1,4 @@
 use Rattle.pair.specs.Answer.{status_number}
-use borrow.Author.Rules.{rules}
 use Rattle.pair.proofs.Status.number.Goals as goal
 
 pub returns-in-Executed : goal.returns-in-Executed

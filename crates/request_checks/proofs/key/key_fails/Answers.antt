@@ -2,7 +2,6 @@ use native.Mathlib.Omega.{arith}
 use Rattle.request_checks.proofs.Keys.{below_top, past, judged}
 use borrow.Author.Tests.{eq-eqb, ne_eqb}
 use Rattle.request_spec.specs.Verdict.{key_fails, key_lacking, bytes_to_come}
-use borrow.Author.Rules.{rules}
 use Rattle.request_checks.proofs.key.key_fails.Goals as goal
 
 pub returns-then-kind-eq-SEND : goal.returns-then-kind-eq-SEND

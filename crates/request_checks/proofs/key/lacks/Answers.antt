@@ -1,7 +1,6 @@
 use borrow.Author.Tests.{eq-eqb, ne_eqb}
 use Rattle.request_spec.specs.Verdict.{lacks}
 use Rattle.lemmas.proofs.Auto.{tested}
-use borrow.Author.Rules.{rules}
 use Rattle.request_checks.proofs.key.lacks.Goals as goal
 
 pub returns-then-right-eq0 : goal.returns-then-right-eq0

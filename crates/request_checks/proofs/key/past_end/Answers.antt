@@ -3,7 +3,6 @@ use mathlib.Core.Path.{sym}
 use native.Mathlib.Omega.{arith}
 use borrow.Author.Tests.{lt-ltb}
 use Rattle.request_checks.proofs.Sums.{past-left}
-use borrow.Author.Rules.{rules}
 use Rattle.request_checks.proofs.key.past_end.Goals as goal
 
 pub returns-then-length-skip : goal.returns-then-length-skip

@@ -1,6 +1,5 @@
 use borrow.Author.Tests.{le-ltb, lt-ltb}
 use Rattle.request_spec.specs.Verdict.{lengths_off, payload_size}
-use borrow.Author.Rules.{rules}
 use Rattle.request_checks.proofs.lengths.lengths_off.Goals as goal
 
 pub returns-then-p : goal.returns-then-p

@@ -1,5 +1,4 @@
 use Rattle.request_spec.specs.Verdict.{size_off}
-use borrow.Author.Rules.{rules}
 use Rattle.request_checks.proofs.lengths.size_off.Goals as goal
 
 pub returns-then-empty : goal.returns-then-empty

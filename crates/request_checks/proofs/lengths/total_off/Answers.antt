@@ -1,6 +1,5 @@
 use borrow.Author.Tests.{eq-eqb, ne_eqb}
 use Rattle.request_spec.specs.Verdict.{total_off}
-use borrow.Author.Rules.{rules}
 use Rattle.request_checks.proofs.lengths.total_off.Goals as goal
 
 pub returns-then-kind-eq-SEND : goal.returns-then-kind-eq-SEND

@@ -1,6 +1,5 @@
 use borrow.Author.Tests.{eq-eqb, ne_eqb}
 use Rattle.request_spec.specs.Verdict.{entries_waiting}
-use borrow.Author.Rules.{rules}
 use Rattle.request_checks.proofs.place.entries_waiting.Goals as goal
 
 pub returns-then-opened-eq-SEND : goal.returns-then-opened-eq-SEND

@@ -1,5 +1,4 @@
 use Rattle.request_spec.specs.Verdict.{entry_outside}
-use borrow.Author.Rules.{rules}
 use Rattle.request_checks.proofs.place.entry_outside.Goals as goal
 
 pub returns-then-uses : goal.returns-then-uses

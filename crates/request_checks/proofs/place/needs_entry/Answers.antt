@@ -1,6 +1,5 @@
 use borrow.Author.Tests.{eq-eqb, ne_eqb}
 use Rattle.request_spec.specs.Verdict.{needs_entry}
-use borrow.Author.Rules.{rules}
 use Rattle.request_checks.proofs.place.needs_entry.Goals as goal
 
 pub returns-then-kind-eq-SEND : goal.returns-then-kind-eq-SEND

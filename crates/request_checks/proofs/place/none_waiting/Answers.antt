@@ -1,5 +1,4 @@
 use Rattle.request_spec.specs.Verdict.{none_waiting}
-use borrow.Author.Rules.{rules}
 use Rattle.request_checks.proofs.place.none_waiting.Goals as goal
 
 pub returns-then-needs : goal.returns-then-needs

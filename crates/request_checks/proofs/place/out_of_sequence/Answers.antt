@@ -1,5 +1,4 @@
 use Rattle.request_spec.specs.Verdict.{out_of_sequence}
-use borrow.Author.Rules.{rules}
 use Rattle.request_checks.proofs.place.out_of_sequence.Goals as goal
 
 pub returns-then-begins : goal.returns-then-begins

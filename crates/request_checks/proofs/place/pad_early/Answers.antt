@@ -1,5 +1,4 @@
 use Rattle.request_spec.specs.Verdict.{pad_early}
-use borrow.Author.Rules.{rules}
 use Rattle.request_checks.proofs.place.pad_early.Goals as goal
 
 pub returns-then-last : goal.returns-then-last

@@ -1,7 +1,6 @@
 use borrow.Author.Tests.{eq-eqb, le-ltb, lt-ltb, ne_eqb}
 use Rattle.responder_spec.specs.Decide.{inbound_refusal}
 use Rattle.host_calls.proofs.Halves.{halves}
-use borrow.Author.Rules.{rules}
 use Rattle.responder.proofs.refuse.refusal.Goals as goal
 
 pub returns-then-room-lt-WITH_AETH_ATOMIC_ACK : goal.returns-then-room-lt-WITH_AETH_ATOMIC_ACK

@@ -1,5 +1,4 @@
 use Rattle.responder.proofs.Nexts.{refused, outgoing}
-use borrow.Author.Rules.{rules}
 use Rattle.responder.proofs.response.next_response.Goals as goal
 
 pub returns-then-number-ne0 : goal.returns-then-number-ne0

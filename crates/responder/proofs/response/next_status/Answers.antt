@@ -1,7 +1,6 @@
 use borrow.Author.Tests.{eq-eqb, ne_eqb}
 use Rattle.responder_spec.specs.Response.{next_status}
 use Rattle.host_calls.proofs.Halves.{halves}
-use borrow.Author.Rules.{rules}
 use Rattle.responder.proofs.response.next_status.Goals as goal
 
 pub returns-then-pair-eq0 : goal.returns-then-pair-eq0

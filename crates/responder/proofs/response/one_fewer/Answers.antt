@@ -1,4 +1,3 @@
-use borrow.Author.Rules.{rules}
 use Rattle.responder.proofs.response.one_fewer.Goals as goal
 
 pub returns : goal.returns

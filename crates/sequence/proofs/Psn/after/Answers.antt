@@ -1,5 +1,4 @@
 use Rattle.sequence.proofs.Circle.{reduced}
-use borrow.Author.Rules.{rules}
 use Rattle.sequence.proofs.Psn.after.Goals as goal
 
 pub returns : goal.returns

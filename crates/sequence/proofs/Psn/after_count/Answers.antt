@@ -1,5 +1,4 @@
 use Rattle.sequence.proofs.Circle.{after-rest}
-use borrow.Author.Rules.{rules}
 use Rattle.sequence.proofs.Psn.after_count.Goals as goal
 
 pub returns : goal.returns

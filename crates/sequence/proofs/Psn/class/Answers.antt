@@ -1,6 +1,5 @@
 use borrow.Author.Tests.{eq-eqb, le-leb, lt-leb, ne_eqb}
 use Rattle.sequence.specs.Sequence.{psn_class, class_at}
-use borrow.Author.Rules.{rules}
 use Rattle.sequence.proofs.Psn.class.Goals as goal
 
 pub returns-then-d-eq0 : goal.returns-then-d-eq0

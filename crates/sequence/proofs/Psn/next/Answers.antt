@@ -2,7 +2,6 @@ use Prim.Native.Nat.{◌+◌, ◌%◌}
 use mathlib.Core.Path.{◌≡◌}
 use native.Mathlib.Omega.{arith}
 use Rattle.sequence.specs.Sequence.{space, after}
-use borrow.Author.Rules.{rules}
 use Rattle.sequence.proofs.Psn.next.Goals as goal
 
 pub returns-then-n-last : goal.returns-then-n-last

@@ -1,5 +1,4 @@
 use Rattle.udalopek_spec.specs.Headers.{own_words}
-use borrow.Author.Rules.{rules}
 use Rattle.udalopek.proofs.headers.own_words.Goals as goal
 
 pub returns-then-base : goal.returns-then-base

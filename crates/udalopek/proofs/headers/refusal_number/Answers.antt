@@ -1,5 +1,4 @@
 use Rattle.header.specs.Write.{answer_number}
-use borrow.Author.Rules.{rules}
 use Rattle.udalopek.proofs.headers.refusal_number.Goals as goal
 
 pub returns-in-Done : goal.returns-in-Done

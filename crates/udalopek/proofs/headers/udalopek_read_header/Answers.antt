@@ -2,7 +2,6 @@ use mathlib.Core.Path.{sym, ap, ◌∙◌}
 use mathlib.Core.List.{[], ◌∷◌}
 use Rattle.header.specs.Read.{read_number, read_check}
 use Rattle.udalopek_spec.specs.Headers.{read_header_number, read_report, read_bth, read_extension, reported_bth, reported_extension}
-use borrow.Author.Rules.{rules}
 use Rattle.udalopek.proofs.headers.udalopek_read_header.Goals as goal
 
 pub returns-in-Dropped : goal.returns-in-Dropped

@@ -1,6 +1,4 @@
-use mathlib.Core.Path.{refl}
 use Rattle.udalopek_spec.specs.Headers.{write_number, write_output, write_report}
-use borrow.Author.Rules.{rules}
 use Rattle.udalopek.proofs.headers.udalopek_write_header.Goals as goal
 
 pub returns-then-own : goal.returns-then-own

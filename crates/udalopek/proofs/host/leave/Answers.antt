@@ -1,5 +1,4 @@
 use mathlib.Core.Path.{ap, ◌∙◌}
-use borrow.Author.Rules.{rules}
 use Rattle.abi_spec.specs.Words.{overwrite_words}
 use Rattle.udalopek_spec.proofs.Steps.{first, second}
 use Rattle.udalopek_spec.proofs.Done.{done, undone}

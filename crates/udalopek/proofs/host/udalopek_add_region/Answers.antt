@@ -1,9 +1,8 @@
-use mathlib.Core.Path.{◌≡◌, refl, sym, ap, ◌∙◌}
+use mathlib.Core.Path.{ap, ◌∙◌}
 use Rattle.udalopek_spec.proofs.Steps.{second, first, many, few, said}
 use Rattle.pair.specs.Answer.{status_number}
 use Rattle.pair.specs.Host.{add_status, add_regions}
 use Rattle.udalopek_spec.specs.Host.{add_number, add_table}
-use borrow.Author.Rules.{rules}
 use Rattle.udalopek.proofs.host.udalopek_add_region.Goals as goal
 
 pub returns-then-pair-ne-PAIR : goal.returns-then-pair-ne-PAIR

@@ -7,7 +7,6 @@ use Rattle.pair.specs.Host.{made_ready}
 use Rattle.abi_spec.specs.Words.{overwrite_words}
 use Rattle.abi_spec.specs.Pair.{pair_words}
 use Rattle.udalopek_spec.specs.Host.{ready_number, ready_words}
-use borrow.Author.Rules.{rules}
 use Rattle.udalopek.proofs.host.udalopek_make_ready.Goals as goal
 
 pub returns-then-pair-ne-PAIR : goal.returns-then-pair-ne-PAIR

@@ -1,11 +1,10 @@
-use mathlib.Core.Path.{◌≡◌, refl, sym, ap, ◌∙◌}
+use mathlib.Core.Path.{ap, ◌∙◌}
 use Rattle.udalopek_spec.proofs.Steps.{second, first, many, few, few-stray, said}
 use Rattle.udalopek_spec.proofs.Done.{done, undone, posted-words, unposted-words}
 use Rattle.pair.specs.Answer.{status_number}
 use Rattle.pair.specs.Host.{posted, post_entries}
 use Rattle.udalopek_spec.specs.Left.{entries_put}
 use Rattle.udalopek_spec.specs.Host.{post_number, post_words, post_table}
-use borrow.Author.Rules.{rules}
 use Rattle.udalopek.proofs.host.udalopek_post_entry.Goals as goal
 
 pub returns-then-pair-ne-PAIR : goal.returns-then-pair-ne-PAIR

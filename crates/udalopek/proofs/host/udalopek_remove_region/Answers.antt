@@ -1,8 +1,7 @@
-use mathlib.Core.Path.{◌≡◌, refl, sym, ap, ◌∙◌}
+use mathlib.Core.Path.{ap, ◌∙◌}
 use Rattle.udalopek_spec.proofs.Steps.{second, first, many, few}
 use Rattle.pair.specs.Answer.{status_number}
 use Rattle.udalopek_spec.specs.Host.{remove_number, remove_table}
-use borrow.Author.Rules.{rules}
 use Rattle.udalopek.proofs.host.udalopek_remove_region.Goals as goal
 
 pub returns-then-pair-ne-PAIR : goal.returns-then-pair-ne-PAIR

@@ -7,7 +7,6 @@ use Rattle.pair.specs.Host.{reset_to, reset_regions}
 use Rattle.abi_spec.specs.Words.{overwrite_words}
 use Rattle.abi_spec.specs.Pair.{pair_words}
 use Rattle.udalopek_spec.specs.Host.{reset_number, reset_words, reset_table}
-use borrow.Author.Rules.{rules}
 use Rattle.udalopek.proofs.host.udalopek_reset.Goals as goal
 
 pub returns-then-pair-ne-PAIR : goal.returns-then-pair-ne-PAIR

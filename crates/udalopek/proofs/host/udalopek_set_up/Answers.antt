@@ -6,7 +6,6 @@ use Rattle.abi_spec.specs.Pair.{pair_words}
 use Rattle.udalopek_spec.proofs.Steps.{second, first, many, few}
 use Rattle.udalopek_spec.proofs.Done.{set-up-left}
 use Rattle.udalopek_spec.specs.Host.{set_up_number, set_up_words, set_up_table}
-use borrow.Author.Rules.{rules}
 use Rattle.udalopek.proofs.host.udalopek_set_up.Goals as goal
 
 pub returns-then-pair-ne-PAIR : goal.returns-then-pair-ne-PAIR

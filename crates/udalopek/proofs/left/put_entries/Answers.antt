@@ -1,7 +1,6 @@
 use borrow.Author.Tests.{eq-eqb, ne_eqb}
 use Rattle.udalopek_spec.specs.Left.{entries_put}
 use Rattle.abi_spec.specs.Pair.{other_length}
-use borrow.Author.Rules.{rules}
 use Rattle.udalopek.proofs.left.put_entries.Goals as goal
 
 pub returns-then-w-ne-PAIR : goal.returns-then-w-ne-PAIR

@@ -1,5 +1,4 @@
 use Rattle.udalopek_spec.specs.Left.{entries_put_if}
-use borrow.Author.Rules.{rules}
 use Rattle.udalopek.proofs.left.put_entries_if.Goals as goal
 
 pub returns-then-completes : goal.returns-then-completes

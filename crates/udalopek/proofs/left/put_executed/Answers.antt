@@ -1,6 +1,5 @@
-use mathlib.Core.Path.{◌≡◌, ap, ◌∙◌}
+use mathlib.Core.Path.{ap, ◌∙◌}
 use Rattle.udalopek_spec.specs.Left.{message_put, entries_put_if, read_put_if, saved_put_if, executed_put}
-use borrow.Author.Rules.{rules}
 use Rattle.udalopek.proofs.left.put_executed.Goals as goal
 
 pub returns : goal.returns

@@ -1,6 +1,5 @@
 use borrow.Author.Tests.{eq-eqb, le-leb, le-ltb, lt-leb, lt-ltb, ne_eqb}
 use Rattle.udalopek_spec.specs.Left.{put_by_number}
-use borrow.Author.Rules.{rules}
 use Rattle.udalopek.proofs.left.put_left.Goals as goal
 
 pub returns-then-number-le3 : goal.returns-then-number-le3

@@ -3,7 +3,6 @@ use Rattle.udalopek_spec.specs.Left.{read_put}
 use Rattle.abi_spec.specs.Pair.{other_length}
 use lib.ListN.{length-set}
 use native.Mathlib.Omega.{arith}
-use borrow.Author.Rules.{rules}
 use Rattle.udalopek.proofs.left.put_read.Goals as goal
 
 pub returns-then-w-ne-PAIR : goal.returns-then-w-ne-PAIR

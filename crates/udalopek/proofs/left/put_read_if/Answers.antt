@@ -1,6 +1,5 @@
 use borrow.Author.Tests.{eq-eqb, ne_eqb}
 use Rattle.udalopek_spec.specs.Left.{read_put_if}
-use borrow.Author.Rules.{rules}
 use Rattle.udalopek.proofs.left.put_read_if.Goals as goal
 
 pub returns-then-responses-eq0 : goal.returns-then-responses-eq0

@@ -1,5 +1,4 @@
 use Rattle.udalopek_spec.specs.Left.{saved_put_if}
-use borrow.Author.Rules.{rules}
 use Rattle.udalopek.proofs.left.put_saved_if.Goals as goal
 
 pub returns-then-atomic : goal.returns-then-atomic

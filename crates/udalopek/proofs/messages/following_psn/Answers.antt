@@ -1,5 +1,4 @@
 use Rattle.udalopek_spec.specs.Cutting.{following_psn}
-use borrow.Author.Rules.{rules}
 use Rattle.udalopek.proofs.messages.following_psn.Goals as goal
 
 pub returns-in-Next : goal.returns-in-Next

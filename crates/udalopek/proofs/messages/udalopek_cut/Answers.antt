@@ -1,8 +1,6 @@
-use mathlib.Core.Path.{refl}
 use borrow.Author.Tests.{lt-ltb}
 use Rattle.udalopek_spec.specs.Cutting.{cut_number, cut_output, cut_words}
 use Rattle.lemmas.proofs.Auto.{tested}
-use borrow.Author.Rules.{rules}
 use Rattle.udalopek.proofs.messages.udalopek_cut.Goals as goal
 
 pub returns-then-kind-gt-FETCH_ADD : goal.returns-then-kind-gt-FETCH_ADD

@@ -1,5 +1,4 @@
 use Rattle.udalopek_spec.specs.Packets.{report_words}
-use borrow.Author.Rules.{rules}
 use Rattle.udalopek.proofs.packets.report_words.Goals as goal
 
 pub returns : goal.returns

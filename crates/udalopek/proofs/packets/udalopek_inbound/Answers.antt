@@ -1,11 +1,10 @@
-use mathlib.Core.Path.{◌≡◌, refl, sym, ap, ◌∙◌}
+use mathlib.Core.Path.{refl, ap, ◌∙◌}
 use Rattle.udalopek_spec.proofs.Steps.{second, first, many, few, said}
 use Rattle.responder_spec.specs.Inbound.{inbound}
 use Rattle.responder.specs.Unchanged.{outcome_with}
 use Rattle.responder.proofs.Steps.{whole}
 use Rattle.udalopek_spec.proofs.Left.{left-words}
 use Rattle.udalopek_spec.specs.Packets.{lent, arrival_with, returned, refused_with, returning, words_left, inbound_of, inbound_returned, report_words}
-use borrow.Author.Rules.{rules}
 use Rattle.udalopek.proofs.packets.udalopek_inbound.Goals as goal
 
 pub returns-then-pair-ne-PAIR : goal.returns-then-pair-ne-PAIR

@@ -1,4 +1,4 @@
-use mathlib.Core.Path.{◌≡◌, refl, sym, ap, ◌∙◌}
+use mathlib.Core.Path.{ap, ◌∙◌}
 use mathlib.Core.List.{[], ◌∷◌}
 use Rattle.udalopek_spec.proofs.Steps.{second, first, many, few, few-stray, said}
 use Rattle.udalopek_spec.proofs.Done.{done, undone, drained-words, undrained-words}
@@ -6,7 +6,6 @@ use Rattle.pair.specs.Answer.{status_number}
 use Rattle.responder_spec.specs.Response.{next_response, next_out}
 use Rattle.udalopek_spec.specs.Left.{read_put}
 use Rattle.udalopek_spec.specs.Packets.{next_number, next_words, next_output, next_report}
-use borrow.Author.Rules.{rules}
 use Rattle.udalopek.proofs.packets.udalopek_next_response.Goals as goal
 
 pub returns-then-pair-ne-PAIR : goal.returns-then-pair-ne-PAIR
