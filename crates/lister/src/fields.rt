@@ -1,66 +1,65 @@
 // The fields of each header, a line for each. Names come with the spaces that align the values.
-use crate::print::{decimal_line, flag_line, hex, hex_line, text};
+use crate::print::{decimal_line, flag_line, hex, hex_line};
 use crate::words;
 use header::{Aeth, AtomicEth, Bth, Reth};
 use opcode::OpcodeClass;
+use std::io::{self, Write};
 
-fn opcode_line(n: u8, class: OpcodeClass) {
-    text(b"    opcode      ");
-    hex(n as u64, 2);
-    text(b"  ");
-    words::opcode_words(n, class);
-    text(b"\n");
+fn opcode_line<W: Write>(out: &mut W, n: u8, class: OpcodeClass) -> io::Result<()> {
+    write!(out, "    opcode      ")?;
+    hex(out, n as u64, 2)?;
+    write!(out, "  ")?;
+    words::opcode_words(out, n, class)?;
+    writeln!(out)
 }
 
 // The BTH from its P_Key on.
-fn bth_rest(b: Bth) {
-    hex_line(b"    P_Key       ", b.pkey as u64, 4);
-    hex_line(b"    reserved 8  ", b.reserved8 as u64, 2);
-    hex_line(b"    DestQP      ", b.dest as u64, 6);
-    flag_line(b"    AckReq      ", b.ackreq);
-    hex_line(b"    reserved 7  ", b.reserved7 as u64, 2);
-    let psn = b.psn;
-    decimal_line(b"    PSN         ", psn.0 as u64);
+fn bth_rest<W: Write>(out: &mut W, b: &Bth) -> io::Result<()> {
+    hex_line(out, "    P_Key       ", b.pkey as u64, 4)?;
+    hex_line(out, "    reserved 8  ", b.reserved8 as u64, 2)?;
+    hex_line(out, "    DestQP      ", b.dest as u64, 6)?;
+    flag_line(out, "    AckReq      ", b.ackreq)?;
+    hex_line(out, "    reserved 7  ", b.reserved7 as u64, 2)?;
+    decimal_line(out, "    PSN         ", b.psn.0 as u64)
 }
 
-pub(crate) fn bth(b: Bth, class: OpcodeClass) {
-    text(b"  BTH\n");
-    opcode_line(b.opcode, class);
-    flag_line(b"    SE          ", b.se);
-    flag_line(b"    MigReq      ", b.migreq);
-    decimal_line(b"    PadCnt      ", b.pad as u64);
-    decimal_line(b"    TVer        ", b.tver as u64);
-    bth_rest(b);
+pub(crate) fn bth<W: Write>(out: &mut W, b: &Bth, class: OpcodeClass) -> io::Result<()> {
+    writeln!(out, "  BTH")?;
+    opcode_line(out, b.opcode, class)?;
+    flag_line(out, "    SE          ", b.se)?;
+    flag_line(out, "    MigReq      ", b.migreq)?;
+    decimal_line(out, "    PadCnt      ", b.pad as u64)?;
+    decimal_line(out, "    TVer        ", b.tver as u64)?;
+    bth_rest(out, b)
 }
 
-pub(crate) fn reth(r: Reth) {
-    text(b"  RETH\n");
-    hex_line(b"    address     ", r.address, 16);
-    hex_line(b"    R_Key       ", r.key as u64, 8);
-    decimal_line(b"    DMA length  ", r.length as u64);
+pub(crate) fn reth<W: Write>(out: &mut W, r: &Reth) -> io::Result<()> {
+    writeln!(out, "  RETH")?;
+    hex_line(out, "    address     ", r.address, 16)?;
+    hex_line(out, "    R_Key       ", r.key as u64, 8)?;
+    decimal_line(out, "    DMA length  ", r.length as u64)
 }
 
-pub(crate) fn atomic_eth(a: AtomicEth) {
-    text(b"  AtomicETH\n");
-    hex_line(b"    address     ", a.address, 16);
-    hex_line(b"    R_Key       ", a.key as u64, 8);
-    hex_line(b"    swap/add    ", a.swap, 16);
-    hex_line(b"    compare     ", a.compare, 16);
+pub(crate) fn atomic_eth<W: Write>(out: &mut W, a: &AtomicEth) -> io::Result<()> {
+    writeln!(out, "  AtomicETH")?;
+    hex_line(out, "    address     ", a.address, 16)?;
+    hex_line(out, "    R_Key       ", a.key as u64, 8)?;
+    hex_line(out, "    swap/add    ", a.swap, 16)?;
+    hex_line(out, "    compare     ", a.compare, 16)
 }
 
-pub(crate) fn aeth(a: Aeth) {
-    text(b"  AETH\n");
-    hex_line(b"    syndrome    ", a.syndrome as u64, 2);
-    let msn = a.msn;
-    decimal_line(b"    MSN         ", msn.0 as u64);
+pub(crate) fn aeth<W: Write>(out: &mut W, a: &Aeth) -> io::Result<()> {
+    writeln!(out, "  AETH")?;
+    hex_line(out, "    syndrome    ", a.syndrome as u64, 2)?;
+    decimal_line(out, "    MSN         ", a.msn.0 as u64)
 }
 
-pub(crate) fn atomic_ack_eth(original: u64) {
-    text(b"  AtomicAckETH\n");
-    hex_line(b"    original    ", original, 16);
+pub(crate) fn atomic_ack_eth<W: Write>(out: &mut W, original: u64) -> io::Result<()> {
+    writeln!(out, "  AtomicAckETH")?;
+    hex_line(out, "    original    ", original, 16)
 }
 
-pub(crate) fn immediate(data: u32) {
-    text(b"  Immediate\n");
-    hex_line(b"    data        ", data as u64, 8);
+pub(crate) fn immediate<W: Write>(out: &mut W, data: u32) -> io::Result<()> {
+    writeln!(out, "  Immediate")?;
+    hex_line(out, "    data        ", data as u64, 8)
 }

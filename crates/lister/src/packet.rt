@@ -1,38 +1,37 @@
 // One packet: its header's fields and what writing the header gives back, or why it is dropped.
 ghost use Rattle.std.specs.Prelude.{◌≡◌, true, take};
 
-use crate::print::{decimal, decimal_line, size, text};
+use crate::print::{decimal_line, size};
 use crate::{fields, words};
 use header::{Answer, Extension, Header, HeaderRead};
+use std::io::{self, Write};
 
-fn list_extension(e: Extension) {
+fn list_extension<W: Write>(out: &mut W, e: &Extension) -> io::Result<()> {
     match e {
-        Extension::Bare => {}
-        Extension::Remote(r) => fields::reth(r),
+        Extension::Bare => Ok(()),
+        Extension::Remote(r) => fields::reth(out, r),
         Extension::RemoteImmediate(r, i) => {
-            fields::reth(r);
-            fields::immediate(i)
+            fields::reth(out, r)?;
+            fields::immediate(out, *i)
         }
-        Extension::Immediate(i) => fields::immediate(i),
-        Extension::Atomic(a) => fields::atomic_eth(a),
-        Extension::Acknowledge(a) => fields::aeth(a),
+        Extension::Immediate(i) => fields::immediate(out, *i),
+        Extension::Atomic(a) => fields::atomic_eth(out, a),
+        Extension::Acknowledge(a) => fields::aeth(out, a),
         Extension::AtomicAcknowledge(a, v) => {
-            fields::aeth(a);
-            fields::atomic_ack_eth(v)
+            fields::aeth(out, a)?;
+            fields::atomic_ack_eth(out, *v)
         }
     }
 }
 
 // The bytes after the headers, the pad among them.
-fn list_payload(n: usize, pad: u8) {
-    text(b"  payload       ");
-    size(n as u64);
+fn list_payload<W: Write>(out: &mut W, n: usize, pad: u8) -> io::Result<()> {
+    write!(out, "  payload       ")?;
+    size(out, n)?;
     if n < pad as usize {
-        decimal_line(b", fewer than PadCnt ", pad as u64);
+        decimal_line(out, ", fewer than PadCnt ", pad as u64)
     } else {
-        text(b", of which ");
-        decimal(pad as u64);
-        text(b" pad\n");
+        writeln!(out, ", of which {pad} pad")
     }
 }
 
@@ -49,60 +48,57 @@ fn is_same(out: &[u8], n: usize, headers: usize, p: &[u8]) -> bool
     if p.len() < n {
         return false;
     }
-    check::same(&out[0..n], &p[0..n])
+    &out[0..n] == &p[0..n]
 }
 
-fn list_written(out: &[u8; 40], n: usize, headers: usize, p: &[u8]) {
-    let same = is_same(out, n, headers, p);
+fn list_written<W: Write>(
+    out: &mut W,
+    written: &[u8; 40],
+    n: usize,
+    headers: usize,
+    p: &[u8],
+) -> io::Result<()> {
+    let same = is_same(written, n, headers, p);
     if same {
-        text(b"same\n");
+        writeln!(out, "same")
     } else {
-        text(b"DIFFERENT\n");
+        writeln!(out, "DIFFERENT")
     }
 }
 
 // Writes the header to bytes again, and compares these with the packet's.
-fn write_back(h: Header, headers: usize, p: &[u8]) {
-    text(b"  written back  ");
-    let mut out = [0u8; 40];
-    match encode::write(h, &mut out) {
-        Answer::Done(n) => list_written(&out, n, headers, p),
-        Answer::Refused(code) => {
-            decimal_line(b"refused ", code as u64);
-        }
+fn write_back<W: Write>(out: &mut W, h: Header, headers: usize, p: &[u8]) -> io::Result<()> {
+    write!(out, "  written back  ")?;
+    let mut written = [0u8; 40];
+    match encode::write(h, &mut written) {
+        Answer::Done(n) => list_written(out, &written, n, headers, p),
+        Answer::Refused(code) => decimal_line(out, "refused ", code as u64),
     }
 }
 
-fn list_header(h: Header, p: &[u8]) {
-    let bth = h.bth;
-    let extension = h.extension;
-    let class = opcode::class(bth.opcode);
-    fields::bth(bth, class);
-    list_extension(extension);
+fn list_header<W: Write>(out: &mut W, h: Header, p: &[u8]) -> io::Result<()> {
+    let class = opcode::class(h.bth.opcode);
     let headers = class.length;
+    fields::bth(out, &h.bth, class)?;
+    list_extension(out, &h.extension)?;
     if headers <= p.len() {
-        list_payload(p.len() - headers, bth.pad);
+        list_payload(out, p.len() - headers, h.bth.pad)?;
     }
-    write_back(h, headers, p);
+    write_back(out, h, headers, p)
 }
 
-fn list_drop(check: u8) {
-    text(b"  dropped       check ");
-    decimal(check as u64);
-    text(b": ");
-    words::check_words(check);
-    text(b"\n");
+fn list_drop<W: Write>(out: &mut W, check: u8) -> io::Result<()> {
+    let words = words::check_words(check);
+    writeln!(out, "  dropped       check {check}: {words}")
 }
 
 // Lists a packet of any bytes.
-pub(crate) fn list(number: u64, p: &[u8]) {
-    text(b"packet ");
-    decimal(number);
-    text(b", ");
-    size(p.len() as u64);
-    text(b"\n");
+pub(crate) fn list<W: Write>(out: &mut W, number: u64, p: &[u8]) -> io::Result<()> {
+    write!(out, "packet {number}, ")?;
+    size(out, p.len())?;
+    writeln!(out)?;
     match decode::read(p) {
-        HeaderRead::Accepted(h) => list_header(h, p),
-        HeaderRead::Dropped(check) => list_drop(check),
+        HeaderRead::Accepted(h) => list_header(out, h, p),
+        HeaderRead::Dropped(check) => list_drop(out, check),
     }
 }

@@ -1,28 +1,28 @@
 // Numbers in words: an opcode's, and that of the check that dropped a packet.
-use crate::print::text;
 use header::reason;
 use opcode::OpcodeClass;
+use std::io::{self, Write};
 
 // No packet that reads has another service.
-fn service(n: u8) {
+fn service(n: u8) -> &'static str {
     match n {
-        opcode::RC => text(b"RC "),
-        opcode::UC => text(b"UC "),
-        _ => text(b"other "),
+        opcode::RC => "RC ",
+        opcode::UC => "UC ",
+        _ => "other ",
     }
 }
 
-fn kind(n: u8) {
+fn kind(n: u8) -> &'static str {
     match n {
-        opcode::SEND => text(b"SEND"),
-        opcode::WRITE => text(b"RDMA WRITE"),
-        opcode::READ => text(b"RDMA READ request"),
-        opcode::READ_RESPONSE => text(b"RDMA READ response"),
-        opcode::ACKNOWLEDGE => text(b"Acknowledge"),
-        opcode::ATOMIC_ACKNOWLEDGE => text(b"Atomic Acknowledge"),
-        opcode::CMP_SWAP => text(b"CmpSwap"),
-        opcode::FETCH_ADD => text(b"FetchAdd"),
-        _ => text(b"reserved"),
+        opcode::SEND => "SEND",
+        opcode::WRITE => "RDMA WRITE",
+        opcode::READ => "RDMA READ request",
+        opcode::READ_RESPONSE => "RDMA READ response",
+        opcode::ACKNOWLEDGE => "Acknowledge",
+        opcode::ATOMIC_ACKNOWLEDGE => "Atomic Acknowledge",
+        opcode::CMP_SWAP => "CmpSwap",
+        opcode::FETCH_ADD => "FetchAdd",
+        _ => "reserved",
     }
 }
 
@@ -35,40 +35,44 @@ fn has_places(kind: u8) -> bool {
     }
 }
 
-fn place(n: u8) {
+fn place(n: u8) -> &'static str {
     match n {
-        opcode::FIRST => text(b" First"),
-        opcode::MIDDLE => text(b" Middle"),
-        opcode::LAST => text(b" Last"),
-        _ => text(b" Only"),
+        opcode::FIRST => " First",
+        opcode::MIDDLE => " Middle",
+        opcode::LAST => " Last",
+        _ => " Only",
     }
 }
 
-fn immediate(follows: u8) {
+fn immediate(follows: u8) -> &'static str {
     match follows {
-        opcode::IMMEDIATE => text(b" with Immediate"),
-        opcode::RETH_IMMEDIATE => text(b" with Immediate"),
-        _ => {}
+        opcode::IMMEDIATE => " with Immediate",
+        opcode::RETH_IMMEDIATE => " with Immediate",
+        _ => "",
     }
 }
 
-pub(crate) fn opcode_words(n: u8, class: OpcodeClass) {
-    service(n / opcode::PER_SERVICE);
-    kind(class.kind);
+pub(crate) fn opcode_words<W: Write>(out: &mut W, n: u8, class: OpcodeClass) -> io::Result<()> {
+    write!(
+        out,
+        "{}{}",
+        service(n / opcode::PER_SERVICE),
+        kind(class.kind)
+    )?;
     let stored = has_places(class.kind);
     if stored {
-        place(class.place);
+        write!(out, "{}", place(class.place))?;
     }
-    immediate(class.follows);
+    write!(out, "{}", immediate(class.follows))
 }
 
 // Why reading dropped a packet.
-pub(crate) fn check_words(n: u8) {
+pub(crate) fn check_words(n: u8) -> &'static str {
     match n {
-        reason::LENGTH => text(b"length, not 12 to 4,128 bytes or no multiple of 4"),
-        reason::VERSION => text(b"transport version, not 0"),
-        reason::SERVICE => text(b"service, neither RC nor UC"),
-        reason::SHORT => text(b"too short for its headers"),
-        _ => text(b"other"),
+        reason::LENGTH => "length, not 12 to 4,128 bytes or no multiple of 4",
+        reason::VERSION => "transport version, not 0",
+        reason::SERVICE => "service, neither RC nor UC",
+        reason::SHORT => "too short for its headers",
+        _ => "other",
     }
 }

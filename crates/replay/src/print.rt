@@ -1,25 +1,12 @@
-// Lines on standard output.
-use libc::STDOUT_FILENO;
+// Lines on standard output. Each is there before the next record is read.
+use std::io::{self, Write};
 
-pub(crate) fn text(s: &[u8]) {
-    io::write_all(STDOUT_FILENO, s);
+pub(crate) fn answer<W: Write>(out: &mut W, number: u8, expected: u32, msn: u32) -> io::Result<()> {
+    writeln!(out, "{number} {expected} {msn}")?;
+    out.flush()
 }
 
-fn decimal(n: u64) {
-    io::print_decimal(STDOUT_FILENO, n);
-}
-
-pub(crate) fn answer(number: u8, expected: u32, msn: u32) {
-    decimal(number as u64);
-    text(b" ");
-    decimal(expected as u64);
-    text(b" ");
-    decimal(msn as u64);
-    text(b"\n");
-}
-
-pub(crate) fn end(whole: u64) {
-    text(b"end ");
-    decimal(whole);
-    text(b"\n");
+pub(crate) fn end<W: Write>(out: &mut W, whole: u64) -> io::Result<()> {
+    writeln!(out, "end {whole}")?;
+    out.flush()
 }

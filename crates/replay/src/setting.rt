@@ -36,8 +36,7 @@ fn region() -> Region {
 // Posts entries 0 to 15, of 128 bytes each.
 fn post_entries(start: Pair, entries: &mut [[u64; 3]; table::ENTRIES]) -> Pair {
     let mut pair = start;
-    let mut i: u64 = 0;
-    while i < 16 {
+    for i in 0..16u64 {
         let entry = Entry {
             number: i,
             offset: 2048 + 128 * i,
@@ -45,7 +44,6 @@ fn post_entries(start: Pair, entries: &mut [[u64; 3]; table::ENTRIES]) -> Pair {
         };
         let o = host_calls::post_entry(pair, entries, entry);
         pair = o.pair;
-        i += 1;
     }
     pair
 }
