@@ -9,4 +9,4 @@ returns-then-w-lt-PAIR c = simp (lt-leb _ _ c.if-w-lt-PAIR.true, lt-ltb _ _ c.if
 pub returns : goal.returns
 unfolding said_by
 returns c =
-                simp (le-ltb _ _ c.if-w-lt-PAIR.false, le-leb _ _ c.if-w-lt-PAIR.false, ← c.setup_said-setup.ensures, ← c.message_of-message.ensures, ← c.low4.ensures, ← c.read_of-read.ensures, ← c.low4-2.ensures, ← c.low24.ensures, ← c.low24-2.ensures, ← c.low8.ensures, ← c.flag.ensures)
+    simp (le-ltb _ _ c.if-w-lt-PAIR.false, le-leb _ _ c.if-w-lt-PAIR.false, ← c.setup_said-setup.ensures, ← c.message_of-message.ensures, ← c.low4.ensures, ← c.read_of-read.ensures, ← c.low4-2.ensures, ← c.low24.ensures, ← c.low24-2.ensures, ← c.low8.ensures, ← c.flag.ensures)

@@ -11,17 +11,17 @@ returns-then-w-ne-PAIR c = simp (ne_eqb _ _ c.if-w-ne-PAIR.true)
 pub returns-then-a : goal.returns-then-a
 unfolding strays other_length
 returns-then-a c =
-                simp (eq-eqb _ _ c.if-w-ne-PAIR.false, ← c.numbers_stray-a.ensures, ← c.flags_stray-b.ensures, ← c.heads_stray-c.ensures, ← c.fields_stray-d.ensures, c.if-a.true)
+    simp (eq-eqb _ _ c.if-w-ne-PAIR.false, ← c.numbers_stray-a.ensures, ← c.flags_stray-b.ensures, ← c.heads_stray-c.ensures, ← c.fields_stray-d.ensures, c.if-a.true)
 
 pub returns-then-b : goal.returns-then-b
 unfolding strays other_length
 returns-then-b c =
-                    simp (eq-eqb _ _ c.if-w-ne-PAIR.false, ← c.numbers_stray-a.ensures, ← c.flags_stray-b.ensures, ← c.heads_stray-c.ensures, ← c.fields_stray-d.ensures, c.if-a.false, c.if-b.true)
+    simp (eq-eqb _ _ c.if-w-ne-PAIR.false, ← c.numbers_stray-a.ensures, ← c.flags_stray-b.ensures, ← c.heads_stray-c.ensures, ← c.fields_stray-d.ensures, c.if-a.false, c.if-b.true)
 
 pub returns-then-c : goal.returns-then-c
 unfolding strays other_length
 returns-then-c c =
-                        simp (eq-eqb _ _ c.if-w-ne-PAIR.false, ← c.numbers_stray-a.ensures, ← c.flags_stray-b.ensures, ← c.heads_stray-c.ensures, ← c.fields_stray-d.ensures, c.if-a.false, c.if-b.false, c.if-c.true)
+    simp (eq-eqb _ _ c.if-w-ne-PAIR.false, ← c.numbers_stray-a.ensures, ← c.flags_stray-b.ensures, ← c.heads_stray-c.ensures, ← c.fields_stray-d.ensures, c.if-a.false, c.if-b.false, c.if-c.true)
 
 pub returns : goal.returns
 unfolding strays other_length

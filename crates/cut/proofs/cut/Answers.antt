@@ -12,15 +12,15 @@ returns-then-code-ne0 c =
 
 pub slice_bounds-write-count : goal.slice_bounds-write-count
 slice_bounds-write-count c =
-        (range_inside c.args.request _ _ _ _ _ c.carried_length-carried.ensures c.part-part.ensures).0
+    (range_inside c.args.request _ _ _ _ _ c.carried_length-carried.ensures c.part-part.ensures).0
 
 pub slice_bounds-write-start : goal.slice_bounds-write-start
 slice_bounds-write-start c =
-        (range_inside c.args.request _ _ _ _ _ c.carried_length-carried.ensures c.part-part.ensures).0
+    (range_inside c.args.request _ _ _ _ _ c.carried_length-carried.ensures c.part-part.ensures).0
 
 pub slice_bounds-write-end : goal.slice_bounds-write-end
 slice_bounds-write-end c =
-        (range_inside c.args.request _ _ _ _ _ c.carried_length-carried.ensures c.part-part.ensures).1
+    (range_inside c.args.request _ _ _ _ _ c.carried_length-carried.ensures c.part-part.ensures).1
 
 pub returns : goal.returns
 returns c =

@@ -26,7 +26,7 @@ pub overflow_cast-count : goal.overflow_cast-count
 overflow_cast-count c =
     omega (
       arith,
-                count-passed _ c.args.pmtu _ _ c.length_refusal-code.ensures c.if-code-ne0.false c.count-count.ensures,
+      count-passed _ c.args.pmtu _ _ c.length_refusal-code.ensures c.if-code-ne0.false c.count-count.ensures,
     )
 
 pub returns : goal.returns

@@ -10,14 +10,14 @@ returns-then-bad c = simp (← c.carries-carrying.ensures, ← c.unfit-bad.ensur
 pub returns-then-whole-gt-MESSAGE_LIMIT : goal.returns-then-whole-gt-MESSAGE_LIMIT
 unfolding cut_refusal packets_of
 returns-then-whole-gt-MESSAGE_LIMIT c =
-        simp (← c.carries-carrying.ensures, ← c.unfit-bad.ensures, c.if-bad.false, ← c.message_length-whole.ensures, lt-ltb _ _ c.if-whole-gt-MESSAGE_LIMIT.true)
+    simp (← c.carries-carrying.ensures, ← c.unfit-bad.ensures, c.if-bad.false, ← c.message_length-whole.ensures, lt-ltb _ _ c.if-whole-gt-MESSAGE_LIMIT.true)
 
 pub returns-then-count-index : goal.returns-then-count-index
 unfolding cut_refusal packets_of
 returns-then-count-index c =
-            simp (← c.carries-carrying.ensures, ← c.unfit-bad.ensures, c.if-bad.false, ← c.message_length-whole.ensures, le-ltb _ _ c.if-whole-gt-MESSAGE_LIMIT.false, ← c.carried_length-carried.ensures, ← c.count-count.ensures, le-leb _ _ c.if-count-index.true)
+    simp (← c.carries-carrying.ensures, ← c.unfit-bad.ensures, c.if-bad.false, ← c.message_length-whole.ensures, le-ltb _ _ c.if-whole-gt-MESSAGE_LIMIT.false, ← c.carried_length-carried.ensures, ← c.count-count.ensures, le-leb _ _ c.if-count-index.true)
 
 pub returns : goal.returns
 unfolding cut_refusal packets_of
 returns c =
-            simp (← c.carries-carrying.ensures, ← c.unfit-bad.ensures, c.if-bad.false, ← c.message_length-whole.ensures, le-ltb _ _ c.if-whole-gt-MESSAGE_LIMIT.false, ← c.carried_length-carried.ensures, ← c.count-count.ensures, lt-leb _ _ c.if-count-index.false)
+    simp (← c.carries-carrying.ensures, ← c.unfit-bad.ensures, c.if-bad.false, ← c.message_length-whole.ensures, le-ltb _ _ c.if-whole-gt-MESSAGE_LIMIT.false, ← c.carried_length-carried.ensures, ← c.count-count.ensures, lt-leb _ _ c.if-count-index.false)

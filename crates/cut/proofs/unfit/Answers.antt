@@ -11,17 +11,17 @@ returns-then-uncut c = simp (← c.pmtu_unfit-uncut.ensures, c.if-uncut.true)
 pub returns-then-other : goal.returns-then-other
 unfolding cut_unfit
 returns-then-other c =
-        simp (← c.pmtu_unfit-uncut.ensures, c.if-uncut.false, ← c.other_service-other.ensures, c.if-other.true)
+    simp (← c.pmtu_unfit-uncut.ensures, c.if-uncut.false, ← c.other_service-other.ensures, c.if-other.true)
 
 pub returns-then-connection-ge-QPN_SPACE : goal.returns-then-connection-ge-QPN_SPACE
 unfolding cut_unfit
 returns-then-connection-ge-QPN_SPACE c =
-        simp (← c.pmtu_unfit-uncut.ensures, c.if-uncut.false, ← c.other_service-other.ensures, c.if-other.false, le-leb _ _ c.if-connection-ge-QPN_SPACE.true)
+    simp (← c.pmtu_unfit-uncut.ensures, c.if-uncut.false, ← c.other_service-other.ensures, c.if-other.false, le-leb _ _ c.if-connection-ge-QPN_SPACE.true)
 
 pub returns-then-first-ge-SPACE : goal.returns-then-first-ge-SPACE
 unfolding cut_unfit
 returns-then-first-ge-SPACE c =
-            simp (tested, ← c.pmtu_unfit-uncut.ensures, c.if-uncut.false, ← c.other_service-other.ensures, c.if-other.false, c.if-connection-ge-QPN_SPACE.false, c.if-first-ge-SPACE.true)
+    simp (tested, ← c.pmtu_unfit-uncut.ensures, c.if-uncut.false, ← c.other_service-other.ensures, c.if-other.false, c.if-connection-ge-QPN_SPACE.false, c.if-first-ge-SPACE.true)
 
 pub returns : goal.returns
 returns c =

@@ -5,7 +5,7 @@ use Rattle.decide.proofs.decision.Goals as goal
 
 pub returns-then-none : goal.returns-then-none
 returns-then-none c =
-        simp (← c.unformed-none.ensures, c.if-none.true, ← c.no_reply.ensures)
+    simp (← c.unformed-none.ensures, c.if-none.true, ← c.no_reply.ensures)
 
 pub returns-in-Expected : goal.returns-in-Expected
 returns-in-Expected c =

@@ -26,7 +26,7 @@ returns-then-why-ne0 c =
 
 pub operands_of-operands-requires : goal.operands_of-operands-requires
 operands_of-operands-requires c =
-        room-of-class c.class-class.result _ _ c.class-class.ensures (room-left _ _ _ _ _ _ _ (sym c.bth_reason-why.ensures ∙ c.if-why-ne0.false))
+    room-of-class c.class-class.result _ _ c.class-class.ensures (room-left _ _ _ _ _ _ _ (sym c.bth_reason-why.ensures ∙ c.if-why-ne0.false))
 
 pub returns : goal.returns
 returns c =

@@ -9,24 +9,24 @@ returns-then-off c = simp (← c.not_enabled-off.ensures, c.if-off.true)
 pub returns-then-long : goal.returns-then-long
 unfolding duplicate_read_fails
 returns-then-long c =
-        simp (← c.not_enabled-off.ensures, c.if-off.false, ← c.over_limit-long.ensures, c.if-long.true)
+    simp (← c.not_enabled-off.ensures, c.if-off.false, ← c.over_limit-long.ensures, c.if-long.true)
 
 pub returns-then-p-ne0 : goal.returns-then-p-ne0
 unfolding duplicate_read_fails
 returns-then-p-ne0 c =
-        simp (← c.not_enabled-off.ensures, c.if-off.false, ← c.over_limit-long.ensures, c.if-long.false, ne_eqb _ _ c.if-p-ne0.true)
+    simp (← c.not_enabled-off.ensures, c.if-off.false, ← c.over_limit-long.ensures, c.if-long.false, ne_eqb _ _ c.if-p-ne0.true)
 
 pub returns-then-p-ne0-2 : goal.returns-then-p-ne0-2
 unfolding duplicate_read_fails
 returns-then-p-ne0-2 c =
-            simp (← c.not_enabled-off.ensures, c.if-off.false, ← c.over_limit-long.ensures, c.if-long.false, eq-eqb _ _ c.if-p-ne0.false, ne_eqb _ _ c.if-p-ne0-2.true)
+    simp (← c.not_enabled-off.ensures, c.if-off.false, ← c.over_limit-long.ensures, c.if-long.false, eq-eqb _ _ c.if-p-ne0.false, ne_eqb _ _ c.if-p-ne0-2.true)
 
 pub returns-then-lacking : goal.returns-then-lacking
 unfolding duplicate_read_fails
 returns-then-lacking c =
-            simp (← c.not_enabled-off.ensures, c.if-off.false, ← c.over_limit-long.ensures, c.if-long.false, eq-eqb _ _ c.if-p-ne0.false, eq-eqb _ _ c.if-p-ne0-2.false, ← c.key_fails-lacking.ensures, c.if-lacking.true)
+    simp (← c.not_enabled-off.ensures, c.if-off.false, ← c.over_limit-long.ensures, c.if-long.false, eq-eqb _ _ c.if-p-ne0.false, eq-eqb _ _ c.if-p-ne0-2.false, ← c.key_fails-lacking.ensures, c.if-lacking.true)
 
 pub returns : goal.returns
 unfolding duplicate_read_fails
 returns c =
-                simp (← c.not_enabled-off.ensures, c.if-off.false, ← c.over_limit-long.ensures, c.if-long.false, eq-eqb _ _ c.if-p-ne0.false, eq-eqb _ _ c.if-p-ne0-2.false, ← c.key_fails-lacking.ensures, c.if-lacking.false, ← c.distance-behind.ensures, ← c.count-count.ensures, ← c.u32_to_usize.ensures)
+    simp (← c.not_enabled-off.ensures, c.if-off.false, ← c.over_limit-long.ensures, c.if-long.false, eq-eqb _ _ c.if-p-ne0.false, eq-eqb _ _ c.if-p-ne0-2.false, ← c.key_fails-lacking.ensures, c.if-lacking.false, ← c.distance-behind.ensures, ← c.count-count.ensures, ← c.u32_to_usize.ensures)

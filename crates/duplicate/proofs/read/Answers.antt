@@ -8,10 +8,10 @@ use Rattle.duplicate.proofs.read.Goals as goal
 pub duplicate_read-requires : goal.duplicate_read-requires
 unfolding single
 duplicate_read-requires c =
-        subst (λ x. x.stored ≡ 0) (sym c.current-m.ensures)
+    subst (λ x. x.stored ≡ 0) (sym c.current-m.ensures)
     (none-stored-yet c.args.pair.message c.args.p c.requires.p_value (ap single c.requires.kind_value))
 
 pub returns : goal.returns
 unfolding region_for
 returns c =
-            simp (ap (λ k. eqb k 0) c.requires.kind_value, ← c.current-m.ensures, ← c.region_of-region.ensures, ← c.duplicate_read.ensures)
+    simp (ap (λ k. eqb k 0) c.requires.kind_value, ← c.current-m.ensures, ← c.region_of-region.ensures, ← c.duplicate_read.ensures)

@@ -15,7 +15,7 @@ returns-then-out-class c =
 
 pub write_extension-requires : goal.write_extension-requires
 write_extension-requires c =
-            room c.args.h c.args.out.now _ c.unfit-none.ensures c.if-none.false _ c.class-class.ensures _ _ c.if-out-class.false c.store.ensures
+    room c.args.h c.args.out.now _ c.unfit-none.ensures c.if-none.false _ c.class-class.ensures _ _ c.if-out-class.false c.store.ensures
 
 pub returns : goal.returns
 returns c =

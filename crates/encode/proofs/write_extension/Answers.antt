@@ -10,12 +10,12 @@ use Rattle.encode.proofs.write_extension.Goals as goal
 pub returns-in-Bare : goal.returns-in-Bare
 unfolding extension_bytes
 returns-in-Bare c =
-        simp (c.in-Bare.is, ← c.store.ensures)
+    simp (c.in-Bare.is, ← c.store.ensures)
 
 pub returns-in-Remote : goal.returns-in-Remote
 unfolding extension_bytes
 returns-in-Remote c =
-        simp (c.in-Remote.is, ← c.reth_bytes-b.ensures, ← c.store-in-Remote.ensures)
+    simp (c.in-Remote.is, ← c.reth_bytes-b.ensures, ← c.store-in-Remote.ensures)
 
 pub returns-in-RemoteImmediate : goal.returns-in-RemoteImmediate
 unfolding extension_bytes reth_bytes
@@ -29,17 +29,17 @@ returns-in-RemoteImmediate c =
 pub returns-in-Immediate : goal.returns-in-Immediate
 unfolding extension_bytes
 returns-in-Immediate c =
-        simp (c.in-Immediate.is, ← c.immediate_bytes-b.ensures, ← c.store-in-Immediate.ensures)
+    simp (c.in-Immediate.is, ← c.immediate_bytes-b.ensures, ← c.store-in-Immediate.ensures)
 
 pub returns-in-Atomic : goal.returns-in-Atomic
 unfolding extension_bytes
 returns-in-Atomic c =
-        simp (c.in-Atomic.is, ← c.atomic_bytes-b.ensures, ← c.store-in-Atomic.ensures)
+    simp (c.in-Atomic.is, ← c.atomic_bytes-b.ensures, ← c.store-in-Atomic.ensures)
 
 pub returns-in-Acknowledge : goal.returns-in-Acknowledge
 unfolding extension_bytes
 returns-in-Acknowledge c =
-        simp (c.in-Acknowledge.is, ← c.aeth_bytes-b.ensures, ← c.store-in-Acknowledge.ensures)
+    simp (c.in-Acknowledge.is, ← c.aeth_bytes-b.ensures, ← c.store-in-Acknowledge.ensures)
 
 pub returns-in-AtomicAcknowledge : goal.returns-in-AtomicAcknowledge
 unfolding extension_bytes aeth_bytes

@@ -19,22 +19,22 @@ returns-then-carries c =
 
 pub returns-then-uc : goal.returns-then-uc
 returns-then-uc c =
-        c.no_reply.ensures ∙ none _ _ _ _ _ _ _ _ c.if-uc.true (sym c.carrying-carries.ensures ∙ c.if-carries.false)
+    c.no_reply.ensures ∙ none _ _ _ _ _ _ _ _ c.if-uc.true (sym c.carrying-carries.ensures ∙ c.if-carries.false)
 
 pub accept_read-requires : goal.accept_read-requires
 accept_read-requires c =
-        c.requires.own (sym c.carrying-carries.ensures ∙ c.if-carries.false)
+    c.requires.own (sym c.carrying-carries.ensures ∙ c.if-carries.false)
 
 pub returns-then-p-eq-READ : goal.returns-then-p-eq-READ
 unfolding execute
 returns-then-p-eq-READ c =
-        bare _ _ _ _ _ _ _ _ _ c.if-uc.false (simp (← c.carrying-carries.ensures, c.if-carries.false, eq-eqb _ _ c.if-p-eq-READ.true, ← c.accept_read.ensures))
+    bare _ _ _ _ _ _ _ _ _ c.if-uc.false (simp (← c.carrying-carries.ensures, c.if-carries.false, eq-eqb _ _ c.if-p-eq-READ.true, ← c.accept_read.ensures))
 
 pub run_atomic-requires : goal.run_atomic-requires
 run_atomic-requires c =
-        c.requires.own (sym c.carrying-carries.ensures ∙ c.if-carries.false)
+    c.requires.own (sym c.carrying-carries.ensures ∙ c.if-carries.false)
 
 pub returns : goal.returns
 unfolding execute
 returns c =
-        bare _ _ _ _ _ _ _ _ _ c.if-uc.false (simp (← c.carrying-carries.ensures, c.if-carries.false, ne_eqb _ _ c.if-p-eq-READ.false, ← c.run_atomic.ensures))
+    bare _ _ _ _ _ _ _ _ _ c.if-uc.false (simp (← c.carrying-carries.ensures, c.if-carries.false, ne_eqb _ _ c.if-p-eq-READ.false, ← c.run_atomic.ensures))

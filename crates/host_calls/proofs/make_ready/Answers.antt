@@ -10,9 +10,9 @@ returns-then-pair-ne-INIT c = simp (ne_eqb _ _ c.if-pair-ne-INIT.true, ← c.out
 pub returns-then-bad : goal.returns-then-bad
 unfolding made_ready ready_status executed status_number
 returns-then-bad c =
-        simp (eq-eqb _ _ c.if-pair-ne-INIT.false, ← c.unsound-bad.ensures, c.if-bad.true, ← c.outcome-then-bad.ensures)
+    simp (eq-eqb _ _ c.if-pair-ne-INIT.false, ← c.unsound-bad.ensures, c.if-bad.true, ← c.outcome-then-bad.ensures)
 
 pub returns : goal.returns
 unfolding made_ready ready_status executed status_number
 returns c =
-        simp (eq-eqb _ _ c.if-pair-ne-INIT.false, ← c.unsound-bad.ensures, c.if-bad.false, ← c.outcome-2.ensures)
+    simp (eq-eqb _ _ c.if-pair-ne-INIT.false, ← c.unsound-bad.ensures, c.if-bad.false, ← c.outcome-2.ensures)

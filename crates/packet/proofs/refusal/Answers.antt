@@ -18,26 +18,26 @@ unfolding refusal_by
 returns-then-headers-gt-PACKET_LIMIT c =
     let A = c.args in
     let fact = lt-ltb 4128 (A.headers + (A.n + c.pad-own.result)) (omega arith) in
-        simp (c.if-unfit.false, ← c.pad-own.ensures, eq-eqb _ _ c.if-padcnt-own.false, fact)
+    simp (c.if-unfit.false, ← c.pad-own.ensures, eq-eqb _ _ c.if-padcnt-own.false, fact)
 
 pub returns-then-n-gt-PACKET_LIMIT : goal.returns-then-n-gt-PACKET_LIMIT
 unfolding refusal_by
 returns-then-n-gt-PACKET_LIMIT c =
     let A = c.args in
     let fact = lt-ltb 4128 (A.headers + (A.n + c.pad-own.result)) (omega arith) in
-        simp (c.if-unfit.false, ← c.pad-own.ensures, eq-eqb _ _ c.if-padcnt-own.false, fact)
+    simp (c.if-unfit.false, ← c.pad-own.ensures, eq-eqb _ _ c.if-padcnt-own.false, fact)
 
 pub returns-then-size-gt-PACKET_LIMIT : goal.returns-then-size-gt-PACKET_LIMIT
 unfolding refusal_by
 returns-then-size-gt-PACKET_LIMIT c =
-        simp (tested, c.if-unfit.false, ← c.pad-own.ensures, eq-eqb _ _ c.if-padcnt-own.false, c.if-size-gt-PACKET_LIMIT.true)
+    simp (tested, c.if-unfit.false, ← c.pad-own.ensures, eq-eqb _ _ c.if-padcnt-own.false, c.if-size-gt-PACKET_LIMIT.true)
 
 pub returns-then-room-size : goal.returns-then-room-size
 unfolding refusal_by
 returns-then-room-size c =
-            simp (c.if-unfit.false, ← c.pad-own.ensures, eq-eqb _ _ c.if-padcnt-own.false, le-ltb _ _ c.if-size-gt-PACKET_LIMIT.false, lt-ltb _ _ c.if-room-size.true)
+    simp (c.if-unfit.false, ← c.pad-own.ensures, eq-eqb _ _ c.if-padcnt-own.false, le-ltb _ _ c.if-size-gt-PACKET_LIMIT.false, lt-ltb _ _ c.if-room-size.true)
 
 pub returns : goal.returns
 unfolding refusal_by
 returns c =
-            simp (c.if-unfit.false, ← c.pad-own.ensures, eq-eqb _ _ c.if-padcnt-own.false, le-ltb _ _ c.if-size-gt-PACKET_LIMIT.false, le-ltb _ _ c.if-room-size.false)
+    simp (c.if-unfit.false, ← c.pad-own.ensures, eq-eqb _ _ c.if-padcnt-own.false, le-ltb _ _ c.if-size-gt-PACKET_LIMIT.false, le-ltb _ _ c.if-room-size.false)

@@ -5,8 +5,8 @@ returns-then-lacking c = simp (← c.key_fails-lacking.ensures, c.if-lacking.tru
 
 pub returns-then-bad : goal.returns-then-bad
 returns-then-bad c =
-        simp (← c.key_fails-lacking.ensures, c.if-lacking.false, ← c.lengths_off-bad.ensures, c.if-bad.true)
+    simp (← c.key_fails-lacking.ensures, c.if-lacking.false, ← c.lengths_off-bad.ensures, c.if-bad.true)
 
 pub returns : goal.returns
 returns c =
-        simp (← c.key_fails-lacking.ensures, c.if-lacking.false, ← c.lengths_off-bad.ensures, c.if-bad.false)
+    simp (← c.key_fails-lacking.ensures, c.if-lacking.false, ← c.lengths_off-bad.ensures, c.if-bad.false)

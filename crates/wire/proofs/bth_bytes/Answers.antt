@@ -4,4 +4,4 @@ use Rattle.wire.proofs.bth_bytes.Goals as goal
 pub returns : goal.returns
 unfolding bth_bytes
 returns c =
-        simp (c.bit_of-se.ensures.value, c.bit_of-migreq.ensures.value, c.bit_of-ackreq.ensures.value)
+    simp (c.bit_of-se.ensures.value, c.bit_of-migreq.ensures.value, c.bit_of-ackreq.ensures.value)

@@ -39,7 +39,7 @@ be32-immediate-requires c = room c.args.follows 2 c.if-follows-eq-RETH_IMMEDIATE
 pub returns-then-follows-eq-RETH_IMMEDIATE : goal.returns-then-follows-eq-RETH_IMMEDIATE
 unfolding operands_of extension_of
 returns-then-follows-eq-RETH_IMMEDIATE c =
-        simp (ne_eqb _ _ c.if-follows-eq-RETH.false, eq-eqb _ _ c.if-follows-eq-RETH_IMMEDIATE.true, ← c.read_reth-reth-then-follows-eq-RETH_IMMEDIATE.ensures, ← c.be32-immediate.ensures, ← c.remote-then-follows-eq-RETH_IMMEDIATE.ensures)
+    simp (ne_eqb _ _ c.if-follows-eq-RETH.false, eq-eqb _ _ c.if-follows-eq-RETH_IMMEDIATE.true, ← c.read_reth-reth-then-follows-eq-RETH_IMMEDIATE.ensures, ← c.be32-immediate.ensures, ← c.remote-then-follows-eq-RETH_IMMEDIATE.ensures)
 
 pub be32-immediate-requires-then-follows-eq-IMMEDIATE : goal.be32-immediate-requires-then-follows-eq-IMMEDIATE
 unfolding length_of
@@ -48,7 +48,7 @@ be32-immediate-requires-then-follows-eq-IMMEDIATE c = room c.args.follows 3 c.if
 pub returns-then-follows-eq-IMMEDIATE : goal.returns-then-follows-eq-IMMEDIATE
 unfolding operands_of extension_of
 returns-then-follows-eq-IMMEDIATE c =
-        simp (ne_eqb _ _ c.if-follows-eq-RETH.false, ne_eqb _ _ c.if-follows-eq-RETH_IMMEDIATE.false, eq-eqb _ _ c.if-follows-eq-IMMEDIATE.true, ← c.be32-immediate-then-follows-eq-IMMEDIATE.ensures, ← c.alone.ensures)
+    simp (ne_eqb _ _ c.if-follows-eq-RETH.false, ne_eqb _ _ c.if-follows-eq-RETH_IMMEDIATE.false, eq-eqb _ _ c.if-follows-eq-IMMEDIATE.true, ← c.be32-immediate-then-follows-eq-IMMEDIATE.ensures, ← c.alone.ensures)
 
 pub read_atomic-atomic-requires : goal.read_atomic-atomic-requires
 unfolding length_of
@@ -57,7 +57,7 @@ read_atomic-atomic-requires c = room c.args.follows 4 c.if-follows-eq-ATOMIC_ETH
 pub returns-then-follows-eq-ATOMIC_ETH : goal.returns-then-follows-eq-ATOMIC_ETH
 unfolding operands_of extension_of
 returns-then-follows-eq-ATOMIC_ETH c =
-        simp (ne_eqb _ _ c.if-follows-eq-RETH.false, ne_eqb _ _ c.if-follows-eq-RETH_IMMEDIATE.false, ne_eqb _ _ c.if-follows-eq-IMMEDIATE.false, eq-eqb _ _ c.if-follows-eq-ATOMIC_ETH.true, ← c.read_atomic-atomic.ensures, ← c.exchanging.ensures)
+    simp (ne_eqb _ _ c.if-follows-eq-RETH.false, ne_eqb _ _ c.if-follows-eq-RETH_IMMEDIATE.false, ne_eqb _ _ c.if-follows-eq-IMMEDIATE.false, eq-eqb _ _ c.if-follows-eq-ATOMIC_ETH.true, ← c.read_atomic-atomic.ensures, ← c.exchanging.ensures)
 
 pub returns : goal.returns
 unfolding extension_of

@@ -10,7 +10,7 @@ counted-length-requires c = search rules
 pub returns-then-done : goal.returns-then-done
 unfolding completion_of payload_size
 returns-then-done c =
-        simp (← c.completes-done.ensures, c.if-done.true, ← c.saturating_sub-size.ensures, ← c.counted-length.ensures)
+    simp (← c.completes-done.ensures, c.if-done.true, ← c.saturating_sub-size.ensures, ← c.counted-length.ensures)
 
 pub returns : goal.returns
 unfolding completion_of payload_size

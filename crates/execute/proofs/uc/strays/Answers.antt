@@ -9,9 +9,9 @@ returns-then-begins c = simp (← c.starts-begins.ensures, c.if-begins.true)
 pub returns-then-away-ne0 : goal.returns-then-away-ne0
 unfolding strays
 returns-then-away-ne0 c =
-        simp (← c.starts-begins.ensures, c.if-begins.false, ← c.distance-away.ensures, ne_eqb _ _ c.if-away-ne0.true)
+    simp (← c.starts-begins.ensures, c.if-begins.false, ← c.distance-away.ensures, ne_eqb _ _ c.if-away-ne0.true)
 
 pub returns : goal.returns
 unfolding strays
 returns c =
-        simp (← c.starts-begins.ensures, c.if-begins.false, ← c.distance-away.ensures, eq-eqb _ _ c.if-away-ne0.false)
+    simp (← c.starts-begins.ensures, c.if-begins.false, ← c.distance-away.ensures, eq-eqb _ _ c.if-away-ne0.false)

@@ -13,4 +13,4 @@ returns-then-expected-ge-SPACE c = simp (le-ltb _ _ c.if-state-gt-ERROR.false, l
 pub returns : goal.returns
 unfolding counters_unsound
 returns c =
-        simp (le-ltb _ _ c.if-state-gt-ERROR.false, lt-leb _ _ c.if-expected-ge-SPACE.false)
+    simp (le-ltb _ _ c.if-state-gt-ERROR.false, lt-leb _ _ c.if-expected-ge-SPACE.false)

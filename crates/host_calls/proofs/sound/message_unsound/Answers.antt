@@ -18,14 +18,14 @@ returns-then-kind-ne-WRITE c = simp (ne_eqb _ _ c.if-kind-eq-CLOSED.false, ne_eq
 pub returns-then-length-stored : goal.returns-then-length-stored
 unfolding message_unsound write_unsound
 returns-then-length-stored c =
-        simp (ne_eqb _ _ c.if-kind-eq-CLOSED.false, ne_eqb _ _ c.if-kind-eq-SEND.false, eq-eqb _ _ c.if-kind-ne-WRITE.false, le-leb _ _ c.if-length-stored.true)
+    simp (ne_eqb _ _ c.if-kind-eq-CLOSED.false, ne_eqb _ _ c.if-kind-eq-SEND.false, eq-eqb _ _ c.if-kind-ne-WRITE.false, le-leb _ _ c.if-length-stored.true)
 
 pub returns-then-length-gt-LIMIT : goal.returns-then-length-gt-LIMIT
 unfolding message_unsound write_unsound
 returns-then-length-gt-LIMIT c =
-        simp (tested, c.if-kind-eq-CLOSED.false, c.if-kind-eq-SEND.false, eq-eqb _ _ c.if-kind-ne-WRITE.false, c.if-length-stored.false, c.if-length-gt-LIMIT.true)
+    simp (tested, c.if-kind-eq-CLOSED.false, c.if-kind-eq-SEND.false, eq-eqb _ _ c.if-kind-ne-WRITE.false, c.if-length-stored.false, c.if-length-gt-LIMIT.true)
 
 pub returns : goal.returns
 unfolding message_unsound write_unsound
 returns c =
-            simp (tested, c.if-kind-eq-CLOSED.false, c.if-kind-eq-SEND.false, eq-eqb _ _ c.if-kind-ne-WRITE.false, c.if-length-stored.false, c.if-length-gt-LIMIT.false, ← c.usize_to_u64.ensures, ← c.past_top.ensures)
+    simp (tested, c.if-kind-eq-CLOSED.false, c.if-kind-eq-SEND.false, eq-eqb _ _ c.if-kind-ne-WRITE.false, c.if-length-stored.false, c.if-length-gt-LIMIT.false, ← c.usize_to_u64.ensures, ← c.past_top.ensures)

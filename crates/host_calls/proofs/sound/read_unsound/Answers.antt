@@ -14,14 +14,14 @@ returns-then-count-remaining c = simp (ne_eqb _ _ c.if-remaining-eq0.false, ← 
 pub returns-then-off : goal.returns-then-off
 unfolding read_unsound
 returns-then-off c =
-        simp (ne_eqb _ _ c.if-remaining-eq0.false, ← c.count.ensures, le-ltb _ _ c.if-count-remaining.false, ← c.outside-off.ensures, c.if-off.true)
+    simp (ne_eqb _ _ c.if-remaining-eq0.false, ← c.count.ensures, le-ltb _ _ c.if-count-remaining.false, ← c.outside-off.ensures, c.if-off.true)
 
 pub returns-then-psn-ge-SPACE : goal.returns-then-psn-ge-SPACE
 unfolding read_unsound
 returns-then-psn-ge-SPACE c =
-            simp (tested, c.if-remaining-eq0.false, ← c.count.ensures, c.if-count-remaining.false, ← c.outside-off.ensures, c.if-off.false, c.if-psn-ge-SPACE.true)
+    simp (tested, c.if-remaining-eq0.false, ← c.count.ensures, c.if-count-remaining.false, ← c.outside-off.ensures, c.if-off.false, c.if-psn-ge-SPACE.true)
 
 pub returns : goal.returns
 unfolding read_unsound
 returns c =
-            simp (tested, c.if-remaining-eq0.false, ← c.count.ensures, c.if-count-remaining.false, ← c.outside-off.ensures, c.if-off.false, c.if-psn-ge-SPACE.false)
+    simp (tested, c.if-remaining-eq0.false, ← c.count.ensures, c.if-count-remaining.false, ← c.outside-off.ensures, c.if-off.false, c.if-psn-ge-SPACE.false)

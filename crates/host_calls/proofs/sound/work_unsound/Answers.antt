@@ -12,4 +12,4 @@ returns-then-m c = simp (c.if-numbers.false, ← c.message_unsound-m.ensures, c.
 pub returns : goal.returns
 unfolding work_unsound
 returns c =
-        simp (c.if-numbers.false, ← c.message_unsound-m.ensures, c.if-m.false, ← c.read_unsound.ensures)
+    simp (c.if-numbers.false, ← c.message_unsound-m.ensures, c.if-m.false, ← c.read_unsound.ensures)

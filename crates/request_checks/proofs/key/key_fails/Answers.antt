@@ -23,7 +23,7 @@ overflow_add-m c =
     let A = c.args in
     omega (
       arith,
-                below_top A.m.address c.usize_to_u64-stored.result c.past_top-top.result c.past_top-top.ensures c.if-top.false,
+      below_top A.m.address c.usize_to_u64-stored.result c.past_top-top.result c.past_top-top.ensures c.if-top.false,
     )
 
 pub returns : goal.returns

@@ -9,14 +9,14 @@ returns-then-p c = simp (lt-ltb _ _ c.if-p.true)
 pub returns-then-off : goal.returns-then-off
 unfolding lengths_off payload_size
 returns-then-off c =
-        simp (le-ltb _ _ c.if-p.false, ← c.carrying-carries.ensures, c.if-carries.true, ← c.size_off-off.ensures, c.if-off.true)
+    simp (le-ltb _ _ c.if-p.false, ← c.carrying-carries.ensures, c.if-carries.true, ← c.size_off-off.ensures, c.if-off.true)
 
 pub returns-then-carries : goal.returns-then-carries
 unfolding lengths_off payload_size
 returns-then-carries c =
-            simp (le-ltb _ _ c.if-p.false, ← c.carrying-carries.ensures, c.if-carries.true, ← c.size_off-off.ensures, c.if-off.false, ← c.total_off.ensures)
+    simp (le-ltb _ _ c.if-p.false, ← c.carrying-carries.ensures, c.if-carries.true, ← c.size_off-off.ensures, c.if-off.false, ← c.total_off.ensures)
 
 pub returns : goal.returns
 unfolding lengths_off payload_size
 returns c =
-        simp (le-ltb _ _ c.if-p.false, ← c.carrying-carries.ensures, c.if-carries.false, ← c.bare_off.ensures)
+    simp (le-ltb _ _ c.if-p.false, ← c.carrying-carries.ensures, c.if-carries.false, ← c.bare_off.ensures)

@@ -14,14 +14,14 @@ returns-then-memory-pair c = simp (le-ltb _ _ c.if-room-lt-WITH_AETH_ATOMIC_ACK.
 pub returns-then-bad : goal.returns-then-bad
 unfolding inbound_refusal
 returns-then-bad c =
-        simp (le-ltb _ _ c.if-room-lt-WITH_AETH_ATOMIC_ACK.false, eq-eqb _ _ c.if-memory-pair.false, halves, ← c.numbers_unsound-numbers.ensures, ← c.work_unsound-bad.ensures, c.if-bad.true)
+    simp (le-ltb _ _ c.if-room-lt-WITH_AETH_ATOMIC_ACK.false, eq-eqb _ _ c.if-memory-pair.false, halves, ← c.numbers_unsound-numbers.ensures, ← c.work_unsound-bad.ensures, c.if-bad.true)
 
 pub returns-then-full : goal.returns-then-full
 unfolding inbound_refusal
 returns-then-full c =
-            simp (le-ltb _ _ c.if-room-lt-WITH_AETH_ATOMIC_ACK.false, eq-eqb _ _ c.if-memory-pair.false, halves, ← c.numbers_unsound-numbers.ensures, ← c.work_unsound-bad.ensures, c.if-bad.false, ← c.reads_full-full.ensures, c.if-full.true)
+    simp (le-ltb _ _ c.if-room-lt-WITH_AETH_ATOMIC_ACK.false, eq-eqb _ _ c.if-memory-pair.false, halves, ← c.numbers_unsound-numbers.ensures, ← c.work_unsound-bad.ensures, c.if-bad.false, ← c.reads_full-full.ensures, c.if-full.true)
 
 pub returns : goal.returns
 unfolding inbound_refusal
 returns c =
-            simp (le-ltb _ _ c.if-room-lt-WITH_AETH_ATOMIC_ACK.false, eq-eqb _ _ c.if-memory-pair.false, halves, ← c.numbers_unsound-numbers.ensures, ← c.work_unsound-bad.ensures, c.if-bad.false, ← c.reads_full-full.ensures, c.if-full.false)
+    simp (le-ltb _ _ c.if-room-lt-WITH_AETH_ATOMIC_ACK.false, eq-eqb _ _ c.if-memory-pair.false, halves, ← c.numbers_unsound-numbers.ensures, ← c.work_unsound-bad.ensures, c.if-bad.false, ← c.reads_full-full.ensures, c.if-full.false)

@@ -14,14 +14,14 @@ returns-then-short c = simp (ne_eqb _ _ c.if-pair-eq0.false, ← c.no_room-short
 pub returns-then-memory-pair : goal.returns-then-memory-pair
 unfolding next_status
 returns-then-memory-pair c =
-        simp (ne_eqb _ _ c.if-pair-eq0.false, ← c.no_room-short.ensures, c.if-short.false, ne_eqb _ _ c.if-memory-pair.true)
+    simp (ne_eqb _ _ c.if-pair-eq0.false, ← c.no_room-short.ensures, c.if-short.false, ne_eqb _ _ c.if-memory-pair.true)
 
 pub returns-then-bad : goal.returns-then-bad
 unfolding next_status
 returns-then-bad c =
-            simp (ne_eqb _ _ c.if-pair-eq0.false, ← c.no_room-short.ensures, c.if-short.false, eq-eqb _ _ c.if-memory-pair.false, halves, ← c.numbers_unsound-numbers.ensures, ← c.work_unsound-bad.ensures, c.if-bad.true)
+    simp (ne_eqb _ _ c.if-pair-eq0.false, ← c.no_room-short.ensures, c.if-short.false, eq-eqb _ _ c.if-memory-pair.false, halves, ← c.numbers_unsound-numbers.ensures, ← c.work_unsound-bad.ensures, c.if-bad.true)
 
 pub returns : goal.returns
 unfolding next_status
 returns c =
-            simp (ne_eqb _ _ c.if-pair-eq0.false, ← c.no_room-short.ensures, c.if-short.false, eq-eqb _ _ c.if-memory-pair.false, halves, ← c.numbers_unsound-numbers.ensures, ← c.work_unsound-bad.ensures, c.if-bad.false)
+    simp (ne_eqb _ _ c.if-pair-eq0.false, ← c.no_room-short.ensures, c.if-short.false, eq-eqb _ _ c.if-memory-pair.false, halves, ← c.numbers_unsound-numbers.ensures, ← c.work_unsound-bad.ensures, c.if-bad.false)

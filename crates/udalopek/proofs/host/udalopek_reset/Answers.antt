@@ -30,6 +30,6 @@ returns c =
       value = c.leave.ensures.value ∙ ap (λ o. status_number o.status) e ∙ second _ 34 _ l;
       pair_after =
           c.leave.ensures.pair_after ∙ ap (λ o. cond (executed o.status) (overwrite_words A.pair.now (pair_words o.pair)) A.pair.now) e
-              ∙ reset-words A.pair.now l;
+          ∙ reset-words A.pair.now l;
       regions_after = c.reset-left.ensures.regions_after ∙ ap (λ x. reset_regions x A.regions.now) q ∙ second _ _ _ l;
     }

@@ -24,7 +24,7 @@ returns c =
       value = c.leave.ensures.value ∙ ap (λ o. status_number o.status) e ∙ second _ 34 _ l;
       pair_after =
           c.leave.ensures.pair_after
-              ∙ ap (λ o. cond (executed o.status) (overwrite_words A.pair.now (pair_words o.pair)) A.pair.now) e
-              ∙ set-up-left A.pair.now l _;
+          ∙ ap (λ o. cond (executed o.status) (overwrite_words A.pair.now (pair_words o.pair)) A.pair.now) e
+          ∙ set-up-left A.pair.now l _;
       regions_after = c.set_up-made.ensures.regions_after ∙ second _ _ _ l;
     }

@@ -15,4 +15,4 @@ bounds-w-23 c = simp length-set (omega arith)
 pub returns : goal.returns
 unfolding read_put other_length
 returns c =
-        simp (eq-eqb _ _ c.if-w-ne-PAIR.false)
+    simp (eq-eqb _ _ c.if-w-ne-PAIR.false)

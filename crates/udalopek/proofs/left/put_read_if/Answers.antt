@@ -9,4 +9,4 @@ returns-then-responses-eq0 c = simp (eq-eqb _ _ c.if-responses-eq0.true)
 pub returns : goal.returns
 unfolding read_put_if
 returns c =
-        simp (ne_eqb _ _ c.if-responses-eq0.false, ← c.put_read.ensures)
+    simp (ne_eqb _ _ c.if-responses-eq0.false, ← c.put_read.ensures)

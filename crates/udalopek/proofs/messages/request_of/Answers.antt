@@ -17,19 +17,19 @@ returns-then-kind-eq-WRITE c = simp (ne_eqb _ _ c.if-kind-eq-SEND.false, ne_eqb 
 pub returns-then-kind-eq-WRITE_IMMEDIATE : goal.returns-then-kind-eq-WRITE_IMMEDIATE
 unfolding request_of
 returns-then-kind-eq-WRITE_IMMEDIATE c =
-        simp (ne_eqb _ _ c.if-kind-eq-SEND.false, ne_eqb _ _ c.if-kind-eq-SEND_IMMEDIATE.false, ne_eqb _ _ c.if-kind-eq-WRITE.false, eq-eqb _ _ c.if-kind-eq-WRITE_IMMEDIATE.true)
+    simp (ne_eqb _ _ c.if-kind-eq-SEND.false, ne_eqb _ _ c.if-kind-eq-SEND_IMMEDIATE.false, ne_eqb _ _ c.if-kind-eq-WRITE.false, eq-eqb _ _ c.if-kind-eq-WRITE_IMMEDIATE.true)
 
 pub returns-then-kind-eq-READ : goal.returns-then-kind-eq-READ
 unfolding request_of
 returns-then-kind-eq-READ c =
-        simp (ne_eqb _ _ c.if-kind-eq-SEND.false, ne_eqb _ _ c.if-kind-eq-SEND_IMMEDIATE.false, ne_eqb _ _ c.if-kind-eq-WRITE.false, ne_eqb _ _ c.if-kind-eq-WRITE_IMMEDIATE.false, eq-eqb _ _ c.if-kind-eq-READ.true)
+    simp (ne_eqb _ _ c.if-kind-eq-SEND.false, ne_eqb _ _ c.if-kind-eq-SEND_IMMEDIATE.false, ne_eqb _ _ c.if-kind-eq-WRITE.false, ne_eqb _ _ c.if-kind-eq-WRITE_IMMEDIATE.false, eq-eqb _ _ c.if-kind-eq-READ.true)
 
 pub returns-then-kind-eq-CMP_SWAP : goal.returns-then-kind-eq-CMP_SWAP
 unfolding request_of
 returns-then-kind-eq-CMP_SWAP c =
-        simp (ne_eqb _ _ c.if-kind-eq-SEND.false, ne_eqb _ _ c.if-kind-eq-SEND_IMMEDIATE.false, ne_eqb _ _ c.if-kind-eq-WRITE.false, ne_eqb _ _ c.if-kind-eq-WRITE_IMMEDIATE.false, ne_eqb _ _ c.if-kind-eq-READ.false, eq-eqb _ _ c.if-kind-eq-CMP_SWAP.true)
+    simp (ne_eqb _ _ c.if-kind-eq-SEND.false, ne_eqb _ _ c.if-kind-eq-SEND_IMMEDIATE.false, ne_eqb _ _ c.if-kind-eq-WRITE.false, ne_eqb _ _ c.if-kind-eq-WRITE_IMMEDIATE.false, ne_eqb _ _ c.if-kind-eq-READ.false, eq-eqb _ _ c.if-kind-eq-CMP_SWAP.true)
 
 pub returns : goal.returns
 unfolding request_of
 returns c =
-        simp (ne_eqb _ _ c.if-kind-eq-SEND.false, ne_eqb _ _ c.if-kind-eq-SEND_IMMEDIATE.false, ne_eqb _ _ c.if-kind-eq-WRITE.false, ne_eqb _ _ c.if-kind-eq-WRITE_IMMEDIATE.false, ne_eqb _ _ c.if-kind-eq-READ.false, ne_eqb _ _ c.if-kind-eq-CMP_SWAP.false)
+    simp (ne_eqb _ _ c.if-kind-eq-SEND.false, ne_eqb _ _ c.if-kind-eq-SEND_IMMEDIATE.false, ne_eqb _ _ c.if-kind-eq-WRITE.false, ne_eqb _ _ c.if-kind-eq-WRITE_IMMEDIATE.false, ne_eqb _ _ c.if-kind-eq-READ.false, ne_eqb _ _ c.if-kind-eq-CMP_SWAP.false)
