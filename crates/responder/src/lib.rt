@@ -21,11 +21,10 @@ use table::Tables;
 pub(crate) fn unchanged(status: Status, pair: Pair) -> Outcome
     ensures { result ≡ unchanged status pair }
 {
-    let completion = reply::no_completion();
     Outcome {
         status,
         pair,
-        completion,
+        completion: reply::no_completion(),
         outgoing: 0,
     }
 }
@@ -34,12 +33,10 @@ pub(crate) fn unchanged(status: Status, pair: Pair) -> Outcome
 fn outcome_with(pair: Pair, d: Decision, outgoing: usize) -> Outcome
     ensures { result ≡ outcome_with pair d outgoing }
 {
-    let status = d.status;
-    let completion = d.progress.completion;
     Outcome {
-        status,
+        status: d.status,
         pair,
-        completion,
+        completion: d.progress.completion,
         outgoing,
     }
 }
