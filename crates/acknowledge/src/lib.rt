@@ -24,17 +24,7 @@ use sequence::{Msn, Psn};
 pub fn reply_with(r: Reply, msn: Msn, value: u64) -> Reply
     ensures { result ≡ reply_with r msn value }
 {
-    let psn = r.psn;
-    Reply {
-        kind: r.kind,
-        psn,
-        syndrome: r.syndrome,
-        msn,
-        value,
-        offset: r.offset,
-        length: r.length,
-        remaining: r.remaining,
-    }
+    Reply { msn, value, ..r }
 }
 
 // The BTH of a reply.
@@ -63,10 +53,9 @@ pub(crate) fn write_bth_aeth(out: &mut [u8], bth: Bth, r: Reply)
 {
     let b = wire::bth_bytes(bth);
     memory::store(out, 0, &b);
-    let msn = r.msn;
     let aeth = Aeth {
         syndrome: r.syndrome,
-        msn,
+        msn: r.msn,
     };
     let a = wire::aeth_bytes(aeth);
     memory::store(out, opcode::BTH_LENGTH, &a);

@@ -63,8 +63,7 @@ fn write_headers(out: &mut [u8], s: Setup, r: Reply, i: usize, n: usize) -> usiz
     let count = pmtu::count(r.length, s.pmtu);
     let place = pmtu::place(count, i);
     let low = response_opcode(place);
-    let first = r.psn;
-    let psn = first.after_count(i);
+    let psn = r.psn.after_count(i);
     let padcnt = packet::pad(n);
     let bth = reply_bth(s, low, padcnt, psn);
     if place == opcode::MIDDLE {

@@ -12,6 +12,7 @@ use pair::{Pair, Status};
 use request_spec::Packet;
 use responder_spec::Decision;
 use sequence::{Class, Psn};
+use table::Tables;
 
 fn unreliable(service: u8) -> bool
     ensures { result ≡ eqb service Service.uc }
@@ -31,14 +32,8 @@ fn class_of(uc: bool, psn: Psn, expected: Psn) -> Class
 
 // The decision on a packet whose header passes the header checks; what no header and no set-up says is the caller's
 // mistake.
-pub fn decision(
-    pair: Pair,
-    regions: &[[u64; 7]; table::REGIONS],
-    entries: &[[u64; 3]; table::ENTRIES],
-    saved: &[[u64; 2]; table::SAVED],
-    p: Packet,
-) -> Decision
-    ensures { result ≡ cond (unformed p pair.setup.timer) (no_reply Status.OutOfRange) (packet_decision (record { pair = pair; regions = regions.now; entries = entries.now; saved = saved.now }) p) }
+pub fn decision(pair: Pair, tables: Tables, p: Packet) -> Decision
+    ensures { result ≡ cond (unformed p pair.setup.timer) (no_reply Status.OutOfRange) (packet_decision (record { pair = pair; regions = tables.entry.regions.now; entries = tables.entry.entries.now; saved = tables.entry.saved.now }) p) }
 {
     let none = execute::unformed(p, pair.setup.timer);
     let uc = unreliable(pair.setup.service);
@@ -47,8 +42,8 @@ pub fn decision(
     }
     let class = class_of(uc, p.psn, pair.expected);
     match class {
-        Class::Expected => execute::decision(uc, pair, regions, entries, p),
+        Class::Expected => execute::decision(uc, pair, tables, p),
         Class::Ahead => reply::ahead(pair.nakmark, pair.expected),
-        Class::Duplicate => duplicate::answer(pair, regions, saved, p),
+        Class::Duplicate => duplicate::answer(pair, tables, p),
     }
 }

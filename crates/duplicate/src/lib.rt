@@ -11,7 +11,7 @@ use pair::{OpenMessage, Pair, Setup, Status};
 use request_spec::Packet;
 use responder_spec::Decision;
 use sequence::Psn;
-use table::Saved;
+use table::{Saved, Tables};
 
 fn psn_before(psn: Psn) -> Psn
     ensures { result ≡ psn_before psn }
@@ -109,13 +109,8 @@ fn read(p: Packet, pair: Pair, regions: &[[u64; 7]; table::REGIONS]) -> Decision
 
 // By the kind of the duplicate. Only a READ's key is looked up, and only an atomic's value. What no header says is the
 // caller's mistake.
-pub fn answer(
-    pair: Pair,
-    regions: &[[u64; 7]; table::REGIONS],
-    saved: &[[u64; 2]; table::SAVED],
-    p: Packet,
-) -> Decision
-    ensures { result ≡ cond (fragment p) (no_reply Status.OutOfRange) (duplicate_decision p pair.setup pair.expected (current pair.message p) (region_for p.kind (current pair.message p).key regions.now) (newest_saved p.psn.0 saved.now pair.saved)) }
+pub fn answer(pair: Pair, tables: Tables, p: Packet) -> Decision
+    ensures { result ≡ cond (fragment p) (no_reply Status.OutOfRange) (duplicate_decision p pair.setup pair.expected (current pair.message p) (region_for p.kind (current pair.message p).key tables.entry.regions.now) (newest_saved p.psn.0 tables.entry.saved.now pair.saved)) }
 {
     let part = request_checks::fragment(p);
     if part {
@@ -129,12 +124,12 @@ pub fn answer(
         return reply::acknowledging(status, psn, reply::ACK);
     }
     if p.kind == opcode::READ {
-        return read(p, pair, regions);
+        return read(p, pair, tables.regions);
     }
     let atomic = is_atomic(p.kind);
     if atomic {
         let ring = pair.saved;
-        let value = table::newest(saved, ring, p.psn);
+        let value = table::newest(tables.saved, ring, p.psn);
         return duplicate_atomic(value, p.psn);
     }
     let status = Status::Dropped;

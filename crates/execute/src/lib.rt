@@ -19,6 +19,7 @@ use pair::{OpenMessage, Pair, Status};
 use request_spec::{Packet, check};
 use responder_spec::Decision;
 use sequence::Psn;
+use table::Tables;
 
 // Refused by a check, with its answer: a NAK, or the caller's mistake.
 fn failed(check: u8, psn: Psn, timer: u8) -> Decision
@@ -145,14 +146,8 @@ fn open_kind(uc: bool, place: u8, opened: OpenMessage) -> u8
 // A packet whose PSN is the expected one, as on UC every PSN is: the request checks, then it is executed. Both services
 // pass here, so that the checks and the executing stand once in the compiled code; apart, a SEND takes some 15 ns
 // longer.
-pub fn decision(
-    uc: bool,
-    pair: Pair,
-    regions: &[[u64; 7]; table::REGIONS],
-    entries: &[[u64; 3]; table::ENTRIES],
-    p: Packet,
-) -> Decision
-    ensures { result ≡ cond (unformed p pair.setup.timer) (no_reply Status.OutOfRange) (either uc p pair.setup pair.expected pair.message pair.entries.count (head_entry pair entries.now) (region_for p.kind (current pair.message p).key regions.now)) }
+pub fn decision(uc: bool, pair: Pair, tables: Tables, p: Packet) -> Decision
+    ensures { result ≡ cond (unformed p pair.setup.timer) (no_reply Status.OutOfRange) (either uc p pair.setup pair.expected pair.message pair.entries.count (head_entry pair tables.entry.entries.now) (region_for p.kind (current pair.message p).key tables.entry.regions.now)) }
 {
     let setup = pair.setup;
     let none = unformed(p, setup.timer);
@@ -164,8 +159,8 @@ pub fn decision(
     let found = early.is(Status::Executed);
     if found {
         let m = request_checks::current(opened, p);
-        let entry = table::entry_at(entries, pair.entries.head);
-        let region = key_region(regions, p.kind, m.key);
+        let entry = table::entry_at(tables.entries, pair.entries.head);
+        let region = key_region(tables.regions, p.kind, m.key);
         let kind = open_kind(uc, p.place, opened);
         let count = pair.entries.count;
         let check = request_checks::expected_check(setup, kind, m, p, count, entry, region);

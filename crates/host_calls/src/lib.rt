@@ -16,29 +16,22 @@ use table::{Entry, Region, Ring};
 fn fresh(setup: Setup) -> Pair
     ensures { result ≡ fresh_pair setup }
 {
-    let expected = setup.start;
-    let msn = Msn(0);
-    let message = pair::no_message();
-    let entries = Ring { head: 0, count: 0 };
-    let first = Psn(0);
-    let read = ReadAnswer {
-        remaining: 0,
-        offset: 0,
-        length: 0,
-        psn: first,
-        msn,
-    };
-    let saved = Ring { head: 0, count: 0 };
     Pair {
         setup,
         state: pair::INIT,
-        expected,
-        msn,
+        expected: setup.start,
+        msn: Msn(0),
         nakmark: false,
-        message,
-        entries,
-        read,
-        saved,
+        message: pair::no_message(),
+        entries: Ring { head: 0, count: 0 },
+        read: ReadAnswer {
+            remaining: 0,
+            offset: 0,
+            length: 0,
+            psn: Psn(0),
+            msn: Msn(0),
+        },
+        saved: Ring { head: 0, count: 0 },
     }
 }
 
@@ -46,14 +39,13 @@ fn fresh(setup: Setup) -> Pair
 pub fn blank() -> Pair
     ensures { result ≡ blank_pair }
 {
-    let start = Psn(0);
     let setup = Setup {
         service: 0,
         pmtu: 0,
         ours: 0,
         theirs: 0,
         pkey: 0,
-        start,
+        start: Psn(0),
         timer: 0,
         send: false,
         write: false,
@@ -61,9 +53,10 @@ pub fn blank() -> Pair
         atomic: false,
         memory: 0,
     };
-    let mut pair = fresh(setup);
-    pair.state = pair::ERROR;
-    pair
+    Pair {
+        state: pair::ERROR,
+        ..fresh(setup)
+    }
 }
 
 fn outcome(status: Status, pair: Pair) -> HostOutcome
@@ -79,16 +72,13 @@ pub fn set_up(setup: Setup, regions: &mut [[u64; 7]; table::REGIONS]) -> HostOut
 {
     let unfit = setup_unfit(setup);
     if unfit {
-        let pair = blank();
-        return outcome(Status::BadNumber, pair);
+        return outcome(Status::BadNumber, blank());
     }
     if pair::LIMIT < setup.memory {
-        let pair = blank();
-        return outcome(Status::OutOfRange, pair);
+        return outcome(Status::OutOfRange, blank());
     }
     *regions = [[0; 7]; table::REGIONS];
-    let pair = fresh(setup);
-    outcome(Status::Executed, pair)
+    outcome(Status::Executed, fresh(setup))
 }
 
 // Starts afresh with the numbers of the set-up and empty tables.
@@ -102,8 +92,7 @@ pub fn reset(pair: Pair, regions: &mut [[u64; 7]; table::REGIONS]) -> HostOutcom
         return outcome(Status::OutOfRange, pair);
     }
     *regions = [[0; 7]; table::REGIONS];
-    let next = fresh(setup);
-    outcome(Status::Executed, next)
+    outcome(Status::Executed, fresh(setup))
 }
 
 // The pair takes packets from now on.
@@ -117,8 +106,10 @@ pub fn make_ready(pair: Pair) -> HostOutcome
     if bad {
         return outcome(Status::OutOfRange, pair);
     }
-    let mut next = pair;
-    next.state = pair::READY;
+    let next = Pair {
+        state: pair::READY,
+        ..pair
+    };
     outcome(Status::Executed, next)
 }
 
@@ -165,8 +156,7 @@ pub fn remove_region(regions: &mut [[u64; 7]; table::REGIONS], key: u32) -> Stat
     if table::REGIONS <= at {
         return Status::NoSuchKey;
     }
-    let row = [0; 7];
-    regions[at] = row;
+    regions[at] = [0; 7];
     Status::Executed
 }
 
@@ -199,11 +189,12 @@ pub fn post_entry(pair: Pair, entries: &mut [[u64; 3]; table::ENTRIES], entry: E
     let at = table::entry_slot(head, count);
     let row = table::entry_row(entry);
     entries[at] = row;
-    let ring = Ring {
-        head,
-        count: count + 1,
+    let next = Pair {
+        entries: Ring {
+            head,
+            count: count + 1,
+        },
+        ..pair
     };
-    let mut next = pair;
-    next.entries = ring;
     outcome(Status::Executed, next)
 }

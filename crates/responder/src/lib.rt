@@ -15,16 +15,16 @@ use pair::{Pair, Status};
 use request_spec::Admission;
 use responder_spec::{Decision, Outcome};
 pub use response::next_response;
+use table::Tables;
 
 // An answer with which nothing changes, completes or is sent.
 pub(crate) fn unchanged(status: Status, pair: Pair) -> Outcome
     ensures { result ≡ unchanged status pair }
 {
-    let completion = reply::no_completion();
     Outcome {
         status,
         pair,
-        completion,
+        completion: reply::no_completion(),
         outgoing: 0,
     }
 }
@@ -33,12 +33,10 @@ pub(crate) fn unchanged(status: Status, pair: Pair) -> Outcome
 fn outcome_with(pair: Pair, d: Decision, outgoing: usize) -> Outcome
     ensures { result ≡ outcome_with pair d outgoing }
 {
-    let status = d.status;
-    let completion = d.progress.completion;
     Outcome {
-        status,
+        status: d.status,
         pair,
-        completion,
+        completion: d.progress.completion,
         outgoing,
     }
 }
@@ -46,16 +44,8 @@ fn outcome_with(pair: Pair, d: Decision, outgoing: usize) -> Outcome
 // The decision on a packet: refused before it is looked at, dropped by a header check, or by the rules of the pair's
 // service. It changes nothing yet. What it leaves is stored in a pair by value here, and in lent words by the crate
 // udalopek.
-pub fn decided(
-    pair: Pair,
-    regions: &[[u64; 7]; table::REGIONS],
-    entries: &[[u64; 3]; table::ENTRIES],
-    saved: &[[u64; 2]; table::SAVED],
-    mem: &[u8],
-    packet: &[u8],
-    out: &[u8],
-) -> Decision
-    ensures { result ≡ decision (arriving pair regions.now entries.now saved.now mem.now packet.now out.now) }
+pub fn decided(pair: Pair, tables: Tables, mem: &[u8], packet: &[u8], out: &[u8]) -> Decision
+    ensures { result ≡ decision (arriving pair tables.entry.regions.now tables.entry.entries.now tables.entry.saved.now mem.now packet.now out.now) }
 {
     let refused = refuse::refusal(pair, mem.len(), out.len());
     if refused.number() != 0 {
@@ -71,7 +61,7 @@ pub fn decided(
     let Admission::Admitted(p) = found else {
         return reply::no_reply(Status::Dropped);
     };
-    decide::decision(pair, regions, entries, saved, p)
+    decide::decision(pair, tables, p)
 }
 
 // Takes a packet: the decision, and what it does to memory, saved atomics, pair and output.
@@ -86,7 +76,12 @@ pub fn inbound(
 ) -> Outcome
     ensures { Leaves (arriving pair regions.now entries.now saved.old mem.old packet.now out.old) result saved.new mem.new out.new }
 {
-    let d = decided(pair, regions, entries, saved, mem, packet, out);
+    let tables = Tables {
+        regions,
+        entries,
+        saved,
+    };
+    let d = decided(pair, tables, mem, packet, out);
     let value = apply::change(mem, packet, d.change, d.reply.value);
     apply::keep(saved, pair.saved, d.change.act, d.reply.psn, value);
     let next = apply::pair_after(pair, d);

@@ -5,7 +5,7 @@ ghost use Rattle.responder_spec.specs.Response.{next_status, one_fewer, next_res
 ghost use Rattle.responder.specs.Unchanged.{responded};
 
 use crate::unchanged;
-use pair::{Pair, Status};
+use pair::{Pair, ReadAnswer, Status};
 use responder_spec::Outcome;
 
 // Which refusal the call gets, or that it is none.
@@ -49,19 +49,22 @@ pub fn next_response(pair: Pair, mem: &[u8], out: &mut [u8]) -> Outcome
 fn one_fewer(pair: Pair) -> Pair
     ensures { result ≡ with pair pair.state pair.nakmark (one_fewer pair.read) }
 {
-    let mut read = pair.read;
-    read.remaining = number::saturating_sub(pair.read.remaining, 1);
-    let mut next = pair;
-    next.read = read;
-    next
+    let remaining = pair.read.remaining.saturating_sub(1);
+    Pair {
+        read: ReadAnswer {
+            remaining,
+            ..pair.read
+        },
+        ..pair
+    }
 }
 
 // Executed, and so many bytes sent.
 fn responded(pair: Pair, outgoing: usize) -> Outcome
     ensures { result ≡ responded pair outgoing }
 {
-    let status = Status::Executed;
-    let mut o = unchanged(status, pair);
-    o.outgoing = outgoing;
-    o
+    Outcome {
+        outgoing,
+        ..unchanged(Status::Executed, pair)
+    }
 }

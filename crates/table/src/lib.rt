@@ -62,6 +62,14 @@ pub struct Entry {
     pub length: u64,
 }
 
+// The tables, lent to be read.
+#[derive(Clone, Copy)]
+pub struct Tables<'a> {
+    pub regions: &'a [[u64; 7]; REGIONS],
+    pub entries: &'a [[u64; 3]; ENTRIES],
+    pub saved: &'a [[u64; 2]; SAVED],
+}
+
 // Which rows are in use: count of them, from row head on, after the last the first.
 #[derive(Clone, Copy)]
 pub struct Ring {

@@ -4,6 +4,7 @@ ghost use Rattle.udalopek_spec.specs.Packets.{lent, returned, inbound_returned, 
 
 use crate::left;
 use responder_spec::Completion;
+use table::Tables;
 
 // The report to the host: bytes to send, and the completion.
 fn report_words(outgoing: usize, c: Completion) -> [u64; 6]
@@ -38,7 +39,12 @@ pub extern "C" fn udalopek_inbound(
     }
     let stray = abi::strays(pair);
     let q = abi::pair_said(stray, pair);
-    let d = responder::decided(q, regions, entries, saved, mem, packet, out);
+    let tables = Tables {
+        regions,
+        entries,
+        saved,
+    };
+    let d = responder::decided(q, tables, mem, packet, out);
     let value = apply::change(mem, packet, d.change, d.reply.value);
     apply::keep(saved, q.saved, d.change.act, d.reply.psn, value);
     let next = apply::pair_after(q, d);

@@ -48,7 +48,7 @@ returns-then-check-eq-NONE c =
     c.current-m.result c.current-m.ensures kind.result kind.ensures c.expected_check-check.result c.expected_check-check.ensures passed
     ∙
     (λ i. either A.uc A.p s A.pair.expected opened A.pair.entries.count (entry.ensures i)
-    ((region.ensures ∙ ap (λ x. region_for A.p.kind x.key A.regions.now) c.current-m.ensures) i))))
+    ((region.ensures ∙ ap (λ x. region_for A.p.kind x.key A.tables.regions.now) c.current-m.ensures) i))))
 
 pub refused-requires : goal.refused-requires
 refused-requires c =
@@ -69,7 +69,7 @@ returns-then-found c =
     c.current-m.result c.current-m.ensures kind.result kind.ensures c.expected_check-check.result c.expected_check-check.ensures passed
     ∙
     (λ i. either A.uc A.p s A.pair.expected opened A.pair.entries.count (entry.ensures i)
-    ((region.ensures ∙ ap (λ x. region_for A.p.kind x.key A.regions.now) c.current-m.ensures) i))))
+    ((region.ensures ∙ ap (λ x. region_for A.p.kind x.key A.tables.regions.now) c.current-m.ensures) i))))
 
 pub returns : goal.returns
 unfolding status_number

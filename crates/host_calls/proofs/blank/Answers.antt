@@ -5,4 +5,4 @@ use Rattle.host_calls.proofs.blank.Goals as goal
 
 pub returns : goal.returns
 unfolding blank_pair fresh_pair
-returns c = ap (λ q. moved q 2 q.entries) c.fresh-pair.ensures
+returns c = ap (λ q. moved q 2 q.entries) c.fresh.ensures

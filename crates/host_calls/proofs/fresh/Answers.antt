@@ -3,4 +3,4 @@ use Rattle.host_calls.proofs.fresh.Goals as goal
 
 pub returns : goal.returns
 unfolding fresh_pair
-returns c = simp (← c.no_message-message.ensures)
+returns c = simp (← c.no_message.ensures)

@@ -8,4 +8,4 @@ returns-then-bad c = record { value = simp (← c.setup_unsound-bad.ensures, c.i
 
 pub returns : goal.returns
 unfolding reset_to reset_regions reset_status executed status_number
-returns c = record { value = simp (← c.setup_unsound-bad.ensures, c.if-bad.false, ← c.fresh-next.ensures, ← c.outcome-2.ensures); regions_after = simp (← c.setup_unsound-bad.ensures, c.if-bad.false, ← c.fresh-next.ensures, ← c.outcome-2.ensures) }
+returns c = record { value = simp (← c.setup_unsound-bad.ensures, c.if-bad.false, ← c.fresh.ensures, ← c.outcome-2.ensures); regions_after = simp (← c.setup_unsound-bad.ensures, c.if-bad.false, ← c.fresh.ensures, ← c.outcome-2.ensures) }
