@@ -161,8 +161,7 @@ pub fn decision(
     }
     let opened = pair.message;
     let early = lost(uc, p, pair.expected, opened.kind);
-    let found = early.is(Status::Executed);
-    if found {
+    if early == Status::Executed {
         let m = request_checks::current(opened, p);
         let entry = table::entry_at(entries, pair.entries.head);
         let region = key_region(regions, p.kind, m.key);

@@ -58,7 +58,7 @@ pub fn decided(
     ensures { result ≡ decision (arriving pair regions.now entries.now saved.now mem.now packet.now out.now) }
 {
     let refused = refuse::refusal(pair, mem.len(), out.len());
-    if refused.number() != 0 {
+    if u8::from(refused) != 0 {
         return reply::no_reply(refused);
     }
     let found = decode::admit(
