@@ -1,4 +1,5 @@
 -- Each answer of a call that is not refused has its reason.
+use Rattle.std.proofs.Common.{Option, Some, None}
 use Prim.Native.Nat.{ℕ, ◌≤◌}
 use mathlib.Core.Path.{◌≡◌, refl, sym, subst, ◌∙◌}
 use mathlib.Core.Bool.{Bool, true, false, true≢false}
@@ -16,8 +17,6 @@ use Rattle.header.specs.declared.HeaderRead.{HeaderRead}
 use Rattle.header.specs.declared.HeaderRead.TheVariants as read
 use Rattle.header.proofs.Reasons.{accepted-by}
 use Rattle.table.specs.View.{region_of, newest_saved}
-use Rattle.table.specs.declared.Saved.{Saved}
-use Rattle.table.specs.declared.Saved.TheVariants.{Value, Nothing}
 use Rattle.pair.specs.declared.OpenMessage.{OpenMessage}
 use Rattle.request_spec.specs.Claims.{Carries, IsAtomic, Served}
 use Rattle.request_spec.proofs.Order.{served}
@@ -115,11 +114,11 @@ module _ (arrival : Arrival) (t : OpenMessage) where
           none (inr (inl x)) = no x.1
           none (inr (inr x)) = not-read k.kind x.0 r
 
-      reswap : IsAtomic k.kind → (s : Saved) → newest_saved k.psn.0 arrival.whole.saved arrival.whole.pair.saved ≡ s → R n
-      reswap a (Value v) e = subst R (sym (D.found a v e)) (again c (inr (inr (a, (v, e)))))
-      reswap a Nothing e = subst R (sym (D.lost a e)) (forgotten c none)
+      reswap : IsAtomic k.kind → (s : Option ℕ) → newest_saved k.psn.0 arrival.whole.saved arrival.whole.pair.saved ≡ s → R n
+      reswap a (Some v) e = subst R (sym (D.found a v e)) (again c (inr (inr (a, (v, e)))))
+      reswap a None e = subst R (sym (D.lost a e)) (forgotten c none)
         where
-          apart : (v : ℕ) → Nothing ≡ Value v → ⊥
+          apart : (v : ℕ) → None ≡ Some v → ⊥
           apart v x = let z : ◌≡◌ {A = ℕ} 0 1 = cc in omega arith
 
           none : Recalled arrival.whole k t → ⊥

@@ -1,6 +1,6 @@
 -- Which answer the inbound call gives, and where the bytes of a message went; the proofs stand in proofs/.
 -- The conditions are those of the claims of request_spec, in plain numbers.
-use Rattle.std.specs.Prelude.{ℕ, ◌+◌, ◌-◌, ◌≤◌, ◌<◌, ◌≡◌, Bool, true, false, List, [], ◌⊎◌, eqb, length, get_or}
+use Rattle.std.specs.Prelude.{ℕ, ◌+◌, ◌-◌, ◌≤◌, ◌<◌, ◌≡◌, Bool, true, false, List, [], ◌⊎◌, eqb, length, get_or, Some, None}
 use Rattle.pair.specs.Calls.{Whole}
 use Rattle.responder_spec.specs.Arrival.{Arrival, Left}
 use Rattle.sequence.specs.Sequence.{distance, psn_class}
@@ -17,7 +17,6 @@ use Rattle.memory.specs.Claims.{OnlyBytes}
 use Rattle.packet.specs.Packet.{payload_of}
 use Rattle.pmtu.specs.Pieces.{pieces}
 use Rattle.table.specs.View.{region_of, newest_saved, saved_rows}
-use Rattle.table.specs.declared.Saved.TheVariants.{Value, Nothing}
 use Rattle.pair.specs.Answer.{status_number}
 use Rattle.pair.specs.Claims.{Sound}
 use Rattle.pair.specs.declared.OpenMessage.{OpenMessage}
@@ -86,8 +85,8 @@ pub record DuplicateAnswers (w : Whole) (k : Packet) (t : OpenMessage) (number :
   pub carried : Carries k.kind → number ≡ 4
   pub reads : k.kind ≡ 12 → ReadAnswerable w k t → number ≡ 4
   pub unread : k.kind ≡ 12 → (ReadAnswerable w k t → ⊥) → number ≡ 5
-  pub found : IsAtomic k.kind → (v : ℕ) → newest_saved k.psn.0 w.saved w.pair.saved ≡ Value v → number ≡ 4
-  pub lost : IsAtomic k.kind → newest_saved k.psn.0 w.saved w.pair.saved ≡ Nothing → number ≡ 5
+  pub found : IsAtomic k.kind → (v : ℕ) → newest_saved k.psn.0 w.saved w.pair.saved ≡ Some v → number ≡ 4
+  pub lost : IsAtomic k.kind → newest_saved k.psn.0 w.saved w.pair.saved ≡ None → number ≡ 5
   pub other : (Served k.kind → ⊥) → number ≡ 5
 
 -- On RC, service 0: by the class of the PSN, of a packet k whose header passes, which is of the message t.
@@ -108,7 +107,7 @@ HeaderPassed =
 pub record DuplicateReplies (w : Whole) (k : Packet) (outgoing : ℕ) : Type 0 where
   pub carried : Carries k.kind → outgoing ≡ 16
   pub reads : k.kind ≡ 12 → outgoing ≡ 0
-  pub found : IsAtomic k.kind → (v : ℕ) → newest_saved k.psn.0 w.saved w.pair.saved ≡ Value v → outgoing ≡ 24
+  pub found : IsAtomic k.kind → (v : ℕ) → newest_saved k.psn.0 w.saved w.pair.saved ≡ Some v → outgoing ≡ 24
 
 abbrev pub DuplicateSent : Type 0
 DuplicateSent =
@@ -122,7 +121,7 @@ abbrev pub Recalled : Whole → Packet → OpenMessage → Type 0
 Recalled w k t =
     Carries k.kind
     ⊎ (((k.kind ≡ 12) × ReadAnswerable w k t)
-    ⊎ (IsAtomic k.kind × ((v : ℕ) × (newest_saved k.psn.0 w.saved w.pair.saved ≡ Value v))))
+    ⊎ (IsAtomic k.kind × ((v : ℕ) × (newest_saved k.psn.0 w.saved w.pair.saved ≡ Some v))))
 
 abbrev pub Comes : Arrival → Class → Type 0
 Comes a c = (header_by a ≡ read.Accepted (header_of a.packet)) × (psn_class (packet_in a.packet).psn.0 a.whole.pair.expected.0 ≡ c)

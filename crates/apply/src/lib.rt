@@ -42,13 +42,11 @@ pub fn change(mem: &mut [u8], packet: &[u8], c: Change, value: u64) -> u64
 }
 
 // Whether an act is that of an atomic.
+#[tactic(auto, unfolding(responder_spec::specs::Apply::acts_atomic))]
 pub fn acts_atomic(act: u8) -> bool
     ensures { result ≡ acts_atomic act }
 {
-    if act == responder_spec::FETCH_ADD {
-        return true;
-    }
-    act == responder_spec::CMP_SWAP
+    matches!(act, responder_spec::FETCH_ADD | responder_spec::CMP_SWAP)
 }
 
 // Saves the value that an atomic answered.

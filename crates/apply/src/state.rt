@@ -1,7 +1,6 @@
 // The pair that a decision leaves.
-ghost use Rattle.std.specs.Prelude.{◌≡◌, leb};
+ghost use Rattle.std.specs.Prelude.{◌≡◌};
 ghost use Rattle.responder_spec.specs.Apply.{entries_by, saved_ring_by, msn_by, read_answer_by, executed_pair, closing, pair_by};
-ghost use Rattle.pair.specs.Answer.{status_number};
 
 use crate::acts_atomic;
 use pair::{Pair, ReadAnswer, Status};
@@ -108,55 +107,26 @@ fn closing(pair: Pair) -> Pair
     }
 }
 
-// Whether the packet was executed: the answers up to the atomic's.
-fn executes(status: Status) -> bool
-    ensures { result ≡ leb (status_number status) 3 }
-{
-    let last = Status::AtomicExecuted;
-    status.number() <= last.number()
-}
-
 // By the answer.
 pub fn pair_after(pair: Pair, d: Decision) -> Pair
     ensures { result ≡ pair_by pair d }
 {
-    let status = d.status;
-    let executed = executes(status);
-    if executed {
-        return executed_pair(pair, d);
+    match d.status {
+        Status::Executed | Status::Acknowledged | Status::ReadAccepted | Status::AtomicExecuted =>
+            executed_pair(pair, d),
+        Status::DuplicateAnswered => {
+            let read = read_answer_by(d.reply, pair.read, pair.msn);
+            Pair { read, ..pair }
+        }
+        Status::SequenceNak | Status::NotReadyNak => Pair {
+            nakmark: true,
+            ..pair
+        },
+        Status::InvalidRequestNak | Status::AccessNak => Pair {
+            state: pair::ERROR,
+            ..pair
+        },
+        Status::Abandoned => closing(pair),
+        _ => pair,
     }
-    let mut next = pair;
-    let duplicate = status.is(Status::DuplicateAnswered);
-    if duplicate {
-        let old = pair.read;
-        let reply = d.reply;
-        let read = read_answer_by(reply, old, pair.msn);
-        next.read = read;
-        return next;
-    }
-    let ahead = status.is(Status::SequenceNak);
-    if ahead {
-        next.nakmark = true;
-        return next;
-    }
-    let unready = status.is(Status::NotReadyNak);
-    if unready {
-        next.nakmark = true;
-        return next;
-    }
-    let invalid = status.is(Status::InvalidRequestNak);
-    if invalid {
-        next.state = pair::ERROR;
-        return next;
-    }
-    let access = status.is(Status::AccessNak);
-    if access {
-        next.state = pair::ERROR;
-        return next;
-    }
-    let abandoned = status.is(Status::Abandoned);
-    if abandoned {
-        return closing(pair);
-    }
-    next
 }

@@ -1,4 +1,5 @@
 -- Every decision is of one of a few forms.
+use Rattle.std.proofs.Common.{Option, Some, None}
 use Prim.Native.Nat.{ℕ, ◌+◌, ◌<◌, ◌≤◌}
 use mathlib.Core.Path.{◌≡◌, refl, sym, ap, subst, ◌∙◌}
 use mathlib.Core.Bool.{Bool, true, false, cond, not, true≢false}
@@ -23,8 +24,6 @@ use Rattle.opcode.specs.Place.{starts}
 use Rattle.pmtu.specs.Pieces.{pieces}
 use Rattle.pmtu.proofs.Counting.{bounds, counts}
 use Rattle.table.specs.View.{region_of, newest_saved}
-use Rattle.table.specs.declared.Saved.{Saved}
-use Rattle.table.specs.declared.Saved.TheVariants.{Value, Nothing}
 use Rattle.pair.specs.Answer.{status_number, executed}
 use Rattle.pair.specs.Sound.{pair_unsound}
 use Rattle.pair.specs.Claims.{Sound}
@@ -84,7 +83,7 @@ pub data Row (Q : Status → Type 0) (w : Whole) (p : Packet) : Decision → Typ
   ack_duplicate : Row Q w p (acknowledging status.DuplicateAnswered (psn_before w.pair.expected) 31)
   read_duplicate : (at n : ℕ) → Asks w.pair.setup.memory w.regions p at n → 0 < pieces n w.pair.setup.pmtu
       → Row Q w p (reply_only status.DuplicateAnswered (read_begun at n (pieces n w.pair.setup.pmtu) p.psn))
-  atomic_duplicate : (v : ℕ) → newest_saved p.psn.0 w.saved w.pair.saved ≡ Value v → Row Q w p (reply_only status.DuplicateAnswered (sending 18 p.psn 31 v))
+  atomic_duplicate : (v : ℕ) → newest_saved p.psn.0 w.saved w.pair.saved ≡ Some v → Row Q w p (reply_only status.DuplicateAnswered (sending 18 p.psn 31 v))
   stored : (m : OpenMessage) (entry region : List ℕ) → target_offset p.kind m entry region + payload_size p ≤ w.pair.setup.memory
       → Row Q w p (store_payload p.ackreq 1 p m entry region)
   begin : (at n : ℕ) → Asks w.pair.setup.memory w.regions p at n → 0 < pieces n w.pair.setup.pmtu
@@ -214,9 +213,9 @@ module _ (Q : Status → Type 0) (shut : Q status.Dropped) (w : Whole) (S : Soun
   unfolding ahead_decision
   ahead-row = either R w.pair.nakmark (quiet status.Dropped shut) ahead
 
-  atomic-row : (s : Saved) → newest_saved p.psn.0 w.saved w.pair.saved ≡ s → R (duplicate_atomic s p.psn)
-  atomic-row (Value v) e = atomic_duplicate v e
-  atomic-row Nothing e = quiet status.Dropped shut
+  atomic-row : (s : Option ℕ) → newest_saved p.psn.0 w.saved w.pair.saved ≡ s → R (duplicate_atomic s p.psn)
+  atomic-row (Some v) e = atomic_duplicate v e
+  atomic-row None e = quiet status.Dropped shut
 
   duplicate-key : duplicate_read_fails p w.pair.setup M w.pair.expected (region_by w p) ≡ false → key_fails w.pair.setup.memory 12 M (region_by w p) ≡ false
   unfolding duplicate_read_fails

@@ -1,4 +1,5 @@
 -- The decisions that store a payload or execute an atomic, and what their bytes and offsets are.
+use Rattle.std.proofs.Common.{Option, Some, None}
 use Prim.Native.Nat.{ℕ, ◌+◌, ◌-◌, ◌≤◌, ◌<◌}
 use mathlib.Core.Path.{◌≡◌, refl, sym, ap, subst, ◌∙◌}
 use mathlib.Core.Bool.{Bool, true, false, cond, ◌&&◌, ◌||◌}
@@ -23,8 +24,6 @@ use Rattle.memory.proofs.Overwrite.{length-store, store-before, store-after}
 use Rattle.packet.specs.Packet.{payload_of}
 use Rattle.opcode.specs.Place.{ends}
 use Rattle.table.specs.View.{region_of, newest_saved}
-use Rattle.table.specs.declared.Saved.{Saved}
-use Rattle.table.specs.declared.Saved.TheVariants.{Value, Nothing}
 use Rattle.pair.specs.Answer.{status_number, executed}
 use Rattle.pair.specs.Claims.{Sound}
 use Rattle.pair.specs.Calls.{Whole, with_pair}
@@ -104,10 +103,10 @@ module _ (w : Whole) (S : Sound w.pair) (k : Packet) where
   unfolding ahead_decision status_number acknowledging no_reply
   ahead-way = branch W w.pair.nakmark (λ e. away _ (inr (omega arith))) (λ e. away _ (inr (omega arith)))
 
-  pub atomic-way : (s : Saved) → W (duplicate_atomic s k.psn)
+  pub atomic-way : (s : Option ℕ) → W (duplicate_atomic s k.psn)
   unfolding status_number no_reply
-  atomic-way (Value v) = away (duplicate_atomic (Value v) k.psn) (inr (omega arith))
-  atomic-way Nothing = away (duplicate_atomic Nothing k.psn) (inr (omega arith))
+  atomic-way (Some v) = away (duplicate_atomic (Some v) k.psn) (inr (omega arith))
+  atomic-way None = away (duplicate_atomic None k.psn) (inr (omega arith))
 
   pub duplicate-way : W (duplicate_decision k w.pair.setup w.pair.expected (current w.pair.message k) (region_by w k) (newest_saved k.psn.0 w.saved w.pair.saved))
   unfolding duplicate_decision duplicate_read status_number acknowledging no_reply

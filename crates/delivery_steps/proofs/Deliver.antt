@@ -1,4 +1,5 @@
 -- A packet of the stream is delivered: the one expected, one ahead, or one that was executed before.
+use Rattle.std.proofs.Common.{Option, Some, None}
 use Prim.Native.Nat.{ℕ, ◌+◌, ◌-◌, ◌*◌, ◌≤◌, ◌<◌}
 use mathlib.Core.Path.{◌≡◌, refl, sym, ap, subst, ◌∙◌}
 use mathlib.Core.Bool.{Bool, true, false, cond, not, ◌&&◌, ◌||◌}
@@ -17,8 +18,6 @@ use Rattle.header.specs.declared.Reth.{Reth}
 use Rattle.packet.specs.Packet.{pad_of}
 use Rattle.pmtu.specs.Pieces.{pieces}
 use Rattle.table.specs.View.{newest_saved}
-use Rattle.table.specs.declared.Saved.{Saved}
-use Rattle.table.specs.declared.Saved.TheVariants.{Value, Nothing}
 use Rattle.pair.specs.Answer.{status_number}
 use Rattle.pair.specs.Claims.{SetupFit}
 use Rattle.pair.specs.declared.OpenMessage.{OpenMessage}
@@ -80,10 +79,10 @@ module _ (ms : List Message) (S : List Slot) (p : Plain) (x : Run) (L : Link ms 
   unfolding acknowledging status_number pair_by pair_by_number saved_by memory_by acts_atomic read_answer_by
   acked psn n b = eases L x.whole.pair.nakmark x.whole.pair.read p.r L.reads
 
-  saved : (v : Saved) (psn : Psn) (b : List ℕ) → Link ms S p (step_by x (duplicate_atomic v psn) b)
+  saved : (v : Option ℕ) (psn : Psn) (b : List ℕ) → Link ms S p (step_by x (duplicate_atomic v psn) b)
   unfolding status_number pair_by pair_by_number saved_by memory_by acts_atomic read_answer_by
-  saved (Value v) psn b = eases L x.whole.pair.nakmark x.whole.pair.read p.r L.reads
-  saved Nothing psn b = dropped b
+  saved (Some v) psn b = eases L x.whole.pair.nakmark x.whole.pair.read p.r L.reads
+  saved None psn b = dropped b
 
   -- ahead: nothing, or the NAK mark
   early : (b : List ℕ) → Link ms S p (step_by x (ahead_decision x.whole.pair.nakmark x.whole.pair.expected) b)
@@ -170,21 +169,21 @@ module _ (ms : List Message) (S : List Slot) (p : Plain) (x : Run) (L : Link ms 
       again b = rw duplicate-passes (begins _ (psn_count t) _ _ _ b (subst (λ k. 1 ≤ k) (sym count-is) (G.some j i)) count-is)
 
     -- a packet that was executed before: an ACK, a READ's answer, a saved value
-    abbrev Late : Saved → List ℕ → Type 0
+    abbrev Late : Option ℕ → List ℕ → Type 0
     Late v b =
         Link ms S (cond (is_read t.message.request) (with_responses p (psn_count t)) p)
         (step_by x (duplicate_decision (cut_packet t) x.whole.pair.setup x.whole.pair.expected M region v) b)
 
-    late-carried : (v : Saved) (b : List ℕ) → carrying (kind_number t.message.request) ≡ true → is_read t.message.request ≡ false → Late v b
+    late-carried : (v : Option ℕ) (b : List ℕ) → carrying (kind_number t.message.request) ≡ true → is_read t.message.request ≡ false → Late v b
     unfolding duplicate_decision
     late-carried v b c r = rw (c, r) (acked (psn_before x.whole.pair.expected) Syndrome.ack b)
 
-    late-atomic : (v : Saved) (b : List ℕ) → carrying (kind_number t.message.request) ≡ false → eqb (kind_number t.message.request) 12 ≡ false
+    late-atomic : (v : Option ℕ) (b : List ℕ) → carrying (kind_number t.message.request) ≡ false → eqb (kind_number t.message.request) 12 ≡ false
         → is_atomic (kind_number t.message.request) ≡ true → is_read t.message.request ≡ false → Late v b
     unfolding duplicate_decision
     late-atomic v b c k a r = rw (c, k, a, r) (saved v (cut_packet t).psn b)
 
-    late-read : (v : Saved) (b : List ℕ) (a : Reth) → t.message.request ≡ Read a
+    late-read : (v : Option ℕ) (b : List ℕ) (a : Reth) → t.message.request ≡ Read a
         → number_along S j + psn_count t ≤ number_along S p.k
         → number_along S p.k ≤ number_along S j + 8388607
         → Late v b
@@ -196,7 +195,7 @@ module _ (ms : List Message) (S : List Slot) (p : Plain) (x : Run) (L : Link ms 
         (rw (ap (λ z. ltb z 12) k, ap (λ z. eqb z 12) k)
         (again (subst Single (sym e) (read-single a)) (subst Reads (sym e) (reads-reads a)) a e back near b))
 
-    late : number_along S j + psn_count t ≤ number_along S p.k → number_along S p.k ≤ number_along S j + 8388607 → (v : Saved) (b : List ℕ) → Late v b
+    late : number_along S j + psn_count t ≤ number_along S p.k → number_along S p.k ≤ number_along S j + 8388607 → (v : Option ℕ) (b : List ℕ) → Late v b
     unfolding carrying is_atomic
     late back near v b = go t.message.request refl
       where
@@ -218,7 +217,7 @@ module _ (ms : List Message) (S : List Slot) (p : Plain) (x : Run) (L : Link ms 
         (λ k. psn_class (G.number j i k) ((ap (λ e. e.0) L.expected ∙ L.number) k))
         ∙ class-is-order x.whole.pair.setup.start.0 (number_along S j) (number_along S p.k) (omega (arith, D.ahead)) (omega (arith, D.behind))
 
-    abbrev v : Saved
+    abbrev v : Option ℕ
     v = newest_saved (cut_packet t).psn.0 x.whole.saved x.whole.pair.saved
 
     abbrev by : Class → Decision

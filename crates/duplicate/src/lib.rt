@@ -11,7 +11,7 @@ use pair::{OpenMessage, Pair, Setup, Status};
 use request_spec::Packet;
 use responder_spec::Decision;
 use sequence::Psn;
-use table::{Saved, Tables};
+use table::Tables;
 
 fn psn_before(psn: Psn) -> Psn
     ensures { result ≡ psn_before psn }
@@ -69,29 +69,27 @@ fn duplicate_read(p: Packet, s: Setup, m: OpenMessage, expected: Psn, region: [u
     reply::reply_only(status, responses)
 }
 
-fn duplicate_atomic(saved: Saved, psn: Psn) -> Decision
+fn duplicate_atomic(saved: Option<u64>, psn: Psn) -> Decision
     ensures { result ≡ duplicate_atomic saved psn }
 {
     match saved {
-        Saved::Value(v) => {
+        Some(v) => {
             let status = Status::DuplicateAnswered;
             let answer = reply::sending(opcode::ATOMIC_ACKNOWLEDGE, psn, reply::ACK, v);
             reply::reply_only(status, answer)
         }
-        Saved::Nothing => {
+        None => {
             let status = Status::Dropped;
             reply::no_reply(status)
         }
     }
 }
 
+#[tactic(auto, unfolding(responder_spec::specs::Decide::is_atomic))]
 fn is_atomic(kind: u8) -> bool
     ensures { result ≡ is_atomic kind }
 {
-    if kind == opcode::CMP_SWAP {
-        return true;
-    }
-    kind == opcode::FETCH_ADD
+    matches!(kind, opcode::CMP_SWAP | opcode::FETCH_ADD)
 }
 
 // A READ, by the region of its key.

@@ -156,8 +156,7 @@ pub fn decision(uc: bool, pair: Pair, tables: Tables, p: Packet) -> Decision
     }
     let opened = pair.message;
     let early = lost(uc, p, pair.expected, opened.kind);
-    let found = early.is(Status::Executed);
-    if found {
+    if early == Status::Executed {
         let m = request_checks::current(opened, p);
         let entry = table::entry_at(tables.entries, pair.entries.head);
         let region = key_region(tables.regions, p.kind, m.key);

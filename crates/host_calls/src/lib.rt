@@ -134,16 +134,13 @@ pub fn add_region(pair: Pair, regions: &mut [[u64; 7]; table::REGIONS], region: 
     if off {
         return Status::OutOfRange;
     }
-    let used = table::find(regions, false, number::u32_to_u64(region.key));
-    let free = table::find(regions, true, 0);
-    if used < table::REGIONS {
+    if table::key_row(regions, number::u32_to_u64(region.key)).is_some() {
         return Status::KeyInUse;
     }
-    if table::REGIONS <= free {
+    let Some(free) = table::free_row(regions) else {
         return Status::TableFull;
-    }
-    let row = table::region_row(region);
-    regions[free] = row;
+    };
+    regions[free] = table::region_row(region);
     Status::Executed
 }
 
@@ -152,10 +149,9 @@ pub fn remove_region(regions: &mut [[u64; 7]; table::REGIONS], key: u32) -> Stat
     ensures value { result ≡ remove_status regions.old key }
     ensures regions_after { regions.new ≡ remove_regions regions.old key }
 {
-    let at = table::find(regions, false, number::u32_to_u64(key));
-    if table::REGIONS <= at {
+    let Some(at) = table::key_row(regions, number::u32_to_u64(key)) else {
         return Status::NoSuchKey;
-    }
+    };
     regions[at] = [0; 7];
     Status::Executed
 }

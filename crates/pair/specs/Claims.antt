@@ -1,5 +1,5 @@
 -- What is proved of the pair and the host's calls, each statement by a name; the proofs stand in proofs/.
-use Rattle.std.specs.Prelude.{ℕ, ◌+◌, ◌%◌, ◌^◌, ◌≤◌, ◌<◌, ◌≡◌, false, cond, eqb, List, [], ◌∷◌, ◌++◌, ◌⊎◌, length, get_or, set}
+use Rattle.std.specs.Prelude.{ℕ, ◌+◌, ◌%◌, ◌^◌, ◌≤◌, ◌<◌, ◌≡◌, false, cond, eqb, List, [], ◌∷◌, ◌++◌, ◌⊎◌, length, get_or, set, None}
 use Rattle.pmtu.specs.Pieces.{pieces}
 use Rattle.pmtu.specs.Claims.{IsPmtu}
 use Rattle.table.specs.Table.{entry_slot, region_row, entry_row, no_region}
@@ -7,7 +7,6 @@ use Rattle.table.specs.View.{region_of, newest_saved}
 use Rattle.table.specs.Claims.{RegionFits, EntryFits, Free, HasKey, First, RegionsSound, EntriesSound, SavedSound}
 use Rattle.table.specs.declared.Region.{Region}
 use Rattle.table.specs.declared.Entry.{Entry}
-use Rattle.table.specs.declared.Saved.TheVariants.{Nothing}
 use Rattle.pair.specs.declared.Setup.{Setup}
 use Rattle.pair.specs.declared.Pair.{Pair}
 use Rattle.pair.specs.declared.HostOutcome.{HostOutcome}
@@ -289,7 +288,7 @@ FreshViews =
     (s : Setup) (rows : List (List ℕ))
     → ((key : ℕ) → region_of key no_regions ≡ no_region)
     × (entries_of (fresh_pair s) rows ≡ [])
-    × ((psn : ℕ) → newest_saved psn rows (fresh_pair s).saved ≡ Nothing)
+    × ((psn : ℕ) → newest_saved psn rows (fresh_pair s).saved ≡ None)
 
 -- The blank pair: no number, no function, no memory, and all else as in a fresh pair, but in Error.
 pub record Blank (q : Pair) : Type 0 where

@@ -1,15 +1,18 @@
 // The numbers of the answers.
-ghost use Rattle.std.specs.Prelude.{◌≡◌, eqb};
+ghost use Rattle.std.specs.Prelude.{◌≡◌};
 ghost use Rattle.pair.specs.Answer.{status_number};
 
 use crate::Status;
 
-impl Status {
+impl From<Status> for u8 {
+    ghost from_gives = { λ status number. number ≡ status_number status };
+
     // The number that the rules give the answer.
-    pub fn number(self) -> u8
-        ensures { result ≡ status_number self }
+    #[tactic(auto, unfolding(crate::specs::Answer::status_number))]
+    fn from(status: Status) -> u8
+        ensures { result ≡ status_number status }
     {
-        match self {
+        match status {
             Status::Executed => 0,
             Status::Acknowledged => 1,
             Status::ReadAccepted => 2,
@@ -30,12 +33,5 @@ impl Status {
             Status::KeyInUse => 38,
             Status::BadNumber => header::BAD_NUMBER,
         }
-    }
-
-    // Whether it is that answer.
-    pub fn is(self, other: Status) -> bool
-        ensures { result ≡ eqb (status_number self) (status_number other) }
-    {
-        self.number() == other.number()
     }
 }

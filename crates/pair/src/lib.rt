@@ -82,8 +82,8 @@ pub struct Pair {
     pub nakmark: bool,
 }
 
-// What a call answers; the rules' number of each is Status::number.
-#[derive(Clone, Copy)]
+// What a call answers; u8::from gives the rules' number of each.
+#[derive(Clone, Copy, Debug, PartialEq, Eq)]
 pub enum Status {
     Executed,
     Acknowledged,

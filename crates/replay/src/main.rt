@@ -43,7 +43,7 @@ fn receive<W: Write>(
     let o = responder::inbound(pair, regions, entries, saved, mem, packet, &mut out);
     let status = o.status;
     let next = drain(o.pair, mem);
-    print::answer(output, status.number(), next.expected.0, next.msn.0)?;
+    print::answer(output, u8::from(status), next.expected.0, next.msn.0)?;
     Ok(next)
 }
 

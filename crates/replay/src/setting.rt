@@ -1,5 +1,5 @@
 // The pair that the packets are for.
-use pair::{Pair, Setup};
+use pair::{Pair, Setup, Status};
 use sequence::Psn;
 use table::{Entry, Region};
 
@@ -56,7 +56,7 @@ pub(crate) fn pair(
 ) -> Pair {
     let fresh = host_calls::set_up(setup(), regions);
     let added = host_calls::add_region(fresh.pair, regions, region());
-    if added.number() != 0 {
+    if added != Status::Executed {
         return host_calls::blank();
     }
     let posted = post_entries(fresh.pair, entries);

@@ -1,4 +1,5 @@
 -- The packet of an answer reads back.
+use Rattle.std.proofs.Common.{Option, Some, None}
 use Prim.Native.Nat.{ℕ, zero, suc, ◌+◌, ◌^◌, ◌≤◌, ◌<◌}
 use mathlib.Core.Path.{◌≡◌, refl, sym, ap, subst, ◌∙◌}
 use mathlib.Core.Bool.{Bool, true, false, cond, ◌||◌}
@@ -30,8 +31,6 @@ use Rattle.table.specs.Table.{saved_capacity, saved_slot}
 use Rattle.table.specs.View.{ring_from, in_ring, later, newest, newest_saved, saved_rows}
 use Rattle.table.specs.Claims.{SavedSound}
 use Rattle.table.specs.declared.Ring.{Ring}
-use Rattle.table.specs.declared.Saved.{Saved}
-use Rattle.table.specs.declared.Saved.TheVariants.{Value, Nothing}
 use Rattle.memory.specs.Word.{word_at}
 use Rattle.memory.proofs.Words.{word_below}
 use Rattle.pair.specs.Answer.{status_number, executed}
@@ -122,15 +121,15 @@ reply-packets s r m pkey dest (psn, syndrome, msn, value) =
     }
 
 -- a saved value has 64 bits
-abbrev Small : Saved → Type 0
-Small (Value v) = v < 2 ^ 64
-Small Nothing = Unit {0}
+abbrev Small : Option ℕ → Type 0
+Small (Some v) = v < 2 ^ 64
+Small None = Unit {0}
 
-later-small : (a b : Saved) → Small a → Small b → Small (later a b)
-later-small (Value v) b x y = x
-later-small Nothing b x y = y
+later-small : (a b : Option ℕ) → Small a → Small b → Small (later a b)
+later-small (Some v) b x y = x
+later-small None b x y = y
 
-match-small : (b : Bool) (v : ℕ) → v < 2 ^ 64 → Small (cond b (Value v) Nothing)
+match-small : (b : Bool) (v : ℕ) → v < 2 ^ 64 → Small (cond b (Some v) None)
 match-small true v h = h
 match-small false v h = tt
 
@@ -141,7 +140,7 @@ unfolding ring_from newest
 ring-small psn rows head zero i h = tt
 ring-small psn rows head (suc n) i h =
     let row = get_or rows (saved_slot head i) [] in
-    later-small (newest psn (ring_from saved_slot rows head (suc i) n)) (cond (eqb (get_or row 0 0) psn) (Value (get_or row 1 0)) Nothing)
+    later-small (newest psn (ring_from saved_slot rows head (suc i) n)) (cond (eqb (get_or row 0 0) psn) (Some (get_or row 1 0)) None)
     (ring-small psn rows head n (suc i) (λ j k. h j (omega arith)))
     (match-small (eqb (get_or row 0 0) psn) (get_or row 1 0) (h i (omega arith)))
 
@@ -149,7 +148,7 @@ saved-small : (psn : ℕ) (rows : List (List ℕ)) (r : Ring) → SavedSound row
 unfolding newest_saved
 saved-small psn rows r S = go (ltb saved_capacity r.count)
   where
-    go : (b : Bool) → Small (cond b Nothing (newest psn (in_ring saved_slot rows r)))
+    go : (b : Bool) → Small (cond b None (newest psn (in_ring saved_slot rows r)))
     go true = tt
     go false = ring-small psn rows r.head r.count 0 (λ j k. (S.each j (omega arith)).1)
 
@@ -232,7 +231,7 @@ module _ (arrival : Arrival) where
   abbrev DuplicateLeaves : Left → Type 0
   DuplicateLeaves l =
       AckSent arrival l (psn_after arrival.whole.pair.expected 16777215) 31
-      ⊎ (((v : ℕ) × (newest_saved (bth_of arrival.packet).psn.0 arrival.whole.saved arrival.whole.pair.saved ≡ Value v) × ValueSent arrival l (bth_of arrival.packet).psn v) ⊎ (l.outgoing ≡ 0))
+      ⊎ (((v : ℕ) × (newest_saved (bth_of arrival.packet).psn.0 arrival.whole.saved arrival.whole.pair.saved ≡ Some v) × ValueSent arrival l (bth_of arrival.packet).psn v) ⊎ (l.outgoing ≡ 0))
 
   abbrev Sends : Status → Left → Type 0
   Sends status.Executed l = Unit {0}

@@ -1,5 +1,5 @@
 -- The packet of an answer, read back; and what stands behind it in the output.
-use Rattle.std.specs.Prelude.{ℕ, ◌+◌, ◌-◌, ◌^◌, ◌<◌, ◌≡◌, List, [], ◌⊎◌, take, drop}
+use Rattle.std.specs.Prelude.{ℕ, ◌+◌, ◌-◌, ◌^◌, ◌<◌, ◌≡◌, List, [], ◌⊎◌, take, drop, Some}
 use Rattle.responder_spec.specs.Arrival.{Arrival, Left}
 use Rattle.responder_spec.specs.Inbound.{inbound}
 use Rattle.sequence.specs.Sequence.{psn_after}
@@ -11,7 +11,6 @@ use Rattle.header.specs.declared.HeaderRead.TheVariants.{Accepted}
 use Rattle.memory.specs.Word.{word_at}
 use Rattle.table.specs.Claims.{SavedSound}
 use Rattle.table.specs.View.{newest_saved, saved_rows}
-use Rattle.table.specs.declared.Saved.TheVariants.{Value}
 use Rattle.pmtu.specs.Pieces.{pieces}
 use Rattle.pair.specs.declared.Setup.{Setup}
 use Rattle.pair.specs.declared.Pair.{Pair}
@@ -59,7 +58,7 @@ pub record Replies (a : Arrival) (l : Left) : Type 0 where
       × (l.whole.saved ≡ saved_rows a.whole.saved a.whole.pair.saved (bth_of a.packet).psn.0 (word_at a.memory at))
   pub duplicate : l.number ≡ 4
       → AckSent a l (psn_after a.whole.pair.expected 16777215) 31
-      ⊎ (((v : ℕ) × (newest_saved (bth_of a.packet).psn.0 a.whole.saved a.whole.pair.saved ≡ Value v)
+      ⊎ (((v : ℕ) × (newest_saved (bth_of a.packet).psn.0 a.whole.saved a.whole.pair.saved ≡ Some v)
       × ValueSent a l (bth_of a.packet).psn v)
       ⊎ (l.outgoing ≡ 0))
   pub sequence : l.number ≡ 16 → AckSent a l a.whole.pair.expected 96

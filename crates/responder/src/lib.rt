@@ -48,7 +48,7 @@ pub fn decided(pair: Pair, tables: Tables, mem: &[u8], packet: &[u8], out: &[u8]
     ensures { result ≡ decision (arriving pair tables.entry.regions.now tables.entry.entries.now tables.entry.saved.now mem.now packet.now out.now) }
 {
     let refused = refuse::refusal(pair, mem.len(), out.len());
-    if refused.number() != 0 {
+    if u8::from(refused) != 0 {
         return reply::no_reply(refused);
     }
     let found = decode::admit(

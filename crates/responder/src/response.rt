@@ -36,7 +36,7 @@ pub fn next_response(pair: Pair, mem: &[u8], out: &mut [u8]) -> Outcome
     ensures out_after { out.new ≡ next_out pair mem.now out.old }
 {
     let status = next_status(pair, mem.len(), out.len());
-    if status.number() != 0 {
+    if u8::from(status) != 0 {
         return unchanged(status, pair);
     }
     let responses = reply::read_reply(pair.read);

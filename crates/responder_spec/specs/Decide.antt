@@ -1,5 +1,5 @@
 -- What a packet leads to: one decision, by the rules of the reliable connection and by those of the unreliable one.
-use Rattle.std.specs.Prelude.{ℕ, ◌+◌, ◌-◌, Bool, true, false, cond, not, ◌&&◌, ◌||◌, List, [], eqb, ltb, length, get_or}
+use Rattle.std.specs.Prelude.{ℕ, ◌+◌, ◌-◌, Bool, true, false, cond, not, ◌&&◌, ◌||◌, List, [], eqb, ltb, length, get_or, Option, Some, None}
 use Rattle.sequence.specs.Sequence.{space, distance, psn_after, psn_class}
 use Rattle.sequence.specs.declared.Psn.{Psn}
 use Rattle.sequence.specs.declared.Class.{Class}
@@ -15,8 +15,6 @@ use Rattle.pmtu.specs.Pieces.{pieces}
 use Rattle.table.specs.Table.{entry_slot, no_region, memory_offset}
 use Rattle.table.specs.View.{region_of, newest_saved}
 use Rattle.table.specs.EntryRow as EntryRow
-use Rattle.table.specs.declared.Saved.{Saved}
-use Rattle.table.specs.declared.Saved.TheVariants.{Value, Nothing}
 use Rattle.pair.specs.Answer.{executed}
 use Rattle.pair.specs.Number as Number
 use Rattle.pair.specs.State as State
@@ -202,15 +200,15 @@ duplicate_read p s m expected region =
     (reply_only status.DuplicateAnswered (read_begun (memory_offset region m.address m.length) m.length (pieces m.length s.pmtu) p.psn))
 
 -- A duplicate atomic is answered from what was saved, or not at all
-abbrev pub duplicate_atomic : Saved → Psn → Decision
-duplicate_atomic (Value v) psn = reply_only status.DuplicateAnswered (sending Kind.atomic_acknowledge psn Syndrome.ack v)
-duplicate_atomic Nothing psn = no_reply status.Dropped
+abbrev pub duplicate_atomic : Option ℕ → Psn → Decision
+duplicate_atomic (Some v) psn = reply_only status.DuplicateAnswered (sending Kind.atomic_acknowledge psn Syndrome.ack v)
+duplicate_atomic None psn = no_reply status.Dropped
 
 -- an atomic's kind
 unfoldable pub is_atomic : ℕ → Bool
 is_atomic kind = eqb kind Kind.cmp_swap || eqb kind Kind.fetch_add
 
-unfoldable pub duplicate_decision : Packet → Setup → Psn → OpenMessage → List ℕ → Saved → Decision
+unfoldable pub duplicate_decision : Packet → Setup → Psn → OpenMessage → List ℕ → Option ℕ → Decision
 duplicate_decision p s expected m region saved =
     cond (carrying p.kind) (acknowledging status.DuplicateAnswered (psn_before expected) Syndrome.ack)
     (cond (eqb p.kind Kind.read) (duplicate_read p s m expected region)
@@ -225,7 +223,7 @@ abbrev pub head_entry : Pair → List (List ℕ) → List ℕ
 head_entry q entries = get_or entries (entry_slot q.entries.head 0) []
 
 -- By the class of its number
-abbrev pub decision_by_class : Class → Pair → Packet → List ℕ → List ℕ → Saved → Decision
+abbrev pub decision_by_class : Class → Pair → Packet → List ℕ → List ℕ → Option ℕ → Decision
 decision_by_class class.Expected q p entry region saved = expected_decision p q.setup q.message q.entries.count entry region
 decision_by_class class.Ahead q p entry region saved = ahead_decision q.nakmark q.expected
 decision_by_class class.Duplicate q p entry region saved =

@@ -1,4 +1,5 @@
 -- Whatever is decided leads to a steady pair.
+use Rattle.std.proofs.Common.{Option, Some, None}
 use Prim.Native.Nat.{ℕ, ◌+◌, ◌^◌, ◌≤◌, ◌<◌}
 use mathlib.Core.Path.{◌≡◌, refl, ap, subst, ◌∙◌}
 use mathlib.Core.Bool.{Bool, true, false, cond, not, true≢false}
@@ -19,8 +20,6 @@ use Rattle.header.specs.declared.HeaderRead.TheVariants as read
 use Rattle.opcode.specs.Place.{starts}
 use Rattle.pmtu.specs.Pieces.{pieces}
 use Rattle.table.specs.View.{newest_saved}
-use Rattle.table.specs.declared.Saved.{Saved}
-use Rattle.table.specs.declared.Saved.TheVariants.{Value, Nothing}
 use Rattle.pair.specs.Answer.{status_number, executed}
 use Rattle.pair.specs.Calls.{Whole, with_pair}
 use Rattle.pair.specs.Sound.{pair_unsound}
@@ -122,10 +121,10 @@ module _ (w : Whole) (W : Steady w) where
       (λ e. branch w (eqb (check_answer code) 18) _ _ (λ f. ack-leads w W status.AccessNak psn 98 refl)
       (λ f. branch w (eqb (check_answer code) 19) _ _ (λ g. ack-leads w W status.NotReadyNak psn (32 + timer) refl) (λ g. quiet-leads w W status.OutOfRange refl)))
 
-  atomic-leads : (s : Saved) (psn : Psn) → Leads w (duplicate_atomic s psn)
+  atomic-leads : (s : Option ℕ) (psn : Psn) → Leads w (duplicate_atomic s psn)
   unfolding status_number
-  atomic-leads (Value v) psn = reply-only-leads w W status.DuplicateAnswered 18 psn Syndrome.ack v refl
-  atomic-leads Nothing psn = quiet-leads w W status.Dropped refl
+  atomic-leads (Some v) psn = reply-only-leads w W status.DuplicateAnswered 18 psn Syndrome.ack v refl
+  atomic-leads None psn = quiet-leads w W status.Dropped refl
 
   module _ (p : Packet) (n : p.psn.0 < 2 ^ 24) (s : p.kind ≡ 12 → starts p.place ≡ true) where
     abbrev message : OpenMessage
@@ -156,7 +155,7 @@ module _ (w : Whole) (W : Steady w) where
         duplicate-read-leads w W _ message.length (pieces message.length w.pair.setup.pmtu) p.psn (omega arith)
         (whole_in w.pair.setup.memory 12 message region (λ o. omega arith) z f) n)
 
-    duplicate-leads : (v : Saved) → Leads w (duplicate_decision p w.pair.setup w.pair.expected message region v)
+    duplicate-leads : (v : Option ℕ) → Leads w (duplicate_decision p w.pair.setup w.pair.expected message region v)
     unfolding duplicate_decision status_number
     duplicate-leads v =
         branch w (carrying p.kind) _ _ (λ e. ack-leads w W status.DuplicateAnswered (psn_before w.pair.expected) Syndrome.ack refl)

@@ -1,11 +1,9 @@
 -- Rings, whatever the capacity: a row more at the end, a row less at the head, the oldest overwritten. Then the rings
 -- of a pair, and the search of the saved atomics.
-use Rattle.std.proofs.Common.{◌≡◌, ℕ, zero, suc, ◌+◌, ◌-◌, ◌*◌, ◌/◌, ◌%◌, ◌<◌, ◌≤◌, Bool, true, false, cond, eqb, ltb, List, [], ◌∷◌, ◌++◌, length, get_or, drop, set, sym, refl, ap, ◌∙◌, subst, add-zero, mul-le-mul_right, mod-lt, mod-eq_of_lt, div-add-mod', add-one, arith, length-set, get_or-set_other, get_or-set_same, ltb-false, ltb-true, le-ltb, lt-ltb, eq-eqb, ne_eqb, eqb-true}
+use Rattle.std.proofs.Common.{◌≡◌, ℕ, zero, suc, ◌+◌, ◌-◌, ◌*◌, ◌/◌, ◌%◌, ◌<◌, ◌≤◌, Bool, true, false, cond, eqb, ltb, List, [], ◌∷◌, ◌++◌, length, get_or, drop, set, sym, refl, ap, ◌∙◌, subst, add-zero, mul-le-mul_right, mod-lt, mod-eq_of_lt, div-add-mod', add-one, arith, length-set, get_or-set_other, get_or-set_same, ltb-false, ltb-true, le-ltb, lt-ltb, eq-eqb, ne_eqb, eqb-true, Option, Some, None}
 use native.Mathlib.Nat.{mod-add-mod, add-mod_right}
 use borrow.Author.Tests.{eqb-false}
 use Rattle.table.specs.declared.Ring.{Ring}
-use Rattle.table.specs.declared.Saved.{Saved}
-use Rattle.table.specs.declared.Saved.TheVariants.{Value, Nothing}
 use Rattle.table.specs.Table.{entry_capacity, saved_capacity, entry_slot, saved_slot, entry_row}
 use Rattle.table.specs.View.{ring_from, in_ring, one_more, turned, overwritten, later, newest, newest_saved, saved_ring, saved_rows}
 use Rattle.table.specs.Claims.{SlotLaws, SlotsAre, Capacities, EntrySlots, SavedSlots, RingSound, RingLaws, EntryRing, SavedRing, EntrySound, SavedNumbers, PostedSound}
@@ -212,7 +210,7 @@ saves-sound rows r psn value S a b p v =
     let bounds = saved-ring.overwrites-within r (omega arith) (omega arith) in
     (saved-ring.overwrites-sound SavedNumbers rows r (psn ∷ value ∷ []) S (omega arith) (p, v), bounds.0, bounds.1)
 
-pub later-if : (b : Bool) (v : ℕ) (s t : Saved) → later (cond b (Value v) s) t ≡ cond b (Value v) (later s t)
+pub later-if : (b : Bool) (v : ℕ) (s t : Option ℕ) → later (cond b (Some v) s) t ≡ cond b (Some v) (later s t)
 later-if true v s t = refl
 later-if false v s t = refl
 
@@ -220,28 +218,28 @@ pub newest-last : Newest
 unfolding newest
 newest-last psn [] row = refl
 newest-last psn (x ∷ rows) row =
-    rw (newest-last psn rows row) (later-if (eqb (get_or row 0 0) psn) (get_or row 1 0) (newest psn rows) (cond (eqb (get_or x 0 0) psn) (Value (get_or x 1 0)) Nothing))
+    rw (newest-last psn rows row) (later-if (eqb (get_or row 0 0) psn) (get_or row 1 0) (newest psn rows) (cond (eqb (get_or x 0 0) psn) (Some (get_or x 1 0)) None))
 
 -- the search from the newest row back
 module _ (slot : ℕ → ℕ → ℕ) (psn : ℕ) (rows : List (List ℕ)) (head n : ℕ) (h : 0 < n) where
   from_last : newest psn (ring_from slot rows head 0 n)
-      ≡ cond (eqb (get_or (get_or rows (slot head (n - 1)) []) 0 0) psn) (Value (get_or (get_or rows (slot head (n - 1)) []) 1 0)) (newest psn (ring_from slot rows head 0 (n - 1)))
+      ≡ cond (eqb (get_or (get_or rows (slot head (n - 1)) []) 0 0) psn) (Some (get_or (get_or rows (slot head (n - 1)) []) 1 0)) (newest psn (ring_from slot rows head 0 (n - 1)))
   from_last =
       let e : n ≡ suc (n - 1) = omega arith in
       let z : 0 + (n - 1) ≡ n - 1 = omega arith in
       ap (λ k. newest psn (ring_from slot rows head 0 k)) e
       ∙ (ap (newest psn) (last_row slot rows head 0 (n - 1))
       ∙ (newest-last psn (ring_from slot rows head 0 (n - 1)) (get_or rows (slot head (0 + (n - 1))) [])
-      ∙ ap (λ k. cond (eqb (get_or (get_or rows (slot head k) []) 0 0) psn) (Value (get_or (get_or rows (slot head k) []) 1 0)) (newest psn (ring_from slot rows head 0 (n - 1)))) z))
+      ∙ ap (λ k. cond (eqb (get_or (get_or rows (slot head k) []) 0 0) psn) (Some (get_or (get_or rows (slot head k) []) 1 0)) (newest psn (ring_from slot rows head 0 (n - 1)))) z))
 
   module _ (at : ℕ) (a : at ≡ slot head (n - 1)) where
-    pub newest-here : get_or (get_or rows at []) 0 0 ≡ psn → newest psn (ring_from slot rows head 0 n) ≡ Value (get_or (get_or rows at []) 1 0)
+    pub newest-here : get_or (get_or rows at []) 0 0 ≡ psn → newest psn (ring_from slot rows head 0 n) ≡ Some (get_or (get_or rows at []) 1 0)
     newest-here e = from_last ∙ rw (sym a, eq-eqb (get_or (get_or rows at []) 0 0) psn e)
 
     pub newest-next : (get_or (get_or rows at []) 0 0 ≡ psn → ⊥) → newest psn (ring_from slot rows head 0 n) ≡ newest psn (ring_from slot rows head 0 (n - 1))
     newest-next e = from_last ∙ rw (sym a, ne_eqb (get_or (get_or rows at []) 0 0) psn e)
 
-pub newest-none : (slot : ℕ → ℕ → ℕ) (psn : ℕ) (rows : List (List ℕ)) (head n : ℕ) → n ≤ 0 → newest psn (ring_from slot rows head 0 n) ≡ Nothing
+pub newest-none : (slot : ℕ → ℕ → ℕ) (psn : ℕ) (rows : List (List ℕ)) (head n : ℕ) → n ≤ 0 → newest psn (ring_from slot rows head 0 n) ≡ None
 unfolding newest ring_from
 newest-none slot psn rows head n h = let e : n ≡ 0 = omega arith in rw e
 
@@ -262,20 +260,20 @@ module _ (rows : List (List ℕ)) (r : Ring) (psn value : ℕ) where
   -- the newest of a number after a save: what was saved if it has that number, else the newest of those before it
   after-save : (other : ℕ) (before : List (List ℕ)) → r.count ≤ 16
       → in_ring saved_slot (saved_rows rows r psn value) (saved_ring r) ≡ before ++ ((psn ∷ value ∷ []) ∷ [])
-      → newest_saved other (saved_rows rows r psn value) (saved_ring r) ≡ cond (eqb psn other) (Value value) (newest other before)
+      → newest_saved other (saved_rows rows r psn value) (saved_ring r) ≡ cond (eqb psn other) (Some value) (newest other before)
   after-save other before h e =
       newest-saved other (saved_rows rows r psn value) (saved_ring r) (saved-by (λ x. x.count ≤ 16) r (λ more. omega arith) (λ full. h))
       ∙ (ap (newest other) e ∙ newest-last other before (psn ∷ value ∷ []))
 
   found-by : (before : List (List ℕ)) → r.count ≤ 16
       → in_ring saved_slot (saved_rows rows r psn value) (saved_ring r) ≡ before ++ ((psn ∷ value ∷ []) ∷ [])
-      → newest_saved psn (saved_rows rows r psn value) (saved_ring r) ≡ Value value
+      → newest_saved psn (saved_rows rows r psn value) (saved_ring r) ≡ Some value
   found-by before h e = after-save psn before h e ∙ rw (eq-eqb psn psn refl)
 
 pub saved-found : SavedFound
 saved-found rows r psn value l h = go (ltb r.count 16) refl
   where
-    go : (t : Bool) → ltb r.count 16 ≡ t → newest_saved psn (saved_rows rows r psn value) (saved_ring r) ≡ Value value
+    go : (t : Bool) → ltb r.count 16 ≡ t → newest_saved psn (saved_rows rows r psn value) (saved_ring r) ≡ Some value
     go true e = found-by rows r psn value (in_ring saved_slot rows r) h (saves rows r psn value l (ltb-true r.count 16 e))
     go false e =
         found-by rows r psn value (drop 1 (in_ring saved_slot rows r)) h (saves-full rows r psn value l (omega (arith, ltb-false r.count 16 e)))

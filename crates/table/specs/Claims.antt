@@ -1,9 +1,8 @@
 -- What is proved of the tables, each statement by a name; the proofs stand in proofs/.
-use Rattle.std.specs.Prelude.{◌≡◌, ℕ, suc, ◌+◌, ◌-◌, ◌%◌, ◌^◌, ◌<◌, ◌≤◌, false, cond, ◌⊎◌, List, [], ◌∷◌, ◌++◌, length, get_or, drop, ◌==◌, ◌≢◌, slice_index, slice_index_or, slice_set}
+use Rattle.std.specs.Prelude.{◌≡◌, ℕ, suc, ◌+◌, ◌-◌, ◌%◌, ◌^◌, ◌<◌, ◌≤◌, false, cond, ◌⊎◌, List, [], ◌∷◌, ◌++◌, length, get_or, drop, ◌==◌, ◌≢◌, slice_index, slice_index_or, slice_set, Some, None}
 use Rattle.table.specs.declared.Region.{Region}
 use Rattle.table.specs.declared.Entry.{Entry}
 use Rattle.table.specs.declared.Ring.{Ring}
-use Rattle.table.specs.declared.Saved.TheVariants.{Value, Nothing}
 use Rattle.table.specs.Table.{entry_slot, saved_slot, outside, region_outside, region_row, entry_row, no_region, key_row, free_row}
 use Rattle.table.specs.View.{region_of, in_ring, one_more, overwritten, newest, newest_saved, saved_ring, saved_rows}
 
@@ -205,25 +204,25 @@ SavesSound =
 -- The newest of no rows is nothing; of a list that ends in a row it is that row's value if it has the PSN, else the
 -- newest of the rest. In a table it is the newest of the rows in use.
 abbrev pub NewestNone : Type 0
-NewestNone = (psn : ℕ) → newest psn [] ≡ Nothing
+NewestNone = (psn : ℕ) → newest psn [] ≡ None
 
 abbrev pub Newest : Type 0
 Newest =
     (psn : ℕ) (rows : List (List ℕ)) (row : List ℕ)
-    → newest psn (rows ++ (row ∷ [])) ≡ cond (slice_index row 0 == psn) (Value (slice_index row 1)) (newest psn rows)
+    → newest psn (rows ++ (row ∷ [])) ≡ cond (slice_index row 0 == psn) (Some (slice_index row 1)) (newest psn rows)
 
 abbrev pub NewestSaved : Type 0
 NewestSaved = (psn : ℕ) (rows : List (List ℕ)) (r : Ring) → r.count ≤ 16 → newest_saved psn rows r ≡ newest psn (in_ring saved_slot rows r)
 
 abbrev pub NewestOver : Type 0
-NewestOver = (psn : ℕ) (rows : List (List ℕ)) (r : Ring) → 16 < r.count → newest_saved psn rows r ≡ Nothing
+NewestOver = (psn : ℕ) (rows : List (List ℕ)) (r : Ring) → 16 < r.count → newest_saved psn rows r ≡ None
 
 -- So an atomic is found as soon as it is saved. Of another number the newest is as it was; with 16 saved before, it is
 -- the newest of those but the oldest.
 abbrev pub SavedFound : Type 0
 SavedFound =
     (rows : List (List ℕ)) (r : Ring) (psn value : ℕ) → length rows ≡ 16 → r.count ≤ 16
-    → newest_saved psn (saved_rows rows r psn value) (saved_ring r) ≡ Value value
+    → newest_saved psn (saved_rows rows r psn value) (saved_ring r) ≡ Some value
 
 abbrev pub SavedOther : Type 0
 SavedOther =

@@ -1,5 +1,5 @@
 -- The tables of a pair as rows of numbers.
-use Rattle.std.specs.Prelude.{ℕ, zero, suc, ◌+◌, ◌-◌, ◌%◌, ◌^◌, Bool, true, false, cond, ◌||◌, List, [], ◌∷◌, replicate, ◌==◌, nat_le, nat_lt, slice_index_or}
+use Rattle.std.specs.Prelude.{ℕ, zero, suc, ◌+◌, ◌-◌, ◌%◌, ◌^◌, Bool, true, false, cond, ◌||◌, List, [], ◌∷◌, replicate, ◌==◌, nat_le, nat_lt, slice_index_or, Option, Some, None}
 use Rattle.table.specs.RegionRow as RegionRow
 use Rattle.table.specs.declared.Region.{Region}
 use Rattle.table.specs.declared.Entry.{Entry}
@@ -14,12 +14,16 @@ entry_capacity = 16
 abbrev pub saved_capacity : ℕ
 saved_capacity = 16
 
--- entries and saved atomics are rings: position i is the row i past the head, and after the last row comes row 0
+-- a ring: position i is the row i past the head, and after the last row comes row 0
+abbrev pub slot : ℕ → ℕ → ℕ → ℕ
+slot capacity head i = (head + i) % capacity
+
+-- so it is with entries and saved atomics
 unfoldable pub entry_slot : ℕ → ℕ → ℕ
-entry_slot head i = (head + i) % entry_capacity
+entry_slot head i = slot entry_capacity head i
 
 unfoldable pub saved_slot : ℕ → ℕ → ℕ
-saved_slot head i = (head + i) % saved_capacity
+saved_slot head i = slot saved_capacity head i
 
 -- length bytes from offset on do not all lie in memory
 unfoldable pub outside : ℕ → ℕ → ℕ → Bool
@@ -70,3 +74,7 @@ key_row key rows = first_from false key rows 0 region_capacity
 
 abbrev pub free_row : List (List ℕ) → ℕ
 free_row rows = first_from true 0 rows 0 region_capacity
+
+-- the row at that number, where it is one of the table
+abbrev pub row_found : ℕ → Option ℕ
+row_found i = cond (nat_lt i region_capacity) (Some i) None

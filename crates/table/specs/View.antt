@@ -1,8 +1,6 @@
 -- What a table holds, whichever rows it stands in.
-use Rattle.std.specs.Prelude.{ℕ, zero, suc, ◌+◌, Bool, cond, List, [], ◌∷◌, ◌==◌, nat_lt, slice_index_or, slice_set}
+use Rattle.std.specs.Prelude.{ℕ, zero, suc, ◌+◌, Bool, cond, List, [], ◌∷◌, ◌==◌, nat_lt, slice_index_or, slice_set, Option, Some, None}
 use Rattle.table.specs.declared.Ring.{Ring}
-use Rattle.table.specs.declared.Saved.{Saved}
-use Rattle.table.specs.declared.Saved.TheVariants.{Value, Nothing}
 use Rattle.table.specs.SavedRow as SavedRow
 use Rattle.table.specs.Table.{region_capacity, saved_capacity, saved_slot, no_region, key_row}
 
@@ -31,22 +29,22 @@ turned slot r = record { head = slot r.head 1; count = r.count }
 abbrev pub overwritten : ℕ → (ℕ → ℕ → ℕ) → Ring → Ring
 overwritten capacity slot r = cond (nat_lt r.count capacity) (one_more r) (turned slot r)
 
-abbrev pub later : Saved → Saved → Saved
-later (Value v) s = Value v
-later Nothing s = s
+abbrev pub later : Option ℕ → Option ℕ → Option ℕ
+later (Some v) s = Some v
+later None s = s
 
 -- a saved atomic is that of a duplicate if it has the packet's PSN
 abbrev pub saved_match : ℕ → List ℕ → Bool
 saved_match psn row = SavedRow.psn row == psn
 
 -- of those saved, oldest first, the value of the newest that matches
-unfoldable pub newest : ℕ → List (List ℕ) → Saved
-newest psn [] = Nothing
-newest psn (row ∷ rows) = later (newest psn rows) (cond (saved_match psn row) (Value (SavedRow.value row)) Nothing)
+unfoldable pub newest : ℕ → List (List ℕ) → Option ℕ
+newest psn [] = None
+newest psn (row ∷ rows) = later (newest psn rows) (cond (saved_match psn row) (Some (SavedRow.value row)) None)
 
 -- the newest in a table; a ring that has more rows than there are has none
-unfoldable pub newest_saved : ℕ → List (List ℕ) → Ring → Saved
-newest_saved psn rows r = cond (nat_lt saved_capacity r.count) Nothing (newest psn (in_ring saved_slot rows r))
+unfoldable pub newest_saved : ℕ → List (List ℕ) → Ring → Option ℕ
+newest_saved psn rows r = cond (nat_lt saved_capacity r.count) None (newest psn (in_ring saved_slot rows r))
 
 -- one atomic more: the seventeenth replaces the oldest
 unfoldable pub saved_ring : Ring → Ring

@@ -1,9 +1,9 @@
 // The tables of a pair, lent as rows of numbers: regions, receive entries, saved atomics.
 #![tactic(auto)]
 
-ghost use Rattle.std.specs.Prelude.{◌≡◌, ◌%◌, ◌^◌, ◌<◌, ◌≤◌, [], slice_index_or};
+ghost use Rattle.std.specs.Prelude.{◌≡◌, ◌+◌, ◌%◌, ◌^◌, ◌<◌, ◌≤◌, [], slice_index_or};
 ghost use Rattle.table.specs.View.{region_of, ring_from, newest, newest_saved, saved_ring, saved_rows};
-ghost use Rattle.table.specs.Table.{region_capacity, entry_capacity, saved_capacity, entry_slot, saved_slot, memory_offset, sought, first_from, region_row, entry_row, outside, past_top, region_outside};
+ghost use Rattle.table.specs.Table.{entry_capacity, slot, entry_slot, saved_slot, memory_offset, key_row, free_row, row_found, region_row, entry_row, outside, past_top, region_outside};
 
 use sequence::Psn;
 
@@ -77,13 +77,6 @@ pub struct Ring {
     pub count: usize,
 }
 
-// The value that a saved atomic answered, if there is one.
-#[derive(Clone, Copy)]
-pub enum Saved {
-    Value(u64),
-    Nothing,
-}
-
 // Whether length bytes from offset on do not all lie in memory.
 pub fn outside(offset: u64, length: u64, memory: u64) -> bool
     ensures { result ≡ outside offset length memory }
@@ -131,45 +124,30 @@ pub fn entry_row(e: Entry) -> [u64; 3]
     [e.number, e.offset, e.length]
 }
 
-// Whether a row is the one sought: a free one, or the one of a key.
-fn hit(free: bool, key: u64, of: u64, length: u64) -> bool
-    ensures { result ≡ sought free key of length }
+// The first row of a key; an empty row has none.
+pub fn key_row(regions: &[[u64; 7]; REGIONS], key: u64) -> Option<usize>
+    ensures { result ≡ row_found (key_row key regions.now) }
 {
-    if free {
-        return length == 0;
-    }
-    if length == 0 {
-        return false;
-    }
-    of == key
+    regions
+        .iter()
+        .position(|row| row[REGION_LENGTH] != 0 && row[REGION_KEY] == key)
 }
 
-// The first free row, whatever the key, or the first row of the key; REGIONS where there is none.
-pub fn find(regions: &[[u64; 7]; REGIONS], free: bool, key: u64) -> usize
-    ensures value { result ≡ first_from free key regions.now 0 region_capacity }
-    ensures upper_bound { result ≤ region_capacity }
+// The first empty row.
+pub fn free_row(regions: &[[u64; 7]; REGIONS]) -> Option<usize>
+    ensures { result ≡ row_found (free_row regions.now) }
 {
-    let mut i: usize = 0;
-    while i < REGIONS {
-        let row = regions[i];
-        let found = hit(free, key, row[REGION_KEY], row[REGION_LENGTH]);
-        if found {
-            return i;
-        }
-        i = i + 1;
-    }
-    i
+    regions.iter().position(|row| row[REGION_LENGTH] == 0)
 }
 
 // The row of a key's region; an empty row where no region has the key.
 pub fn region_of(regions: &[[u64; 7]; REGIONS], key: u32) -> [u64; 7]
     ensures { result ≡ region_of key regions.now }
 {
-    let i = find(regions, false, number::u32_to_u64(key));
-    if REGIONS <= i {
-        return [0; 7];
+    match key_row(regions, number::u32_to_u64(key)) {
+        Some(i) => regions[i],
+        None => [0; 7],
     }
-    regions[i]
 }
 
 // Where in memory the bytes at an address of a region lie, for as many as are needed; by its remainder, so that nothing
@@ -192,19 +170,22 @@ pub fn entry_at(entries: &[[u64; 3]; ENTRIES], head: usize) -> [u64; 3]
     entries[at]
 }
 
-// The row of position i among the entries, and among the saved atomics.
+// The row of position i past the head of a ring of N rows: after the last row comes the first.
+fn slot<const N: usize>(head: usize, i: usize) -> usize
+    requires some { 0 < N }
+    requires index_fits { N + N ≤ 2 ^ 64 }
+    ensures value { result ≡ slot N head i }
+    ensures upper_bound { result < N }
+{
+    (head % N + i % N) % N
+}
+
+// The row of position i among the entries.
 pub fn entry_slot(head: usize, i: usize) -> usize
     ensures value { result ≡ entry_slot head i }
     ensures upper_bound { result < entry_capacity }
 {
-    (head % ENTRIES + i % ENTRIES) % ENTRIES
-}
-
-fn saved_slot(head: usize, i: usize) -> usize
-    ensures value { result ≡ saved_slot head i }
-    ensures upper_bound { result < saved_capacity }
-{
-    (head % SAVED + i % SAVED) % SAVED
+    slot::<ENTRIES>(head, i)
 }
 
 // The ring with one atomic more: the seventeenth replaces the oldest.
@@ -218,7 +199,7 @@ pub fn saved_ring(ring: Ring) -> Ring
             count: count + 1,
         };
     }
-    let head = saved_slot(ring.head, 1);
+    let head = slot::<SAVED>(ring.head, 1);
     Ring { head, count }
 }
 
@@ -226,33 +207,30 @@ pub fn saved_ring(ring: Ring) -> Ring
 pub fn save(saved: &mut [[u64; 2]; SAVED], ring: Ring, psn: Psn, value: u64)
     ensures { saved.new ≡ saved_rows saved.old ring psn.0 value }
 {
-    let at = saved_slot(ring.head, ring.count);
+    let at = slot::<SAVED>(ring.head, ring.count);
     let row = [number::u32_to_u64(psn.0), value];
     saved[at] = row;
 }
 
 // What the atomic saved last under this PSN answered.
-pub fn newest(saved: &[[u64; 2]; SAVED], ring: Ring, psn: Psn) -> Saved
+pub fn newest(saved: &[[u64; 2]; SAVED], ring: Ring, psn: Psn) -> Option<u64>
     ensures { result ≡ newest_saved psn.0 saved.now ring }
 {
     if SAVED < ring.count {
-        return Saved::Nothing;
+        return None;
     }
     newest_of(saved, ring.head, ring.count, number::u32_to_u64(psn.0))
 }
 
 // Of the first n rows of a ring, looking at the last first.
-fn newest_of(saved: &[[u64; 2]; SAVED], head: usize, n: usize, psn: u64) -> Saved
+fn newest_of(saved: &[[u64; 2]; SAVED], head: usize, n: usize, psn: u64) -> Option<u64>
     ensures { result ≡ newest psn (ring_from saved_slot saved.now head 0 n) }
 {
-    let mut rest = n;
-    while 0 < rest {
-        let at = saved_slot(head, rest - 1);
-        let row = saved[at];
+    for i in (0..n).rev() {
+        let row = saved[slot::<SAVED>(head, i)];
         if row[SAVED_PSN] == psn {
-            return Saved::Value(row[SAVED_VALUE]);
+            return Some(row[SAVED_VALUE]);
         }
-        rest = rest - 1;
     }
-    Saved::Nothing
+    None
 }

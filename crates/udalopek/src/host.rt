@@ -16,7 +16,7 @@ fn leave(pair: &mut [u64], left: HostOutcome) -> u8
     ensures pair_after { pair.new ≡ cond (executed left.status) (overwrite_words pair.old (pair_words left.pair)) pair.old }
 {
     let status = left.status;
-    let number = status.number();
+    let number = u8::from(status);
     if number != 0 {
         return number;
     }
@@ -132,7 +132,7 @@ pub extern "C" fn udalopek_add_region(
         atomic,
     };
     let status = host_calls::add_region(q, regions, region);
-    status.number()
+    u8::from(status)
 }
 
 // Takes a key back.
@@ -149,7 +149,7 @@ pub extern "C" fn udalopek_remove_region(
         return header::OUT_OF_RANGE;
     }
     let status = host_calls::remove_region(regions, key);
-    status.number()
+    u8::from(status)
 }
 
 // Gives memory for a message that a peer will send.
@@ -177,7 +177,7 @@ pub extern "C" fn udalopek_post_entry(
     };
     let posted = host_calls::post_entry(q, entries, entry);
     let status = posted.status;
-    let answer = status.number();
+    let answer = u8::from(status);
     if answer != 0 {
         return answer;
     }

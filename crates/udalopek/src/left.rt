@@ -124,7 +124,7 @@ pub(crate) fn put_left(w: &mut [u64], next: Pair, d: Decision)
     ensures { w.new ≡ put_by_number w.old next d (status_number d.status) }
 {
     let status = d.status;
-    let number = status.number();
+    let number = u8::from(status);
     if number <= 3 {
         put_executed(w, next, d);
         return;

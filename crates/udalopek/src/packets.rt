@@ -53,7 +53,7 @@ pub extern "C" fn udalopek_inbound(
     *report = report_words(outgoing, d.progress.completion);
     left::put_left(pair, next, d);
     let status = d.status;
-    status.number()
+    u8::from(status)
 }
 
 // Writes the next response of a READ.
@@ -78,7 +78,7 @@ pub extern "C" fn udalopek_next_response(
     let got = responder::next_response(q, mem, out);
     *report = [number::usize_to_u64(got.outgoing)];
     let status = got.status;
-    let number = status.number();
+    let number = u8::from(status);
     if number != 0 {
         return number;
     }

@@ -1,5 +1,6 @@
 -- What inbound leaves of a pair has the widths of its types: the R_Key of the open message, and PSN and MSN of the READ
 -- being answered, come from the packet's bytes or were there.
+use Rattle.std.proofs.Common.{Option, Some, None}
 use Prim.Native.Nat.{ℕ, ◌+◌, ◌^◌, ◌<◌}
 use mathlib.Core.Bool.{Bool, true, false, cond, ◌||◌}
 use mathlib.Core.List.{List}
@@ -22,8 +23,6 @@ use Rattle.header.specs.declared.Header.{Header}
 use Rattle.header.specs.declared.Extension.{Extension}
 use Rattle.header.specs.declared.HeaderRead.TheVariants as read
 use Rattle.table.specs.View.{newest_saved}
-use Rattle.table.specs.declared.Saved.{Saved}
-use Rattle.table.specs.declared.Saved.TheVariants.{Value, Nothing}
 use Rattle.pair.specs.Answer.{status_number, executed}
 use Rattle.pair.specs.Calls.{Whole}
 use Rattle.pair.specs.Claims.{Sound}
@@ -101,11 +100,11 @@ module _ (p : Packet) (k : Small p.operands.key) (n : Small p.psn.0) where
   expects s m count entry region h =
       either (eqb (expected_check s m p count entry region) 0) _ _ (executes (current m p) m entry region s.pmtu (current-small m h) h) (fails _ s.timer)
 
-  saved-answers : (v : Saved) → Narrow (Decide.duplicate_atomic v p.psn)
-  saved-answers (Value v) = record { key = zero-small; psn = n }
-  saved-answers Nothing = quiet _
+  saved-answers : (v : Option ℕ) → Narrow (Decide.duplicate_atomic v p.psn)
+  saved-answers (Some v) = record { key = zero-small; psn = n }
+  saved-answers None = quiet _
 
-  duplicates : (s : Setup) (expected : Psn) (m : OpenMessage) (region : List ℕ) (v : Saved)
+  duplicates : (s : Setup) (expected : Psn) (m : OpenMessage) (region : List ℕ) (v : Option ℕ)
       → Narrow (Decide.duplicate_decision p s expected m region v)
   unfolding Decide.duplicate_decision Decide.acknowledging Decide.duplicate_read Decide.psn_before
   duplicates s expected m region v =
@@ -123,7 +122,7 @@ module _ (p : Packet) (k : Small p.operands.key) (n : Small p.psn.0) where
       (either (eqb check 0) _ _ (either (carrying p.kind) _ _ (stores false _ (current m p) entry region (current-small m h)) (quiet _))
       (either (eqb (check_answer check) 34) _ _ (quiet _) (either (eqb m.kind 255) _ _ (quiet _) (quiet _)))))
 
-  by-class : (c : Class) (q : Pair) (entry region : List ℕ) (v : Saved) → Small q.message.key → Small q.expected.0
+  by-class : (c : Class) (q : Pair) (entry region : List ℕ) (v : Option ℕ) → Small q.message.key → Small q.expected.0
       → Narrow (Decide.decision_by_class c q p entry region v)
   unfolding Decide.ahead_decision Decide.acknowledging
   by-class class.Expected q entry region v h e = expects q.setup q.message q.entries.count entry region h

@@ -1,10 +1,10 @@
 use Rattle.responder_spec.specs.Decide.{no_reply}
 use Rattle.duplicate.proofs.duplicate_atomic.Goals as goal
 
-pub returns-in-Value : goal.returns-in-Value
+pub returns-in-Some : goal.returns-in-Some
 unfolding no_reply
-returns-in-Value c = simp (c.in-Value.is, ← c.sending-answer.ensures, ← c.reply_only.ensures)
+returns-in-Some c = simp (c.in-Some.is, ← c.sending-answer.ensures, ← c.reply_only.ensures)
 
-pub returns-in-Nothing : goal.returns-in-Nothing
+pub returns-in-None : goal.returns-in-None
 unfolding no_reply
-returns-in-Nothing c = simp (c.in-Nothing.is, ← c.no_reply.ensures)
+returns-in-None c = simp (c.in-None.is, ← c.no_reply.ensures)

@@ -1,6 +1,10 @@
 use Prim.Native.Nat.{◌<◌, ◌^◌}
-use mathlib.Core.Path.{sym, ap, subst, ◌∙◌}
-use mathlib.Core.Bool.{cond}
+use mathlib.Core.Path.{◌≡◌, sym, ap, subst, ◌∙◌}
+use mathlib.Core.Bool.{true, false, cond}
+use lib.Dec.{eqb}
+use borrow.Author.Rules.{rules}
+use Rattle.pair.proofs.Known.{one_number}
+use Rattle.pair.specs.declared.Status.TheVariants as status
 use native.Mathlib.Omega.{arith}
 use Rattle.pair.specs.Answer.{status_number}
 use Rattle.responder_spec.specs.Decide.{closed_by, region_for}
@@ -20,7 +24,8 @@ execute-requires c =
     let A = c.args in let s = A.pair.setup in
     let opened = A.pair.message in let entry = c.entry_at-entry in
     let region = c.key_region-region in let kind = c.open_kind-kind in
-    let found = sym c.is-found.ensures ∙ c.if-found.true in
+    let same : c.lost-early.result ≡ status.Executed = search rules in
+    let found : eqb (status_number c.lost-early.result) 0 ≡ true = ap (λ x. eqb (status_number x) 0) same in
     let P =
     passed A.p s A.pair.expected opened A.pair.entries.count entry.result region.result A.uc c.lost-early.result c.lost-early.ensures found
     c.current-m.result c.current-m.ensures kind.result kind.ensures c.expected_check-check.result c.expected_check-check.ensures
@@ -39,7 +44,8 @@ unfolding status_number
 returns-then-check-eq-NONE c =
     let A = c.args in let s = A.pair.setup in
     let opened = A.pair.message in let entry = c.entry_at-entry in let region = c.key_region-region in let kind = c.open_kind-kind in
-    let found = sym c.is-found.ensures ∙ c.if-found.true in
+    let same : c.lost-early.result ≡ status.Executed = search rules in
+    let found : eqb (status_number c.lost-early.result) 0 ≡ true = ap (λ x. eqb (status_number x) 0) same in
     let passed = eq-eqb _ _ c.if-check-eq-NONE.true in
     simp (← c.unformed-none.ensures, c.if-none.false)
     (c.execute.ensures
@@ -55,12 +61,13 @@ refused-requires c =
     let A = c.args in
     record { fact = c.if-check-eq-NONE.false; timer_le_timer_limit = timed A.p A.pair.setup.timer c.unformed-none.result c.unformed-none.ensures c.if-none.false }
 
-pub returns-then-found : goal.returns-then-found
+pub returns-then-eq : goal.returns-then-eq
 unfolding status_number
-returns-then-found c =
+returns-then-eq c =
     let A = c.args in let s = A.pair.setup in
     let opened = A.pair.message in let entry = c.entry_at-entry in let region = c.key_region-region in let kind = c.open_kind-kind in
-    let found = sym c.is-found.ensures ∙ c.if-found.true in
+    let same : c.lost-early.result ≡ status.Executed = search rules in
+    let found : eqb (status_number c.lost-early.result) 0 ≡ true = ap (λ x. eqb (status_number x) 0) same in
     let passed = ne_eqb _ _ c.if-check-eq-NONE.false in
     simp (← c.unformed-none.ensures, c.if-none.false)
     (c.refused.ensures
@@ -75,7 +82,8 @@ pub returns : goal.returns
 unfolding status_number
 returns c =
     let A = c.args in
-    let found = sym c.is-found.ensures ∙ c.if-found.false in
+    let other : c.lost-early.result ≡ status.Executed → ⊥ = search rules in
+    let found : eqb (status_number c.lost-early.result) 0 ≡ false = ne_eqb _ _ (λ e. other (one_number _ status.Executed e)) in
     simp (← c.unformed-none.ensures, c.if-none.false)
     (c.no_reply-2.ensures
     ∙ loses A.p A.pair.setup A.pair.expected A.pair.message A.pair.entries.count _ _ A.uc c.lost-early.result c.lost-early.ensures found)

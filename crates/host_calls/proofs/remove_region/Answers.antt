@@ -1,12 +1,24 @@
+use Rattle.std.proofs.Common.{◌≡◌, sym, ◌∙◌}
 use borrow.Author.Tests.{le-leb, lt-leb}
+use Rattle.table.specs.Table.{key_row}
+use Rattle.table.proofs.Leaves.{found-some, found-none}
 use Rattle.pair.specs.Host.{remove_status, remove_regions}
 use Rattle.pair.specs.Answer.{executed, status_number}
+use Rattle.pair.specs.declared.Status.TheVariants as status
 use Rattle.host_calls.proofs.remove_region.Goals as goal
 
-pub returns-then-at-ge-REGIONS : goal.returns-then-at-ge-REGIONS
+pub returns-in_default : goal.returns-in_default
 unfolding remove_status remove_regions executed status_number
-returns-then-at-ge-REGIONS c = record { value = simp (← c.u32_to_u64.ensures.value, ← c.find-at.ensures.value, le-leb _ _ c.if-at-ge-REGIONS.true); regions_after = simp (← c.u32_to_u64.ensures.value, ← c.find-at.ensures.value, le-leb _ _ c.if-at-ge-REGIONS.true) }
+returns-in_default c =
+    let A = c.args in
+    let none = found-none (key_row c.u32_to_u64.result A.regions.now) (sym c.in_default.is ∙ c.key_row.ensures) in
+    let s : remove_status A.regions.now A.key ≡ status.NoSuchKey = simp (← c.u32_to_u64.ensures.value, le-leb _ _ none) in
+    record { value = sym s; regions_after = simp s }
 
 pub returns : goal.returns
 unfolding remove_status remove_regions executed status_number
-returns c = record { value = simp (← c.u32_to_u64.ensures.value, ← c.find-at.ensures.value, lt-leb _ _ c.if-at-ge-REGIONS.false); regions_after = simp (← c.u32_to_u64.ensures.value, ← c.find-at.ensures.value, lt-leb _ _ c.if-at-ge-REGIONS.false) }
+returns c =
+    let A = c.args in
+    let some = found-some (key_row c.u32_to_u64.result A.regions.now) c.in-Some.at (sym c.in-Some.is ∙ c.key_row.ensures) in
+    let s : remove_status A.regions.now A.key ≡ status.Executed = simp (← c.u32_to_u64.ensures.value, some.0, lt-leb _ _ some.1) in
+    record { value = sym s; regions_after = simp (s, ← c.u32_to_u64.ensures.value, some.0) }

@@ -1,12 +1,16 @@
-use Rattle.std.proofs.Common.{le-ltb, lt-ltb}
+use Rattle.std.proofs.Common.{sym, ◌∙◌, le-ltb, lt-ltb}
+use Rattle.table.specs.Table.{key_row}
 use Rattle.table.specs.View.{region_of}
+use Rattle.table.proofs.Leaves.{found-some, found-none}
 use Rattle.table.proofs.region_of.Goals as goal
 
-pub returns-then-i-ge-REGIONS : goal.returns-then-i-ge-REGIONS
+pub returns-in-Some : goal.returns-in-Some
 unfolding region_of
-returns-then-i-ge-REGIONS c = simp (← c.u32_to_u64.ensures.value, ← c.find-i.ensures.value, le-ltb _ _ c.if-i-ge-REGIONS.true)
+returns-in-Some c =
+    let found = found-some (key_row c.u32_to_u64.result c.args.regions.now) c.in-Some.i (sym c.in-Some.is ∙ c.key_row.ensures) in
+    simp (← c.u32_to_u64.ensures.value, lt-ltb _ _ found.1, found.0)
 
-pub returns : goal.returns
+pub returns-in-None : goal.returns-in-None
 unfolding region_of
-returns c =
-    simp (← c.u32_to_u64.ensures.value, ← c.find-i.ensures.value, lt-ltb _ _ c.if-i-ge-REGIONS.false)
+returns-in-None c =
+    simp (← c.u32_to_u64.ensures.value, le-ltb _ _ (found-none (key_row c.u32_to_u64.result c.args.regions.now) (sym c.in-None.is ∙ c.key_row.ensures)))

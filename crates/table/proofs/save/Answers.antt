@@ -1,6 +1,7 @@
+use Rattle.table.specs.Table.{saved_slot}
 use Rattle.table.specs.View.{saved_rows}
 use Rattle.table.proofs.save.Goals as goal
 
 pub returns : goal.returns
-unfolding saved_rows
-returns c = simp (← c.saved_slot-at.ensures.value, ← c.u32_to_u64.ensures.value)
+unfolding saved_rows saved_slot
+returns c = simp (← c.slot-at.ensures.value, ← c.u32_to_u64.ensures.value)

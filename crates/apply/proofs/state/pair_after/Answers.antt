@@ -1,42 +1,28 @@
+use Rattle.std.proofs.Common.{◌∙◌}
 use Rattle.pair.specs.Answer.{status_number}
 use Rattle.responder_spec.specs.Apply.{pair_by_number, pair_by}
+use Rattle.apply.proofs.Statuses.{as-executed, as-marked, as-error, as-other}
 use Rattle.apply.proofs.state.pair_after.Goals as goal
 
-pub returns-then-executed : goal.returns-then-executed
-unfolding status_number pair_by_number pair_by
-returns-then-executed c = simp (← c.executes-executed.ensures, c.if-executed.true, ← c.executed_pair.ensures)
+pub returns-in-Executed : goal.returns-in-Executed
+returns-in-Executed c = c.executed_pair.ensures ∙ as-executed c.args.pair c.args.d c.in-Executed.is
 
-pub returns-then-duplicate : goal.returns-then-duplicate
+pub returns-in-DuplicateAnswered : goal.returns-in-DuplicateAnswered
 unfolding status_number pair_by_number pair_by
-returns-then-duplicate c =
-    simp (← c.executes-executed.ensures, c.if-executed.false, ← c.is-duplicate.ensures, c.if-duplicate.true, ← c.read_answer_by-read.ensures)
+returns-in-DuplicateAnswered c = simp (c.in-DuplicateAnswered.is, ← c.read_answer_by-read.ensures)
 
-pub returns-then-ahead : goal.returns-then-ahead
-unfolding status_number pair_by_number pair_by
-returns-then-ahead c =
-    simp (← c.executes-executed.ensures, c.if-executed.false, ← c.is-duplicate.ensures, c.if-duplicate.false, ← c.is-ahead.ensures, c.if-ahead.true)
+pub returns-in-SequenceNak : goal.returns-in-SequenceNak
+returns-in-SequenceNak c = as-marked c.args.pair c.args.d c.in-SequenceNak.is
 
-pub returns-then-unready : goal.returns-then-unready
-unfolding status_number pair_by_number pair_by
-returns-then-unready c =
-    simp (← c.executes-executed.ensures, c.if-executed.false, ← c.is-duplicate.ensures, c.if-duplicate.false, ← c.is-ahead.ensures, c.if-ahead.false, ← c.is-unready.ensures, c.if-unready.true)
+pub returns-in-InvalidRequestNak : goal.returns-in-InvalidRequestNak
+returns-in-InvalidRequestNak c = as-error c.args.pair c.args.d c.in-InvalidRequestNak.is
 
-pub returns-then-invalid : goal.returns-then-invalid
+pub returns-in-Abandoned : goal.returns-in-Abandoned
 unfolding status_number pair_by_number pair_by
-returns-then-invalid c =
-    simp (← c.executes-executed.ensures, c.if-executed.false, ← c.is-duplicate.ensures, c.if-duplicate.false, ← c.is-ahead.ensures, c.if-ahead.false, ← c.is-unready.ensures, c.if-unready.false, ← c.is-invalid.ensures, c.if-invalid.true)
+returns-in-Abandoned c = simp (c.in-Abandoned.is, ← c.closing.ensures)
 
-pub returns-then-access : goal.returns-then-access
-unfolding status_number pair_by_number pair_by
-returns-then-access c =
-    simp (← c.executes-executed.ensures, c.if-executed.false, ← c.is-duplicate.ensures, c.if-duplicate.false, ← c.is-ahead.ensures, c.if-ahead.false, ← c.is-unready.ensures, c.if-unready.false, ← c.is-invalid.ensures, c.if-invalid.false, ← c.is-access.ensures, c.if-access.true)
-
-pub returns-then-abandoned : goal.returns-then-abandoned
-unfolding status_number pair_by_number pair_by
-returns-then-abandoned c =
-    simp (← c.executes-executed.ensures, c.if-executed.false, ← c.is-duplicate.ensures, c.if-duplicate.false, ← c.is-ahead.ensures, c.if-ahead.false, ← c.is-unready.ensures, c.if-unready.false, ← c.is-invalid.ensures, c.if-invalid.false, ← c.is-access.ensures, c.if-access.false, ← c.is-abandoned.ensures, c.if-abandoned.true, ← c.closing.ensures)
-
-pub returns : goal.returns
-unfolding status_number pair_by_number pair_by
-returns c =
-    simp (← c.executes-executed.ensures, c.if-executed.false, ← c.is-duplicate.ensures, c.if-duplicate.false, ← c.is-ahead.ensures, c.if-ahead.false, ← c.is-unready.ensures, c.if-unready.false, ← c.is-invalid.ensures, c.if-invalid.false, ← c.is-access.ensures, c.if-access.false, ← c.is-abandoned.ensures, c.if-abandoned.false)
+pub returns-in_default : goal.returns-in_default
+returns-in_default c =
+    let n = c.in_default in
+    as-other c.args.pair c.args.d
+    (n.not-Executed, n.not-Acknowledged, n.not-ReadAccepted, n.not-AtomicExecuted, n.not-DuplicateAnswered, n.not-Abandoned, n.not-SequenceNak, n.not-InvalidRequestNak, n.not-AccessNak, n.not-NotReadyNak)

@@ -6,11 +6,11 @@ use Rattle.udalopek.proofs.host.leave.Goals as goal
 
 pub returns-then-number-ne0 : goal.returns-then-number-ne0
 returns-then-number-ne0 c =
-    let n = c.number-number.ensures in
+    let n = c.from-number.ensures in
     record { value = n; pair_after = second _ _ _ (undone _ _ n c.if-number-ne0.true) }
 
 pub returns : goal.returns
 returns c =
     let A = c.args in
-    let n = c.number-number.ensures in
+    let n = c.from-number.ensures in
     record { value = n; pair_after = c.overwrite_words.ensures ∙ ap (overwrite_words A.pair.now) c.pair_words-next.ensures ∙ first _ _ _ (done _ _ n c.if-number-ne0.false) }

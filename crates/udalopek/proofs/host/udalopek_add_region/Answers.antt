@@ -18,6 +18,6 @@ returns c =
     let l = many _ c.if-pair-ne-PAIR.false in
     let q = said A.pair.now _ _ c.strays-stray.ensures c.pair_said-q.ensures in
     record {
-      value = c.number.ensures ∙ ap status_number (c.add_region-status.ensures.value ∙ ap (λ x. add_status x A.regions.now (record { key = A.key; address = A.address; length = A.length; offset = A.offset; write = A.write; read = A.read; atomic = A.atomic })) q) ∙ second _ 34 _ l;
+      value = c.from.ensures ∙ ap status_number (c.add_region-status.ensures.value ∙ ap (λ x. add_status x A.regions.now (record { key = A.key; address = A.address; length = A.length; offset = A.offset; write = A.write; read = A.read; atomic = A.atomic })) q) ∙ second _ 34 _ l;
       regions_after = c.add_region-status.ensures.regions_after ∙ ap (λ x. add_regions x A.regions.now (record { key = A.key; address = A.address; length = A.length; offset = A.offset; write = A.write; read = A.read; atomic = A.atomic })) q ∙ second _ _ _ l;
     }

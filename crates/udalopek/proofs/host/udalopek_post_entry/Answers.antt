@@ -24,7 +24,7 @@ returns-then-answer-ne0 c =
     let l = many A.pair.now c.if-pair-ne-PAIR.false in
     let q = said A.pair.now _ _ c.strays-stray.ensures c.pair_said-q.ensures in
     let e = c.post_entry-posted.ensures.value ∙ ap (λ x. posted x (record { number = A.number; offset = A.offset; length = A.length })) q in
-    let n = c.number-answer.ensures ∙ ap (λ o. status_number o.status) e in
+    let n = c.from-answer.ensures ∙ ap (λ o. status_number o.status) e in
     let rows = c.post_entry-posted.ensures.entries_after ∙ ap (λ x. post_entries x A.entries.now (record { number = A.number; offset = A.offset; length = A.length })) q ∙ second _ _ _ l in
     record {
       value = n ∙ second _ 34 _ l;
@@ -39,7 +39,7 @@ returns c =
     let l = many A.pair.now c.if-pair-ne-PAIR.false in
     let q = said A.pair.now _ _ c.strays-stray.ensures c.pair_said-q.ensures in
     let e = c.post_entry-posted.ensures.value ∙ ap (λ x. posted x (record { number = A.number; offset = A.offset; length = A.length })) q in
-    let n = c.number-answer.ensures ∙ ap (λ o. status_number o.status) e in
+    let n = c.from-answer.ensures ∙ ap (λ o. status_number o.status) e in
     let rows = c.post_entry-posted.ensures.entries_after ∙ ap (λ x. post_entries x A.entries.now (record { number = A.number; offset = A.offset; length = A.length })) q ∙ second _ _ _ l in
     let w = c.put_entries.ensures ∙ ap (λ o. entries_put A.pair.now o.pair.entries) e in
     record {

@@ -14,4 +14,4 @@ pub returns : goal.returns
 unfolding remove_number remove_table
 returns c =
     let l = many _ c.if-pair-ne-PAIR.false in
-    record { value = c.number.ensures ∙ ap status_number c.remove_region-status.ensures.value ∙ second _ 34 _ l; regions_after = c.remove_region-status.ensures.regions_after ∙ second _ _ _ l }
+    record { value = c.from.ensures ∙ ap status_number c.remove_region-status.ensures.value ∙ second _ 34 _ l; regions_after = c.remove_region-status.ensures.regions_after ∙ second _ _ _ l }

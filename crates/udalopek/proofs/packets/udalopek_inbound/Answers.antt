@@ -29,7 +29,7 @@ returns c =
     _ c.change-value.ensures.mem_after _ c.keep.ensures w.result w.ensures.value _ w.ensures.out_after (outcome_with next d w.result) refl
     ∙ ap (λ x. inbound (arrival_with l x)) o in
     (λ k. returned
-    ((c.number.ensures ∙ ap (λ x. x.number) r) k)
+    ((c.from.ensures ∙ ap (λ x. x.number) r) k)
     (left-words l n q o d i next j _ c.put_left.ensures k)
     (r k).whole.saved (r k).memory (r k).out
     ((c.report_words.ensures ∙ ap (λ x. report_words x.outgoing x.completion) r) k))

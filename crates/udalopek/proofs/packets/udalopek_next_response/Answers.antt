@@ -26,7 +26,7 @@ returns-then-number-ne0 c =
     let l = many A.pair.now c.if-pair-ne-PAIR.false in
     let q = said A.pair.now _ _ c.strays-stray.ensures c.pair_said-q.ensures in
     let e = c.next_response-got.ensures.value ∙ ap (λ x. next_response x A.mem.now A.out.now) q in
-    let n = c.number-number.ensures ∙ ap (λ o. status_number o.status) e in
+    let n = c.from-number.ensures ∙ ap (λ o. status_number o.status) e in
     let out = c.next_response-got.ensures.out_after ∙ ap (λ x. next_out x A.mem.now A.out.now) q ∙ second _ _ _ l in
     let report = ap (λ k. k ∷ []) (c.usize_to_u64.ensures ∙ ap (λ x. x.outgoing) e) ∙ second _ _ _ l in
     record {
@@ -43,7 +43,7 @@ returns c =
     let l = many A.pair.now c.if-pair-ne-PAIR.false in
     let q = said A.pair.now _ _ c.strays-stray.ensures c.pair_said-q.ensures in
     let e = c.next_response-got.ensures.value ∙ ap (λ x. next_response x A.mem.now A.out.now) q in
-    let n = c.number-number.ensures ∙ ap (λ o. status_number o.status) e in
+    let n = c.from-number.ensures ∙ ap (λ o. status_number o.status) e in
     let out = c.next_response-got.ensures.out_after ∙ ap (λ x. next_out x A.mem.now A.out.now) q ∙ second _ _ _ l in
     let report = ap (λ k. k ∷ []) (c.usize_to_u64.ensures ∙ ap (λ x. x.outgoing) e) ∙ second _ _ _ l in
     let w = c.put_read.ensures ∙ ap (λ o. read_put A.pair.now o.pair.read) e in
