@@ -58,25 +58,30 @@ no-reason p l R =
     rw (l, eq-eqb (bth_of p).tver 0 R.tver, R.known, le-ltb (length p) (class_of (bth_of p).opcode).length R.room)
 
 -- the number of a check is not 0
-numbered : (why : Reason) → eqb (check_number why) 0 ≡ false
-numbered reason.Length = refl
-numbered reason.Version = refl
-numbered reason.Number = refl
-numbered reason.Key = refl
-numbered reason.Service = refl
-numbered reason.Response = refl
-numbered reason.Unserved = refl
-numbered reason.Short = refl
-numbered reason.NotReady = refl
+pub some-number : (why : Reason) → eqb (check_number why) 0 ≡ false
+some-number reason.Length = refl
+some-number reason.Version = refl
+some-number reason.Number = refl
+some-number reason.Key = refl
+some-number reason.Service = refl
+some-number reason.Response = refl
+some-number reason.Unserved = refl
+some-number reason.Short = refl
+some-number reason.NotReady = refl
 
 fails : (why : Reason) → check_number why ≡ 0 → ⊥
-fails why z = true≢false (sym (eq-eqb (check_number why) 0 z) ∙ numbered why)
+fails why z = true≢false (sym (eq-eqb (check_number why) 0 z) ∙ some-number why)
 
 -- no number, no check that failed
 pub none-failed : (found : Result (Unit {0}) Reason) → read_check found ≡ 0 → found ≡ Ok tt
 unfolding read_check
 none-failed (Ok x) z = refl
 none-failed (Err why) z = absurd (fails why z)
+
+-- a check before others: where none failed, it holds, and the others do
+pub held : (b : Bool) (why : Reason) (rest : Result (Unit {0}) Reason) → cond b (Err why) rest ≡ Ok tt → (b ≡ false) × (rest ≡ Ok tt)
+held true why rest e = let z : ◌≡◌ {A = ℕ} 0 1 = cc in absurd (omega arith)
+held false why rest e = (refl, e)
 
 -- what is read, by the number of the check that failed
 pub read-outcome : (found : Result (Unit {0}) Reason) (p : List ℕ) (number : ℕ) → read_check found ≡ number
@@ -103,4 +108,4 @@ read-by p h o e = (read-outcome (read_checks p) p 0 o).0 refl ∙ ap Ok e
 pub read-numbers : ReadNumbers
 unfolding read_by read_number read_check
 read-numbers (Ok x) p = (refl, refl)
-read-numbers (Err why) p = (sym (ap (λ b. cond b 0 5) (numbered why)), refl)
+read-numbers (Err why) p = (sym (ap (λ b. cond b 0 5) (some-number why)), refl)
