@@ -1,6 +1,5 @@
 -- A packet as long as its headers has room for each of them.
 use Prim.Native.Nat.{ℕ, ◌%◌, ◌≤◌}
-use native.Mathlib.Omega.{arith}
 use mathlib.Core.Path.{◌≡◌, refl, sym, ap, subst, ◌∙◌}
 use mathlib.Core.Bool.{Bool, true, false, cond, not, true≢false}
 use lib.Dec.{ltb, eqb}
@@ -12,6 +11,8 @@ use Rattle.opcode.specs.Opcode.{service_of, low_of}
 use Rattle.header.specs.Check.{pkeys_match, wrong_service, is_response, beyond_service}
 use Rattle.header.specs.Read.{bad_length}
 use Rattle.header.specs.declared.Bth.{Bth}
+use Rattle.header.proofs.Reasons.{held}
+use Rattle.std.specs.Prelude.{Ok}
 use Rattle.decode.specs.Reason.{bth_reason}
 
 -- the class's headers, where the class is known
@@ -34,19 +35,13 @@ whole n h = go (ltb n 12) (cond (ltb 4128 n) true (not (eqb (n % 4) 0))) refl h
     go false x e k = ltb-false n 12 e
 
 -- a packet against which no check speaks is as long as its headers
-pub room-left : (service ours pkey : ℕ) (ready : Bool) (b : Bth) (headers n : ℕ) → bth_reason service ours pkey ready b headers n ≡ 0 → headers ≤ n
+pub room-left : (service ours pkey : ℕ) (ready : Bool) (b : Bth) (headers n : ℕ) → bth_reason service ours pkey ready b headers n ≡ Ok tt → headers ≤ n
 unfolding bth_reason
 room-left service ours pkey ready b headers n e =
-    go (not (eqb b.tver 0)) (not (eqb b.dest ours)) (not (pkeys_match b.pkey pkey)) (wrong_service (service_of b.opcode) service)
-    (is_response (low_of b.opcode)) (beyond_service service (low_of b.opcode)) (ltb n headers) (not ready) refl e
-  where
-    go : (v d k s r u l y : Bool) → ltb n headers ≡ l
-        → ◌≡◌ {A = ℕ} (cond v 2 (cond d 3 (cond k 4 (cond s 5 (cond r 6 (cond u 7 (cond l 8 (cond y 9 0)))))))) 0 → headers ≤ n
-    go true d k s r u l y f z = absurd (omega arith)
-    go false true k s r u l y f z = absurd (omega arith)
-    go false false true s r u l y f z = absurd (omega arith)
-    go false false false true r u l y f z = absurd (omega arith)
-    go false false false false true u l y f z = absurd (omega arith)
-    go false false false false false true l y f z = absurd (omega arith)
-    go false false false false false false true y f z = absurd (omega arith)
-    go false false false false false false false y f z = ltb-false n headers f
+    let v = (held (not (eqb b.tver 0)) _ _ e).1 in
+    let d = (held (not (eqb b.dest ours)) _ _ v).1 in
+    let k = (held (not (pkeys_match b.pkey pkey)) _ _ d).1 in
+    let s = (held (wrong_service (service_of b.opcode) service) _ _ k).1 in
+    let r = (held (is_response (low_of b.opcode)) _ _ s).1 in
+    let u = (held (beyond_service service (low_of b.opcode)) _ _ r).1 in
+    ltb-false n headers (held (ltb n headers) _ _ u).0

@@ -13,9 +13,9 @@ ghost use Rattle.request_spec.specs.Packet.{admission, admission_number};
 ghost use Rattle.decode.specs.Reason.{bth_reason};
 
 use field::{be16, be24, be32, be64};
-use header::{Aeth, AtomicEth, Bth, Extension, Header, HeaderRead, Reth, reason};
+use header::{Aeth, AtomicEth, Bth, Extension, Header, Reason, Reth};
 use opcode::OpcodeClass;
-use request_spec::{Admission, Operands, Packet};
+use request_spec::{Operands, Packet};
 use sequence::{Msn, Psn};
 
 fn read_bth(p: &[u8]) -> Bth
@@ -151,7 +151,7 @@ fn beyond_service(service: u8, low: u8) -> bool
     !has
 }
 
-// The check behind that of the length that fails first, or 0. It stands in a function of its own because the compiler
+// The check behind that of the length that fails first. It stands in a function of its own because the compiler
 // takes what comes after many early returns for rare, and does not inline it.
 fn bth_reason(
     b: Bth,
@@ -161,38 +161,38 @@ fn bth_reason(
     ours: u32,
     pkey: u16,
     ready: bool,
-) -> u8
+) -> Result<(), Reason>
     ensures { result ≡ bth_reason service ours pkey ready b headers n }
 {
     if b.tver != 0 {
-        return reason::VERSION;
+        return Err(Reason::Version);
     }
     if b.dest != ours {
-        return reason::NUMBER;
+        return Err(Reason::Number);
     }
     let matched = header::pkeys_match(b.pkey, pkey);
     if !matched {
-        return reason::KEY;
+        return Err(Reason::Key);
     }
     let wrong = wrong_service(b.opcode / opcode::PER_SERVICE, service);
     if wrong {
-        return reason::SERVICE;
+        return Err(Reason::Service);
     }
     let response = is_response(b.opcode % opcode::PER_SERVICE);
     if response {
-        return reason::RESPONSE;
+        return Err(Reason::Response);
     }
     let beyond = beyond_service(service, b.opcode % opcode::PER_SERVICE);
     if beyond {
-        return reason::UNSERVED;
+        return Err(Reason::Unserved);
     }
     if n < headers {
-        return reason::SHORT;
+        return Err(Reason::Short);
     }
     if !ready {
-        return reason::NOT_READY;
+        return Err(Reason::NotReady);
     }
-    0
+    Ok(())
 }
 
 // The packet of n bytes that has this BTH and these operands, as numbers, by the class of its opcode.
@@ -215,47 +215,44 @@ fn packet_of(b: Bth, class: OpcodeClass, operands: Operands, n: usize) -> Packet
 
 // The packet, if its header passes all header checks of a queue pair with these numbers, or the check that failed
 // first. No header is made: its fields go straight into the numbers of the packet.
-pub fn admit(p: &[u8], service: u8, ours: u32, pkey: u16, ready: bool) -> Admission
+pub fn admit(p: &[u8], service: u8, ours: u32, pkey: u16, ready: bool) -> Result<Packet, Reason>
     ensures value { result ≡ admission (admitted service ours pkey ready p.now) (length p.now) }
     ensures result_value { admission_number result ≡ reason_number (header_reason service ours pkey ready p.now) }
 {
     let bad = bad_length(p.len());
     if bad {
-        return Admission::Dropped(reason::LENGTH);
+        return Err(Reason::Length);
     }
     let b = read_bth(p);
     let class = opcode::class(b.opcode);
-    let why = bth_reason(b, class.length, p.len(), service, ours, pkey, ready);
-    if why != 0 {
-        return Admission::Dropped(why);
-    }
+    bth_reason(b, class.length, p.len(), service, ours, pkey, ready)?;
     let operands = operands::operands_of(p, class.follows);
-    let k = packet_of(b, class, operands, p.len());
-    Admission::Admitted(k)
+    Ok(packet_of(b, class, operands, p.len()))
 }
 
-// The header of a packet of any bytes, or the check that failed first.
-pub fn read(p: &[u8]) -> HeaderRead
+// The header of a packet of any bytes, or the check that failed first: Length, Version, Service or Short, the four that
+// need no pair.
+pub fn read(p: &[u8]) -> Result<Header, Reason>
     ensures value { result ≡ read_header p.now }
     ensures result_value { read_number result ≡ reason_number (read_reason p.now) }
     ensures result_value_2 { read_check result ≡ read_reason p.now }
 {
     let bad = bad_length(p.len());
     if bad {
-        return HeaderRead::Dropped(reason::LENGTH);
+        return Err(Reason::Length);
     }
     let bth = read_bth(p);
     if bth.tver != 0 {
-        return HeaderRead::Dropped(reason::VERSION);
+        return Err(Reason::Version);
     }
     let other = header::other_service(bth.opcode / opcode::PER_SERVICE);
     if other {
-        return HeaderRead::Dropped(reason::SERVICE);
+        return Err(Reason::Service);
     }
     let class = opcode::class(bth.opcode);
     if p.len() < class.length {
-        return HeaderRead::Dropped(reason::SHORT);
+        return Err(Reason::Short);
     }
     let extension = read_extension(p, class.follows);
-    HeaderRead::Accepted(Header { bth, extension })
+    Ok(Header { bth, extension })
 }

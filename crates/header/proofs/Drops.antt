@@ -7,13 +7,16 @@ use mathlib.Core.Logic.{◌⊎◌, inl, inr}
 use native.Mathlib.Omega.{arith}
 use lib.Dec.{ltb, eqb}
 use lib.ListN.{length, get_or}
-use borrow.Author.Tests.{eq-eqb, ne_eqb, lt-ltb, ltb-false}
+use borrow.Author.Tests.{lt-ltb, ltb-false}
 use Rattle.lemmas.proofs.Auto.{tests}
 use Rattle.opcode.specs.Opcode.{class_of}
-use Rattle.header.specs.Read.{bth_of, bad_length, read_reason, read_by, read_header}
-use Rattle.header.specs.Check.{header_reason, admitted}
+use Rattle.header.specs.Read.{bth_of, bad_length, check_number, read_check, read_checks, read_reason, read_header}
+use Rattle.header.specs.Check.{header_checks, header_reason, admitted}
 use Rattle.header.specs.Drops.{FirstOf, FirstFails, DroppedBy, ReadFails, ReadDroppedBy}
-use Rattle.header.proofs.Reasons.{Read}
+use Rattle.header.proofs.Reasons.{Read, read-outcome}
+use Rattle.header.specs.declared.Reason.{Reason}
+use Rattle.header.specs.declared.Reason.TheVariants as reason
+use Rattle.std.specs.Prelude.{Result, Err}
 use Rattle.header.proofs.Conditions.{Tells, equal-tested, least-tested, flag-tested, length-tested, keys-tested, service-tested, response-tested, uc-tested, known-tested, room-tested}
 
 -- One check of a cascade: its own number where its condition fails, what the later ones give where it holds; and the
@@ -24,10 +27,12 @@ record Link (Good : Type 0) (k rest reason : ℕ) : Type 0 where
   either : Good ⊎ (Good → ⊥)
 
 -- a test that says its condition makes one
-link : {b : Bool} {Good : Type 0} {k rest : ℕ} → Tells b Good → Link Good k rest (cond b k rest)
-link {b} {Good} {k} {rest} s = go b s.0 s.1
+link : {b : Bool} {Good : Type 0} (why : Reason) (rest : Result (Unit {0}) Reason) → Tells b Good
+    → Link Good (check_number why) (read_check rest) (read_check (cond b (Err why) rest))
+unfolding read_check
+link {b} {Good} why rest s = go b s.0 s.1
   where
-    go : (b : Bool) → (b ≡ false → Good) → (Good → b ≡ false) → Link Good k rest (cond b k rest)
+    go : (b : Bool) → (b ≡ false → Good) → (Good → b ≡ false) → Link Good (check_number why) (read_check rest) (read_check (cond b (Err why) rest))
     go true f g = record { fails = λ n. refl; holds = λ x. absurd (true≢false (g x)); either = inr (λ x. true≢false (g x)) }
     go false f g = record { fails = λ n. absurd (n (f refl)); holds = λ x. refl; either = inl (f refl) }
 
@@ -185,24 +190,25 @@ module _ {A B C D E F G H I : Type 0} {r₁ r₂ r₃ r₄ r₅ r₆ r₇ r₈ r
       }
 
 pub first-fails : FirstFails
-unfolding header_reason
+unfolding header_reason header_checks read_check
 first-fails service ours pkey ready p =
-    first (link (length-tested _)) (link (equal-tested _ _)) (link (equal-tested _ _)) (link (keys-tested _ _))
-    (link (service-tested _ _)) (link (response-tested _)) (link (uc-tested _ _)) (link (least-tested _ _)) (link (flag-tested _))
+    first (link reason.Length _ (length-tested _)) (link reason.Version _ (equal-tested _ _)) (link reason.Number _ (equal-tested _ _))
+    (link reason.Key _ (keys-tested _ _)) (link reason.Service _ (service-tested _ _)) (link reason.Response _ (response-tested _))
+    (link reason.Unserved _ (uc-tested _ _)) (link reason.Short _ (least-tested _ _)) (link reason.NotReady _ (flag-tested _))
 
 pub dropped-by : DroppedBy
-unfolding admitted read_by
-dropped-by service ours pkey ready p reason e = (λ z. rw (e, eq-eqb reason 0 z), λ n. rw (e, ne_eqb reason 0 n))
+unfolding admitted header_reason
+dropped-by service ours pkey ready p reason e = read-outcome (header_checks service ours pkey ready p) p reason e
 
 -- a condition that is not asked for
 unasked : {k rest : ℕ} → Link (Unit {0}) k rest rest
 unasked = record { fails = λ n. absurd (n tt); holds = λ x. refl; either = inl tt }
 
 pub read-fails : ReadFails
-unfolding read_reason bth_of
+unfolding read_reason read_checks read_check bth_of
 read-fails p =
-    first (link (length-tested _)) (link (equal-tested _ _)) unasked unasked
-    (link (known-tested _)) unasked unasked (link (room-tested _ _)) unasked
+    first (link reason.Length _ (length-tested _)) (link reason.Version _ (equal-tested _ _)) unasked unasked
+    (link reason.Service _ (known-tested _)) unasked unasked (link reason.Short _ (room-tested _ _)) unasked
 
 pub was_read : (p : List ℕ) → read_reason p ≡ 0 → (bad_length (length p) ≡ false) × Read p
 unfolding bth_of
@@ -212,5 +218,5 @@ was_read p e =
     ((length-tested (length p)).1 G.0, record { tver = G.1; known = (known-tested (op / 32)).1 G.4; room = ltb-false (length p) (class_of op).length ((room-tested (length p) op).1 G.7) })
 
 pub read-dropped-by : ReadDroppedBy
-unfolding read_header read_by
-read-dropped-by p reason e = (λ z. rw (e, eq-eqb reason 0 z), λ n. rw (e, ne_eqb reason 0 n))
+unfolding read_header read_reason
+read-dropped-by p reason e = read-outcome (read_checks p) p reason e

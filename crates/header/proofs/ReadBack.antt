@@ -25,7 +25,7 @@ use Rattle.header.specs.declared.Aeth.{Aeth}
 use Rattle.header.specs.declared.Extension.{Extension}
 use Rattle.header.specs.declared.Extension.TheVariants.{Bare, Remote, RemoteImmediate, Immediate, Atomic, Acknowledge, AtomicAcknowledge}
 use Rattle.header.specs.declared.Header.{Header}
-use Rattle.header.specs.declared.HeaderRead.TheVariants.{Accepted}
+use Rattle.std.specs.Prelude.{Ok}
 
 -- the flags' byte: each field found again
 abbrev flags : Bool → Bool → ℕ → ℕ → ℕ
@@ -149,10 +149,10 @@ read-packet h t good words room =
     let m : (12 + length x) % 4 ≡ 0 = length-words h.extension in
     let g : bad_length (length (b ++ (x ++ t))) ≡ false = good_length (length (b ++ (x ++ t))) (omega arith) (omega arith) (omega arith) in
     let o : read_reason (b ++ (x ++ t)) ≡ 0 = no-reason (b ++ (x ++ t)) g (reads (b ++ (x ++ t)) h e w (omega arith)) in
-    subst (λ p. read_header p ≡ Accepted h) (sym q) (read-by (b ++ (x ++ t)) h o z)
+    subst (λ p. read_header p ≡ Ok h) (sym q) (read-by (b ++ (x ++ t)) h o z)
 
 -- and with nothing behind it
-pub read-alone : (h : Header) → header_fits h ≡ true → read_header (header_bytes h) ≡ Accepted h
+pub read-alone : (h : Header) → header_fits h ≡ true → read_header (header_bytes h) ≡ Ok h
 read-alone h good =
     let x = extension_bytes h.extension in
     let s : header_length h ≡ 12 + length x = length-is h good in

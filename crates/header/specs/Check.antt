@@ -1,11 +1,12 @@
 -- The header checks of a queue pair, each a quiet drop.
-use Rattle.std.specs.Prelude.{ℕ, ◌%◌, Bool, cond, not, ◌&&◌, ◌||◌, List, leb, ltb, eqb, length}
+use Rattle.std.specs.Prelude.{ℕ, ◌%◌, Bool, cond, not, ◌&&◌, ◌||◌, List, Result, Ok, Err, leb, ltb, eqb, length}
 use Rattle.opcode.specs.Opcode.{class_of, service_of, low_of, uc_has}
 use Rattle.opcode.specs.Kind as Kind
 use Rattle.opcode.specs.Service as Service
-use Rattle.header.specs.Reason as Reason
-use Rattle.header.specs.Read.{bth_of, bad_length, other_service, read_by}
-use Rattle.header.specs.declared.HeaderRead.{HeaderRead}
+use Rattle.header.specs.Read.{bth_of, bad_length, other_service, read_check, read_by}
+use Rattle.header.specs.declared.Header.{Header}
+use Rattle.header.specs.declared.Reason.{Reason}
+use Rattle.header.specs.declared.Reason.TheVariants as reason
 
 -- the top bit of a P_Key
 abbrev pub pkey_top : ℕ
@@ -33,19 +34,23 @@ is_response low = leb Kind.read_response low && leb low Kind.atomic_acknowledge
 unfoldable pub beyond_service : ℕ → ℕ → Bool
 beyond_service service low = eqb service Service.uc && not (uc_has low)
 
--- the header check that fails first, or 0
+-- the header check that fails first
+unfoldable pub header_checks : ℕ → ℕ → ℕ → Bool → List ℕ → Result (Unit {0}) Reason
+header_checks service ours pkey ready p =
+    cond (bad_length (length p)) (Err reason.Length)
+    (cond (not (eqb (bth_of p).tver 0)) (Err reason.Version)
+    (cond (not (eqb (bth_of p).dest ours)) (Err reason.Number)
+    (cond (not (pkeys_match (bth_of p).pkey pkey)) (Err reason.Key)
+    (cond (wrong_service (service_of (bth_of p).opcode) service) (Err reason.Service)
+    (cond (is_response (low_of (bth_of p).opcode)) (Err reason.Response)
+    (cond (beyond_service service (low_of (bth_of p).opcode)) (Err reason.Unserved)
+    (cond (ltb (length p) (class_of (bth_of p).opcode).length) (Err reason.Short)
+    (cond (not ready) (Err reason.NotReady) (Ok tt)))))))))
+
+-- its number, or 0
 unfoldable pub header_reason : ℕ → ℕ → ℕ → Bool → List ℕ → ℕ
-header_reason service ours pkey ready p =
-    cond (bad_length (length p)) Reason.length
-    (cond (not (eqb (bth_of p).tver 0)) Reason.version
-    (cond (not (eqb (bth_of p).dest ours)) Reason.number
-    (cond (not (pkeys_match (bth_of p).pkey pkey)) Reason.key
-    (cond (wrong_service (service_of (bth_of p).opcode) service) Reason.service
-    (cond (is_response (low_of (bth_of p).opcode)) Reason.response
-    (cond (beyond_service service (low_of (bth_of p).opcode)) Reason.unserved
-    (cond (ltb (length p) (class_of (bth_of p).opcode).length) Reason.short
-    (cond (not ready) Reason.not_ready 0))))))))
+header_reason service ours pkey ready p = read_check (header_checks service ours pkey ready p)
 
 -- the header, or the check that failed
-unfoldable pub admitted : ℕ → ℕ → ℕ → Bool → List ℕ → HeaderRead
-admitted service ours pkey ready p = read_by (header_reason service ours pkey ready p) p
+unfoldable pub admitted : ℕ → ℕ → ℕ → Bool → List ℕ → Result Header Reason
+admitted service ours pkey ready p = read_by (header_checks service ours pkey ready p) p

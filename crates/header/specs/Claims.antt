@@ -1,5 +1,5 @@
 -- What is proved of reading and writing, each statement by a name; the proofs stand in proofs/.
-use Rattle.std.specs.Prelude.{ℕ, ◌+◌, ◌%◌, ◌^◌, ◌≤◌, ◌<◌, Bool, true, cond, ◌≡◌, List, ◌++◌, ◌⊎◌, eqb, length, get_or, take, drop}
+use Rattle.std.specs.Prelude.{ℕ, ◌+◌, ◌%◌, ◌^◌, ◌≤◌, ◌<◌, Bool, true, cond, ◌≡◌, List, ◌++◌, ◌⊎◌, Result, Ok, eqb, length, get_or, take, drop}
 use Rattle.opcode.specs.Opcode.{class_of, service_of, low_of}
 use Rattle.header.specs.Bytes.{Bytes}
 use Rattle.header.specs.Read.{header_of, read_by, read_number, read_check, read_header}
@@ -12,7 +12,7 @@ use Rattle.header.specs.declared.Aeth.{Aeth}
 use Rattle.header.specs.declared.Extension.{Extension}
 use Rattle.header.specs.declared.Extension.TheVariants.{Bare, Remote, RemoteImmediate, Immediate, Atomic, Acknowledge, AtomicAcknowledge}
 use Rattle.header.specs.declared.Header.{Header}
-use Rattle.header.specs.declared.HeaderRead.TheVariants.{Accepted, Dropped}
+use Rattle.header.specs.declared.Reason.{Reason}
 use Rattle.header.specs.declared.Answer.{Answer}
 use Rattle.header.specs.declared.Answer.TheVariants.{Done, Refused}
 
@@ -20,19 +20,19 @@ use Rattle.header.specs.declared.Answer.TheVariants.{Done, Refused}
 abbrev pub ReadBack : Type 0
 ReadBack =
     (h : Header) (out : List ℕ) (n : ℕ) → written h (length out) ≡ Done n
-    → read_header (take n (written_out h out)) ≡ Accepted h
+    → read_header (take n (written_out h out)) ≡ Ok h
 
 -- So it is with a payload behind it, up to the longest packet.
 abbrev pub ReadPacket : Type 0
 ReadPacket =
     (h : Header) (payload : List ℕ) → header_fits h ≡ true → length payload % 4 ≡ 0
     → header_length h + length payload ≤ 4128
-    → read_header (header_bytes h ++ payload) ≡ Accepted h
+    → read_header (header_bytes h ++ payload) ≡ Ok h
 
 -- What reading makes of a packet, writing turns into the packet's first bytes again, in any output with room.
 abbrev pub WriteBack : Type 0
 WriteBack =
-    (p : List ℕ) → Bytes p → (h : Header) → read_header p ≡ Accepted h
+    (p : List ℕ) → Bytes p → (h : Header) → read_header p ≡ Ok h
     → (out : List ℕ) → header_length h ≤ length out
     → (written h (length out) ≡ Done (header_length h))
     × (written_out h out ≡ take (header_length h) p ++ drop (header_length h) out)
@@ -43,7 +43,7 @@ abbrev pub Reads : Type 0
 Reads =
     (p : List ℕ) → 12 ≤ length p → length p ≤ 4128 → length p % 4 ≡ 0 → get_or p 1 0 % 16 ≡ 0 → get_or p 0 0 < 64
     → (class_of (get_or p 0 0)).length ≤ length p
-    → read_header p ≡ Accepted (header_of p)
+    → read_header p ≡ Ok (header_of p)
 
 -- the widths of a BTH's fields, and of those of the headers after it
 pub record BthWidths (b : Bth) : Type 0 where
@@ -96,15 +96,16 @@ Writes =
 
 -- The widths are those of the wire: a header can be written exactly if some packet reads as it.
 abbrev pub WritableReads : Type 0
-WritableReads = (h : Header) → Writable h → Bytes (header_bytes h) × (read_header (header_bytes h) ≡ Accepted h)
+WritableReads = (h : Header) → Writable h → Bytes (header_bytes h) × (read_header (header_bytes h) ≡ Ok h)
 
 abbrev pub ReadsWritable : Type 0
-ReadsWritable = (p : List ℕ) → Bytes p → (h : Header) → read_header p ≡ Accepted h → Writable h
+ReadsWritable = (p : List ℕ) → Bytes p → (h : Header) → read_header p ≡ Ok h → Writable h
 
 -- The numbers of the answers: a packet that is dropped for any reason is the quiet drop, with that reason beside it.
 abbrev pub ReadNumbers : Type 0
 ReadNumbers =
-    (reason : ℕ) (p : List ℕ) → (read_number (read_by reason p) ≡ cond (eqb reason 0) 0 5) × (read_check (read_by reason p) ≡ reason)
+    (found : Result (Unit {0}) Reason) (p : List ℕ)
+    → (read_number (read_by found p) ≡ cond (eqb (read_check found) 0) 0 5) × (read_check (read_by found p) ≡ read_check found)
 
 abbrev pub WriteNumbers : Type 0
 WriteNumbers = (h : Header) (n : ℕ) → answer_number (written h n) ≡ write_answer h n
@@ -112,18 +113,18 @@ WriteNumbers = (h : Header) (n : ℕ) → answer_number (written h n) ≡ write_
 -- A packet that passes the checks of a pair has a header that reads.
 abbrev pub CheckedReads : Type 0
 CheckedReads =
-    (service ours pkey : ℕ) (ready : Bool) (p : List ℕ) (h : Header) → admitted service ours pkey ready p ≡ Accepted h
-    → read_header p ≡ Accepted h
+    (service ours pkey : ℕ) (ready : Bool) (p : List ℕ) (h : Header) → admitted service ours pkey ready p ≡ Ok h
+    → read_header p ≡ Ok h
 
 -- A packet whose header reads passes the checks of a pair that is Ready, if it is for the pair's queue pair number,
 -- P_Key and service, and a request that the service has.
 abbrev pub Admits : Type 0
 Admits =
-    (service ours pkey : ℕ) (p : List ℕ) (h : Header) → read_header p ≡ Accepted h
+    (service ours pkey : ℕ) (p : List ℕ) (h : Header) → read_header p ≡ Ok h
     → service_of h.bth.opcode ≡ service → h.bth.dest ≡ ours → pkeys_match h.bth.pkey pkey ≡ true
     → (low_of h.bth.opcode < 13) ⊎ (18 < low_of h.bth.opcode)
     → (service ≡ 1 → low_of h.bth.opcode < 12)
-    → admitted service ours pkey true p ≡ Accepted h
+    → admitted service ours pkey true p ≡ Ok h
 
 -- Two P_Keys match exactly if their 15 low bits agree and are not all 0, and one top bit is set.
 abbrev pub Matches : Type 0

@@ -1,12 +1,12 @@
 -- Which packets the header checks drop, by which number and in which order; the proofs stand in proofs/.
 -- Every condition is listed here once more, by numbers, and not by the test that the checks make.
-use Rattle.std.specs.Prelude.{ℕ, ◌/◌, ◌%◌, ◌≤◌, ◌<◌, Bool, true, ◌≡◌, List, ◌⊎◌, length, get_or}
+use Rattle.std.specs.Prelude.{ℕ, ◌/◌, ◌%◌, ◌≤◌, ◌<◌, Bool, true, ◌≡◌, List, ◌⊎◌, Ok, Err, length, get_or}
 use Rattle.opcode.specs.Opcode.{class_of}
-use Rattle.header.specs.Read.{bth_of, header_of, read_reason, read_header}
+use Rattle.header.specs.Read.{bth_of, header_of, check_number, read_reason, read_header}
 use Rattle.header.specs.Check.{header_reason, admitted}
 use Rattle.header.specs.Layout.{whole_length, after_opcode}
 use Rattle.header.specs.declared.Bth.{Bth}
-use Rattle.header.specs.declared.HeaderRead.TheVariants.{Accepted, Dropped}
+use Rattle.header.specs.declared.Reason.{Reason}
 
 -- First: 12 to 4,128 bytes, in words of 4.
 pub record LengthGood (n : ℕ) : Type 0 where
@@ -75,8 +75,8 @@ FirstFails =
 abbrev pub DroppedBy : Type 0
 DroppedBy =
     (service ours pkey : ℕ) (ready : Bool) (p : List ℕ) (reason : ℕ) → header_reason service ours pkey ready p ≡ reason
-    → (reason ≡ 0 → admitted service ours pkey ready p ≡ Accepted (header_of p))
-    × ((reason ≡ 0 → ⊥) → admitted service ours pkey ready p ≡ Dropped reason)
+    → (reason ≡ 0 → admitted service ours pkey ready p ≡ Ok (header_of p))
+    × ((reason ≡ 0 → ⊥) → (why : Reason) × (check_number why ≡ reason) × (admitted service ours pkey ready p ≡ Err why))
 
 -- Reading alone, of any bytes, has four of the nine conditions, in the same order: the length; TVer, the low half of
 -- byte 1, is 0; the service, bits 7 to 5 of byte 0, is RC or UC; there is room for all headers of the opcode.
@@ -89,4 +89,5 @@ ReadFails =
 abbrev pub ReadDroppedBy : Type 0
 ReadDroppedBy =
     (p : List ℕ) (reason : ℕ) → read_reason p ≡ reason
-    → (reason ≡ 0 → read_header p ≡ Accepted (header_of p)) × ((reason ≡ 0 → ⊥) → read_header p ≡ Dropped reason)
+    → (reason ≡ 0 → read_header p ≡ Ok (header_of p))
+    × ((reason ≡ 0 → ⊥) → (why : Reason) × (check_number why ≡ reason) × (read_header p ≡ Err why))

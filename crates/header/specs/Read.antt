@@ -1,10 +1,10 @@
 -- Reading a header: any bytes in.
-use Rattle.std.specs.Prelude.{ℕ, ◌/◌, ◌%◌, Bool, true, cond, not, List, leb, ltb, eqb, length, get_or}
+use Rattle.std.specs.Prelude.{ℕ, ◌/◌, ◌%◌, Bool, true, cond, not, List, Result, Ok, Err, leb, ltb, eqb, length, get_or}
 use Rattle.opcode.specs.Opcode.{class_of, service_of}
 use Rattle.opcode.specs.Service as Service
 use Rattle.opcode.specs.Follows as Follows
 use Rattle.opcode.specs.Length as Length
-use Rattle.header.specs.Reason as Reason
+use Rattle.header.specs.Reason as Number
 use Rattle.header.specs.Bytes.{be2, be3, be4, be8}
 use Rattle.header.specs.declared.Bth.{Bth}
 use Rattle.header.specs.declared.Reth.{Reth}
@@ -13,8 +13,8 @@ use Rattle.header.specs.declared.Aeth.{Aeth}
 use Rattle.header.specs.declared.Extension.{Extension}
 use Rattle.header.specs.declared.Extension.TheVariants.{Bare, Remote, RemoteImmediate, Immediate, Atomic, Acknowledge, AtomicAcknowledge}
 use Rattle.header.specs.declared.Header.{Header}
-use Rattle.header.specs.declared.HeaderRead.{HeaderRead}
-use Rattle.header.specs.declared.HeaderRead.TheVariants.{Accepted, Dropped}
+use Rattle.header.specs.declared.Reason.{Reason}
+use Rattle.header.specs.declared.Reason.TheVariants as reason
 
 -- BTH, bytes 0 to 11. Byte 0 opcode; byte 1, from the top bit down, SE, MigReq, PadCnt in 2 bits and TVer in 4;
 -- P_Key in 2 bytes; a reserved byte; DestQP in 3; byte 8 AckReq, and 7 reserved bits; PSN in 3
@@ -71,34 +71,51 @@ bad_length n = cond (ltb n Length.bth) true (cond (ltb packet_limit n) true (not
 unfoldable pub other_service : ℕ → Bool
 other_service service = ltb Service.uc service
 
--- reading alone makes four of the header checks; the first that fails, by its number among all nine, or 0
-unfoldable pub read_reason : List ℕ → ℕ
-read_reason p =
-    cond (bad_length (length p)) Reason.length
-    (cond (not (eqb (bth_of p).tver 0)) Reason.version
-    (cond (other_service (service_of (bth_of p).opcode)) Reason.service
-    (cond (ltb (length p) (class_of (bth_of p).opcode).length) Reason.short 0)))
+-- a header check by its number among all nine
+abbrev pub check_number : Reason → ℕ
+check_number reason.Length = Number.length
+check_number reason.Version = Number.version
+check_number reason.Number = Number.number
+check_number reason.Key = Number.key
+check_number reason.Service = Number.service
+check_number reason.Response = Number.response
+check_number reason.Unserved = Number.unserved
+check_number reason.Short = Number.short
+check_number reason.NotReady = Number.not_ready
 
--- what a reason makes of a packet
-unfoldable pub read_by : ℕ → List ℕ → HeaderRead
-read_by reason p = cond (eqb reason 0) (Accepted (header_of p)) (Dropped reason)
+-- the number of the check that failed, or 0
+unfoldable pub read_check : {A : Type 0} → Result A Reason → ℕ
+read_check (Ok x) = 0
+read_check (Err why) = check_number why
+
+-- reading alone makes four of the header checks: the first that fails
+unfoldable pub read_checks : List ℕ → Result (Unit {0}) Reason
+read_checks p =
+    cond (bad_length (length p)) (Err reason.Length)
+    (cond (not (eqb (bth_of p).tver 0)) (Err reason.Version)
+    (cond (other_service (service_of (bth_of p).opcode)) (Err reason.Service)
+    (cond (ltb (length p) (class_of (bth_of p).opcode).length) (Err reason.Short) (Ok tt))))
+
+-- its number, or 0
+unfoldable pub read_reason : List ℕ → ℕ
+read_reason p = read_check (read_checks p)
+
+-- what the checks make of a packet
+unfoldable pub read_by : Result (Unit {0}) Reason → List ℕ → Result Header Reason
+read_by (Ok passed) p = Ok (header_of p)
+read_by (Err why) p = Err why
 
 -- the answer's number in the rules: a packet whose header does not read is a quiet drop
 abbrev pub quiet_drop : ℕ
 quiet_drop = 5
 
-unfoldable pub read_number : HeaderRead → ℕ
-read_number (Accepted h) = 0
-read_number (Dropped reason) = quiet_drop
-
--- and the check with it, or 0
-unfoldable pub read_check : HeaderRead → ℕ
-read_check (Accepted h) = 0
-read_check (Dropped reason) = reason
+unfoldable pub read_number : Result Header Reason → ℕ
+read_number (Ok h) = 0
+read_number (Err why) = quiet_drop
 
 -- the number by the check that failed first, or 0
 abbrev pub reason_number : ℕ → ℕ
 reason_number reason = cond (eqb reason 0) 0 quiet_drop
 
-unfoldable pub read_header : List ℕ → HeaderRead
-read_header p = read_by (read_reason p) p
+unfoldable pub read_header : List ℕ → Result Header Reason
+read_header p = read_by (read_checks p) p

@@ -2,10 +2,8 @@
 // proof that each undoes the other, stand in specs/ and proofs/; the code in decode and encode.
 #![tactic(auto)]
 
-pub mod reason;
-
 ghost use Rattle.std.specs.Prelude.{◌≡◌};
-ghost use Rattle.header.specs.Read.{other_service};
+ghost use Rattle.header.specs.Read.{other_service, check_number};
 ghost use Rattle.header.specs.Check.{pkeys_match};
 
 use sequence::{Msn, Psn};
@@ -87,12 +85,37 @@ pub struct Header {
     pub extension: Extension,
 }
 
-// What reading finds: the header, or why the packet is dropped: the header check that failed first.
-// Reading alone makes four of them: reason::LENGTH, VERSION, SERVICE and SHORT.
-#[derive(Clone, Copy)]
-pub enum HeaderRead {
-    Accepted(Header),
-    Dropped(u8),
+// Why a packet is dropped: the header check that failed, in their order.
+#[derive(Clone, Copy, Debug, PartialEq, Eq)]
+pub enum Reason {
+    Length,
+    Version,
+    Number,
+    Key,
+    Service,
+    Response,
+    Unserved,
+    Short,
+    NotReady,
+}
+
+// The check's number.
+impl From<Reason> for u8 {
+    ghost from_gives = { λ reason n. n ≡ check_number reason };
+
+    fn from(reason: Reason) -> u8 {
+        match reason {
+            Reason::Length => 1,
+            Reason::Version => 2,
+            Reason::Number => 3,
+            Reason::Key => 4,
+            Reason::Service => 5,
+            Reason::Response => 6,
+            Reason::Unserved => 7,
+            Reason::Short => 8,
+            Reason::NotReady => 9,
+        }
+    }
 }
 
 // What a call answers that writes or counts: how many bytes or packets, or the number of its refusal.

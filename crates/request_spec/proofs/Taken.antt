@@ -10,8 +10,9 @@ use borrow.Author.Tests.{le-ltb, ne_eqb, lt-ltb}
 use Rattle.opcode.specs.Opcode.{service_of, low_of, kind_of, place_in, place_of, send_write_follows, follows_of, length_of, low_class, reserved_class, uc_has, class_of}
 use Rattle.opcode.specs.declared.OpcodeClass.{OpcodeClass}
 use Rattle.header.specs.Bytes.{be4}
-use Rattle.header.specs.Read.{bth_of, extension_of, header_of, read_by}
-use Rattle.header.specs.declared.HeaderRead.TheVariants.{Accepted, Dropped}
+use Rattle.header.specs.Read.{bth_of, extension_of, header_of, read_check, read_by}
+use Rattle.header.proofs.Reasons.{some-number}
+use Rattle.std.specs.Prelude.{Ok, Err}
 use Rattle.header.specs.Write.{header_length}
 use Rattle.request_spec.specs.declared.Packet.{Packet}
 use Rattle.request_spec.specs.Packet.{operands_of, packet_of, admission, admission_number}
@@ -179,9 +180,6 @@ pub uc-taken : UcTaken
 uc-taken bytes n low e h = taken-by bytes n low (ap class_of e ∙ uc-alike low h)
 
 pub admission-numbers : AdmissionNumbers
-unfolding read_by
-admission-numbers reason bytes n = go (eqb reason 0)
-  where
-    go : (b : Bool) → admission_number (admission (cond b (Accepted (header_of bytes)) (Dropped reason)) n) ≡ cond b 0 5
-    go true = refl
-    go false = refl
+unfolding read_check read_by
+admission-numbers (Ok x) bytes n = refl
+admission-numbers (Err why) bytes n = sym (ap (λ b. cond b 0 5) (some-number why))

@@ -1,8 +1,9 @@
 -- What is proved of the request checks, each statement by a name; the proofs stand in proofs/.
 -- Every condition is listed here once more, by numbers, and not by the test that the checks make.
-use Rattle.std.specs.Prelude.{ℕ, ◌+◌, ◌-◌, ◌%◌, ◌^◌, ◌≤◌, ◌<◌, ◌≡◌, Bool, true, false, cond, List, ◌⊎◌, eqb, get_or}
+use Rattle.std.specs.Prelude.{ℕ, ◌+◌, ◌-◌, ◌%◌, ◌^◌, ◌≤◌, ◌<◌, ◌≡◌, Bool, true, false, cond, List, ◌⊎◌, Result, eqb, get_or}
 use Rattle.header.specs.Bytes.{be4}
-use Rattle.header.specs.Read.{bth_of, reth_of, atomic_of, header_of, read_by}
+use Rattle.header.specs.Read.{bth_of, reth_of, atomic_of, header_of, read_check, read_by}
+use Rattle.header.specs.declared.Reason.{Reason}
 use Rattle.opcode.specs.Opcode.{class_of}
 use Rattle.pair.specs.declared.Setup.{Setup}
 use Rattle.pair.specs.declared.OpenMessage.{OpenMessage}
@@ -277,4 +278,5 @@ UcTaken =
 -- What the header checks of a pair find has the number that reading has: 0, or 5.
 abbrev pub AdmissionNumbers : Type 0
 AdmissionNumbers =
-    (reason : ℕ) (bytes : List ℕ) (n : ℕ) → admission_number (admission (read_by reason bytes) n) ≡ cond (eqb reason 0) 0 5
+    (found : Result (Unit {0}) Reason) (bytes : List ℕ) (n : ℕ)
+    → admission_number (admission (read_by found bytes) n) ≡ cond (eqb (read_check found) 0) 0 5

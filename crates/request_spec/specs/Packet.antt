@@ -1,5 +1,5 @@
 -- A request packet as numbers.
-use Rattle.std.specs.Prelude.{ℕ, ◌-◌, Bool, true, false, List, length}
+use Rattle.std.specs.Prelude.{ℕ, ◌-◌, Bool, true, false, List, Result, Ok, Err, length}
 use Rattle.opcode.specs.Opcode.{class_of}
 use Rattle.opcode.specs.declared.OpcodeClass.{OpcodeClass}
 use Rattle.header.specs.declared.Reth.{Reth}
@@ -7,13 +7,10 @@ use Rattle.header.specs.declared.AtomicEth.{AtomicEth}
 use Rattle.header.specs.declared.Extension.{Extension}
 use Rattle.header.specs.declared.Extension.TheVariants.{Bare, Remote, RemoteImmediate, Immediate, Atomic, Acknowledge, AtomicAcknowledge}
 use Rattle.header.specs.declared.Header.{Header}
-use Rattle.header.specs.declared.HeaderRead.{HeaderRead}
-use Rattle.header.specs.declared.HeaderRead.TheVariants as read
+use Rattle.header.specs.declared.Reason.{Reason}
 use Rattle.header.specs.Read.{header_of, quiet_drop}
 use Rattle.request_spec.specs.declared.Operands.{Operands}
 use Rattle.request_spec.specs.declared.Packet.{Packet}
-use Rattle.request_spec.specs.declared.Admission.{Admission}
-use Rattle.request_spec.specs.declared.Admission.TheVariants as found
 
 -- a RETH's address, R_Key and DMA length, with or without an immediate behind it
 abbrev pub remote : Reth → Bool → ℕ → Operands
@@ -59,15 +56,15 @@ packet_by c h n =
 unfoldable pub packet_of : Header → ℕ → Packet
 packet_of h n = packet_by (class_of h.bth.opcode) h n
 
--- what the header checks of a pair find, of a packet of n bytes
-abbrev pub admission : HeaderRead → ℕ → Admission
-admission (read.Accepted h) n = found.Admitted (packet_of h n)
-admission (read.Dropped reason) n = found.Dropped reason
+-- what the header checks of a pair find, of a packet of n bytes: the packet, or the check that failed first
+abbrev pub admission : Result Header Reason → ℕ → Result Packet Reason
+admission (Ok h) n = Ok (packet_of h n)
+admission (Err why) n = Err why
 
 -- its number: 0, or that of the quiet drop
-abbrev pub admission_number : Admission → ℕ
-admission_number (found.Admitted p) = 0
-admission_number (found.Dropped reason) = quiet_drop
+abbrev pub admission_number : Result Packet Reason → ℕ
+admission_number (Ok p) = 0
+admission_number (Err why) = quiet_drop
 
 -- the packet that bytes have, whether or not their header passes the checks
 abbrev pub packet_in : List ℕ → Packet

@@ -34,10 +34,3 @@ pub struct Packet {
     pub body: usize,
     pub operands: Operands,
 }
-
-// What the header checks of a pair find: the packet, or the check that failed first.
-#[derive(Clone, Copy)]
-pub enum Admission {
-    Admitted(Packet),
-    Dropped(u8),
-}
