@@ -1,104 +1,74 @@
 // A packet of a SEND or WRITE, executed.
-ghost use Rattle.std.specs.Prelude.{◌≡◌, cond, ◌+◌, ◌<◌, ◌^◌, eqb};
-ghost use Rattle.opcode.specs.Kind as Kind;
+ghost use Rattle.std.specs.Prelude.{◌≡◌, cond, ◌+◌, ◌<◌, ◌^◌};
+ghost use Rattle.opcode.specs.Place.{ends};
 ghost use Rattle.request_spec.specs.Verdict.{payload_size};
-ghost use Rattle.responder_spec.specs.Reply.{no_packet};
-ghost use Rattle.responder_spec.specs.Decide.{completes, completion_of, message_after, target_offset, store_payload};
+ghost use Rattle.pair.specs.Pair.{no_message};
+ghost use Rattle.responder_spec.specs.Decide.{completes, completion_of, target_offset, store_payload};
 ghost use Rattle.execute.specs.Fits.{TargetFits};
 
 use pair::{OpenMessage, Status};
 use request_spec::Packet;
 use responder_spec::{Change, Completion, Decision, Progress};
 
+#[tactic(auto, unfolding(responder_spec::specs::Decide::completes, request_spec::specs::Verdict::uses_entry))]
 fn completes(kind: u8, place: u8, immediate: bool) -> bool
     ensures { result ≡ completes kind place immediate }
 {
-    let last = opcode::ends(place);
-    if last {
-        return request_checks::uses_entry(kind, immediate);
-    }
-    false
+    opcode::ends(place) && request_checks::uses_entry(kind, immediate)
 }
 
-// The bytes of a message that ends: a SEND's are counted, a WRITE names its DMA length.
-fn counted(kind: u8, stored: usize, size: usize, length: usize) -> usize
-    requires { stored + size < 2 ^ 64 }
-    ensures { result ≡ cond (eqb kind Kind.send) (stored + size) length }
+// The completion after a packet with which so many bytes are stored: a SEND's are counted, a WRITE names its DMA length.
+#[tactic(auto, unfolding(responder_spec::specs::Decide::completion_of))]
+fn completion_of(p: Packet, m: OpenMessage, stored: usize, number: u64) -> Completion
+    ensures { stored ≡ m.stored + payload_size p → result ≡ completion_of p m number }
 {
-    if kind == opcode::SEND {
-        return stored + size;
+    if !completes(p.kind, p.place, p.operands.immediate) {
+        return reply::no_completion();
     }
-    length
+    let length = if p.kind == opcode::SEND {
+        stored
+    } else {
+        m.length
+    };
+    Completion {
+        some: true,
+        number,
+        length,
+        immediate: p.operands.immediate,
+        value: p.operands.value,
+    }
 }
 
-fn completion_of(p: Packet, m: OpenMessage, number: u64) -> Completion
-    requires { m.stored + payload_size p < 2 ^ 64 }
-    ensures { result ≡ completion_of p m number }
+// The message after a packet of it with which so many bytes are stored.
+fn message_after(place: u8, m: OpenMessage, stored: usize) -> OpenMessage
+    ensures { result ≡ cond (ends place) no_message (record m { stored = stored }) }
 {
-    let done = completes(p.kind, p.place, p.operands.immediate);
-    if done {
-        let size = number::saturating_sub(p.body, p.pad);
-        let length = counted(p.kind, m.stored, size, m.length);
-        return Completion {
-            some: true,
-            number,
-            length,
-            immediate: p.operands.immediate,
-            value: p.operands.value,
-        };
+    if opcode::ends(place) {
+        pair::no_message()
+    } else {
+        OpenMessage { stored, ..m }
     }
-    reply::no_completion()
-}
-
-// The message after a packet of it.
-fn message_after(place: u8, m: OpenMessage, size: usize) -> OpenMessage
-    requires { m.stored + size < 2 ^ 64 }
-    ensures { result ≡ message_after place m size }
-{
-    let last = opcode::ends(place);
-    if last {
-        return pair::no_message();
-    }
-    let mut next = m;
-    next.stored = m.stored + size;
-    next
 }
 
 // Where the next bytes of a message go.
+#[tactic(auto, unfolding(responder_spec::specs::Decide::target_offset, request_spec::specs::Verdict::bytes_to_come, table::specs::Table::memory_offset))]
 fn target_offset(kind: u8, m: OpenMessage, entry: [u64; 3], region: [u64; 7]) -> usize
     requires { TargetFits kind m entry region }
     ensures { result ≡ target_offset kind m entry region }
 {
-    let stored = number::usize_to_u64(m.stored);
+    let stored = m.stored as u64;
     if kind == opcode::SEND {
         return (entry[table::ENTRY_OFFSET] + stored) as usize;
     }
-    let needed = number::saturating_sub(m.length, m.stored);
+    let needed = m.length.saturating_sub(m.stored);
     if needed == 0 {
         return 0;
     }
     table::memory_offset(region, m.address + stored, needed)
 }
 
-fn status_of(asked: bool) -> Status
-    ensures { result ≡ cond asked Status.Acknowledged Status.Executed }
-{
-    if asked {
-        return Status::Acknowledged;
-    }
-    Status::Executed
-}
-
-fn ack_kind(asked: bool) -> u8
-    ensures { result ≡ cond asked Kind.acknowledge no_packet }
-{
-    if asked {
-        return opcode::ACKNOWLEDGE;
-    }
-    responder_spec::NO_PACKET
-}
-
 // The payload is stored; whether it is acknowledged and how many PSNs are taken, the service says.
+#[tactic(auto, unfolding(responder_spec::specs::Decide::store_payload, responder_spec::specs::Decide::message_after, request_spec::specs::Verdict::payload_size))]
 pub(crate) fn store_payload(
     p: Packet,
     asked: bool,
@@ -111,32 +81,29 @@ pub(crate) fn store_payload(
     requires target_fits { TargetFits p.kind m entry region }
     ensures { result ≡ store_payload asked psns p m entry region }
 {
-    let size = number::saturating_sub(p.body, p.pad);
-    let at = target_offset(p.kind, m, entry, region);
-    let change = Change {
-        act: responder_spec::STORE,
-        at,
-        start: p.start,
-        size,
-        swap: 0,
-        compare: 0,
+    let size = p.body.saturating_sub(p.pad);
+    let stored = m.stored + size;
+    let (status, kind) = if asked {
+        (Status::Acknowledged, opcode::ACKNOWLEDGE)
+    } else {
+        (Status::Executed, responder_spec::NO_PACKET)
     };
-    let message = message_after(p.place, m, size);
-    let completion = completion_of(p, m, entry[table::ENTRY_NUMBER]);
-    let ends = opcode::ends(p.place);
-    let progress = Progress {
-        message,
-        psns,
-        ends,
-        completion,
-    };
-    let kind = ack_kind(asked);
-    let answer = reply::sending(kind, p.psn, reply::ACK, 0);
-    let status = status_of(asked);
     Decision {
         status,
-        change,
-        progress,
-        reply: answer,
+        change: Change {
+            act: responder_spec::STORE,
+            at: target_offset(p.kind, m, entry, region),
+            start: p.start,
+            size,
+            swap: 0,
+            compare: 0,
+        },
+        progress: Progress {
+            message: message_after(p.place, m, stored),
+            psns,
+            ends: opcode::ends(p.place),
+            completion: completion_of(p, m, stored, entry[table::ENTRY_NUMBER]),
+        },
+        reply: reply::sending(kind, p.psn, reply::ACK, 0),
     }
 }

@@ -13,25 +13,26 @@ fn atomic_act(kind: u8) -> u8
     ensures { result ≡ cond (eqb kind Kind.fetch_add) Act.fetch_add Act.cmp_swap }
 {
     if kind == opcode::FETCH_ADD {
-        return responder_spec::FETCH_ADD;
+        responder_spec::FETCH_ADD
+    } else {
+        responder_spec::CMP_SWAP
     }
-    responder_spec::CMP_SWAP
 }
 
 // A message of one packet ends with it.
 fn whole_message(opened: OpenMessage, psns: usize) -> Progress
     ensures { result ≡ whole_message opened psns }
 {
-    let completion = reply::no_completion();
     Progress {
         message: opened,
         psns,
         ends: true,
-        completion,
+        completion: reply::no_completion(),
     }
 }
 
 // An atomic is run, and its old value sent.
+#[tactic(auto, unfolding(responder_spec::specs::Decide::run_atomic))]
 pub(crate) fn run_atomic(
     p: Packet,
     m: OpenMessage,
@@ -41,28 +42,23 @@ pub(crate) fn run_atomic(
     requires { OffsetFits region m.address m.length }
     ensures { result ≡ run_atomic p m opened region }
 {
-    let at = table::memory_offset(region, m.address, m.length);
-    let act = atomic_act(p.kind);
-    let change = Change {
-        act,
-        at,
-        start: 0,
-        size: 0,
-        swap: p.operands.swap,
-        compare: p.operands.compare,
-    };
-    let progress = whole_message(opened, 1);
-    let answer = reply::sending(opcode::ATOMIC_ACKNOWLEDGE, p.psn, reply::ACK, 0);
-    let status = Status::AtomicExecuted;
     Decision {
-        status,
-        change,
-        progress,
-        reply: answer,
+        status: Status::AtomicExecuted,
+        change: Change {
+            act: atomic_act(p.kind),
+            at: table::memory_offset(region, m.address, m.length),
+            start: 0,
+            size: 0,
+            swap: p.operands.swap,
+            compare: p.operands.compare,
+        },
+        progress: whole_message(opened, 1),
+        reply: reply::sending(opcode::ATOMIC_ACKNOWLEDGE, p.psn, reply::ACK, 0),
     }
 }
 
 // A READ is accepted, and begins to be answered.
+#[tactic(auto, unfolding(responder_spec::specs::Decide::accept_read))]
 pub(crate) fn accept_read(
     p: Packet,
     m: OpenMessage,
@@ -75,14 +71,10 @@ pub(crate) fn accept_read(
 {
     let at = table::memory_offset(region, m.address, m.length);
     let count = pmtu::count(m.length, pmtu);
-    let change = reply::no_change();
-    let progress = whole_message(opened, count);
-    let responses = reply::read_begun(at, m.length, count, p.psn);
-    let status = Status::ReadAccepted;
     Decision {
-        status,
-        change,
-        progress,
-        reply: responses,
+        status: Status::ReadAccepted,
+        change: reply::no_change(),
+        progress: whole_message(opened, count),
+        reply: reply::read_begun(at, m.length, count, p.psn),
     }
 }

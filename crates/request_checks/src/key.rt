@@ -1,84 +1,47 @@
 // The check of an R_Key: its region holds the bytes still to come, with the right.
-ghost use Rattle.std.specs.Prelude.{◌≡◌, ◌+◌, ◌≤◌, ltb};
+ghost use Rattle.std.specs.Prelude.{◌≡◌};
 ghost use Rattle.request_spec.specs.Verdict.{right_of, lacks, key_fails};
 
 use pair::OpenMessage;
 
+#[tactic(auto, unfolding(request_spec::specs::Verdict::right_of))]
 fn right_of(kind: u8, region: [u64; 7]) -> u64
     ensures { result ≡ right_of kind region }
 {
-    if kind == opcode::WRITE {
-        return region[table::REGION_WRITE];
+    match kind {
+        opcode::WRITE => region[table::REGION_WRITE],
+        opcode::READ => region[table::REGION_READ],
+        _ => region[table::REGION_ATOMIC],
     }
-    if kind == opcode::READ {
-        return region[table::REGION_READ];
-    }
-    region[table::REGION_ATOMIC]
 }
 
-// Whether n bytes at an address go past the end of a region; no sum is made, so that none wraps.
-fn past_end(start: u64, length: u64, address: u64, n: u64) -> bool
-    requires { start ≤ address }
-    ensures { result ≡ ltb (start + length) (address + n) }
-{
-    let skip = address - start;
-    if length < skip {
-        return true;
-    }
-    length - skip < n
-}
-
+// A region with no end below the top is none that the host could add, and bytes with none lie in no region.
+#[tactic(auto, unfolding(request_spec::specs::Verdict::lacks, table::specs::Table::past_top))]
 fn lacks(region: [u64; 7], right: u64, memory: usize, address: u64, n: u64) -> bool
     ensures { result ≡ lacks region right memory address n }
 {
-    if right == 0 {
+    let start = region[table::REGION_ADDRESS];
+    let length = region[table::REGION_LENGTH];
+    let (Some(top), Some(end)) = (start.checked_add(length), address.checked_add(n)) else {
         return true;
-    }
-    let off = table::outside(
-        region[table::REGION_OFFSET],
-        region[table::REGION_LENGTH],
-        number::usize_to_u64(memory),
-    );
-    if off {
-        return true;
-    }
-    let top = table::past_top(region[table::REGION_ADDRESS], region[table::REGION_LENGTH]);
-    if top {
-        return true;
-    }
-    if address < region[table::REGION_ADDRESS] {
-        return true;
-    }
-    past_end(
-        region[table::REGION_ADDRESS],
-        region[table::REGION_LENGTH],
-        address,
-        n,
-    )
+    };
+    right == 0
+        || table::outside(region[table::REGION_OFFSET], length, memory as u64)
+        || address < start
+        || top < end
 }
 
 // A SEND has no key, and no bytes need none. Bytes from an address past the top lie in no region.
+#[tactic(auto, using(crate::proofs::Keys::lacks_past), unfolding(request_spec::specs::Verdict::key_fails, request_spec::specs::Verdict::key_lacking, request_spec::specs::Verdict::bytes_to_come))]
 pub fn key_fails(memory: usize, kind: u8, m: OpenMessage, region: [u64; 7]) -> bool
     ensures { result ≡ key_fails memory kind m region }
 {
-    if kind == opcode::SEND {
+    let needed = m.length.saturating_sub(m.stored);
+    if kind == opcode::SEND || needed == 0 {
         return false;
     }
-    let needed = number::saturating_sub(m.length, m.stored);
-    if needed == 0 {
-        return false;
-    }
-    let stored = number::usize_to_u64(m.stored);
-    let top = table::past_top(m.address, stored);
-    if top {
+    let Some(next) = m.address.checked_add(m.stored as u64) else {
         return true;
-    }
-    let right = right_of(kind, region);
-    lacks(
-        region,
-        right,
-        memory,
-        m.address + stored,
-        number::usize_to_u64(needed),
-    )
+    };
+    lacks(region, right_of(kind, region), memory, next, needed as u64)
 }

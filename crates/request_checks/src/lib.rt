@@ -1,5 +1,5 @@
-// The request checks of a responder: tests on numbers, each naming the failing case, and the number of the first that
-// fails. The definitions and their laws stand in the crate request_spec.
+// The request checks of a responder: tests on numbers, each naming the failing case, and the first check that fails. The
+// definitions and their laws stand in the crate request_spec.
 #![tactic(auto)]
 
 mod key;
@@ -7,15 +7,17 @@ mod lengths;
 mod place;
 
 ghost use Rattle.std.specs.Prelude.{◌≡◌, cond};
-ghost use Rattle.request_spec.specs.RequestCheck as RequestCheck;
+ghost use Rattle.request_spec.specs.RequestCheck as Check;
+ghost use Rattle.request_spec.specs.RequestCheck.{found_number};
 ghost use Rattle.request_spec.specs.Verdict.{carrying, single, fragment, not_enabled, over_limit, current, key_fails, lengths_off, request_check_of, expected_check_of};
 
 pub use key::key_fails;
 use pair::{OpenMessage, Setup};
 pub use place::uses_entry;
-use request_spec::{Packet, check};
+use request_spec::{Packet, RequestCheck};
 
 // Whether the kind is one of the two that carry bytes.
+#[tactic(auto, unfolding(request_spec::specs::Verdict::carrying))]
 pub fn carrying(kind: u8) -> bool
     ensures { result ≡ carrying kind }
 {
@@ -23,27 +25,20 @@ pub fn carrying(kind: u8) -> bool
 }
 
 // Whether the function is switched off, or there is none.
+#[tactic(auto, unfolding(request_spec::specs::Verdict::not_enabled))]
 pub fn not_enabled(s: Setup, kind: u8) -> bool
     ensures { result ≡ not_enabled s kind }
 {
-    if kind == opcode::SEND {
-        return !s.send;
+    match kind {
+        opcode::SEND => !s.send,
+        opcode::WRITE => !s.write,
+        opcode::READ => !s.read,
+        opcode::CMP_SWAP | opcode::FETCH_ADD => !s.atomic,
+        _ => true,
     }
-    if kind == opcode::WRITE {
-        return !s.write;
-    }
-    if kind == opcode::READ {
-        return !s.read;
-    }
-    if kind == opcode::CMP_SWAP {
-        return !s.atomic;
-    }
-    if kind == opcode::FETCH_ADD {
-        return !s.atomic;
-    }
-    true
 }
 
+#[tactic(auto, unfolding(request_spec::specs::Verdict::over_limit))]
 pub fn over_limit(length: usize) -> bool
     ensures { result ≡ over_limit length }
 {
@@ -51,61 +46,57 @@ pub fn over_limit(length: usize) -> bool
 }
 
 // The message that a packet is of, as it is before the packet.
+#[tactic(auto, unfolding(request_spec::specs::Verdict::current))]
 pub fn current(opened: OpenMessage, p: Packet) -> OpenMessage
     ensures { result ≡ current opened p }
 {
-    let begins = opcode::starts(p.place);
-    if begins {
-        return OpenMessage {
+    if opcode::starts(p.place) {
+        OpenMessage {
             kind: p.kind,
             stored: 0,
             address: p.operands.address,
             key: p.operands.key,
             length: p.operands.length,
-        };
+        }
+    } else {
+        opened
     }
-    opened
 }
 
 // Whether a message of this kind is one packet.
+#[tactic(auto, unfolding(request_spec::specs::Verdict::single))]
 fn single(kind: u8) -> bool
     ensures { result ≡ single kind }
 {
-    if kind == opcode::READ {
-        return true;
-    }
-    if kind == opcode::CMP_SWAP {
-        return true;
-    }
-    kind == opcode::FETCH_ADD
+    matches!(kind, opcode::READ | opcode::CMP_SWAP | opcode::FETCH_ADD)
 }
 
 // Whether the packet is a Middle or Last of such a message, as no header says.
+#[tactic(auto, unfolding(request_spec::specs::Verdict::fragment))]
 pub fn fragment(p: Packet) -> bool
     ensures { result ≡ fragment p }
 {
-    let one = single(p.kind);
-    if one {
-        let begins = opcode::starts(p.place);
-        return !begins;
-    }
-    false
+    single(p.kind) && !opcode::starts(p.place)
 }
 
 // The last two checks, of the key and of the lengths. In one function with those before them, the compiler does not
 // inline the lengths, and a packet takes some 50 instructions more.
-fn bytes_check(p: Packet, m: OpenMessage, s: Setup, region: [u64; 7], most: u64) -> u8
-    ensures { result ≡ cond (key_fails s.memory p.kind m region) RequestCheck.key (cond (lengths_off p s.pmtu m most) RequestCheck.lengths RequestCheck.none) }
+fn bytes_check(
+    p: Packet,
+    m: OpenMessage,
+    s: Setup,
+    region: [u64; 7],
+    most: u64,
+) -> Result<(), RequestCheck>
+    ensures { found_number result ≡ cond (key_fails s.memory p.kind m region) Check.key (cond (lengths_off p s.pmtu m most) Check.lengths Check.none) }
 {
-    let lacking = key_fails(s.memory, p.kind, m, region);
-    if lacking {
-        return check::KEY;
+    if key_fails(s.memory, p.kind, m, region) {
+        return Err(RequestCheck::Key);
     }
-    let bad = lengths::lengths_off(p, s.pmtu, m, most);
-    if bad {
-        return check::LENGTHS;
+    if lengths::lengths_off(p, s.pmtu, m, most) {
+        return Err(RequestCheck::Lengths);
     }
-    check::NONE
+    Ok(())
 }
 
 // The checks but that of the sequence. Apart from that one, so that the compiler inlines all of them.
@@ -117,33 +108,28 @@ fn request_check(
     count: usize,
     region: [u64; 7],
     entry: [u64; 3],
-) -> u8
-    ensures { result ≡ request_check_of s opened m p count entry region }
+) -> Result<(), RequestCheck>
+    ensures { found_number result ≡ request_check_of s opened m p count entry region }
 {
-    let off = not_enabled(s, p.kind);
-    if off {
-        return check::FUNCTION;
+    if not_enabled(s, p.kind) {
+        return Err(RequestCheck::Function);
     }
-    let early = place::pad_early(p.place, p.pad);
-    if early {
-        return check::PAD;
+    if place::pad_early(p.place, p.pad) {
+        return Err(RequestCheck::Pad);
     }
-    let long = over_limit(p.operands.length);
-    if long {
-        return check::DMA_LENGTH;
+    if over_limit(p.operands.length) {
+        return Err(RequestCheck::DmaLength);
     }
-    let unready = place::none_waiting(p.kind, p.place, p.operands.immediate, opened, count);
-    if unready {
-        return check::ENTRY;
+    if place::none_waiting(p.kind, p.place, p.operands.immediate, opened, count) {
+        return Err(RequestCheck::Entry);
     }
-    let stray = place::entry_outside(p.kind, p.operands.immediate, entry, s.memory);
-    if stray {
-        return check::ENTRY_OUTSIDE;
+    if place::entry_outside(p.kind, p.operands.immediate, entry, s.memory) {
+        return Err(RequestCheck::EntryOutside);
     }
     bytes_check(p, m, s, region, entry[table::ENTRY_LENGTH])
 }
 
-// The request checks, for a packet of the message m: the first that fails, or none.
+// The request checks, for a packet of the message m: on Err the first that fails.
 pub fn expected_check(
     s: Setup,
     opened: u8,
@@ -152,12 +138,11 @@ pub fn expected_check(
     count: usize,
     entry: [u64; 3],
     region: [u64; 7],
-) -> u8
-    ensures { result ≡ expected_check_of s opened m p count entry region }
+) -> Result<(), RequestCheck>
+    ensures { found_number result ≡ expected_check_of s opened m p count entry region }
 {
-    let unexpected = place::out_of_sequence(opened, p.kind, p.place);
-    if unexpected {
-        return check::SEQUENCE;
+    if place::out_of_sequence(opened, p.kind, p.place) {
+        return Err(RequestCheck::Sequence);
     }
     request_check(p, m, opened, s, count, region, entry)
 }

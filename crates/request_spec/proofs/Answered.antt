@@ -6,6 +6,9 @@ use mathlib.Core.Logic.{◌⊎◌, inl, inr}
 use native.Mathlib.Omega.{arith}
 use lib.Dec.{eqb}
 use borrow.Author.Tests.{eqb-true, eqb-false}
+use Rattle.request_spec.specs.declared.RequestCheck.{RequestCheck}
+use Rattle.request_spec.specs.declared.RequestCheck.TheVariants as c
+use Rattle.request_spec.specs.RequestCheck.{check_number}
 use Rattle.request_spec.specs.Verdict.{check_answer}
 use Rattle.request_spec.specs.Claims.{AnswerOf, CheckAnswered}
 
@@ -131,3 +134,14 @@ row-left check n = go (eqb check 0) n (eqb check 5) (eqb check 6) (eqb check 8) 
     go false w false true d z p q r = absurd (true≢false q)
     go false w false false true z p q r = eqb-true check 8 z
     go false w false false false z p q r = absurd (true≢false p)
+
+-- a check that failed has a number
+pub some_failed : (check : RequestCheck) → check_number check ≡ 0 → ⊥
+some_failed c.Sequence e = eqb-false 1 0 refl e
+some_failed c.Function e = eqb-false 2 0 refl e
+some_failed c.Pad e = eqb-false 3 0 refl e
+some_failed c.DmaLength e = eqb-false 4 0 refl e
+some_failed c.Entry e = eqb-false 5 0 refl e
+some_failed c.EntryOutside e = eqb-false 8 0 refl e
+some_failed c.Key e = eqb-false 6 0 refl e
+some_failed c.Lengths e = eqb-false 7 0 refl e

@@ -1,12 +1,24 @@
 // The request checks of a responder. Here their types; the definitions stand in specs/, their laws in proofs/.
 #![tactic(auto)]
 
-pub mod check;
-
 use sequence::Psn;
 
 // How many bytes an atomic names; their address is a multiple of it.
 pub const ATOMIC_LENGTH: usize = 8;
+
+// The request checks, in the order in which they are made: of a request that is refused, the first that fails.
+#[derive(Clone, Copy, Debug, PartialEq, Eq)]
+pub enum RequestCheck {
+    Sequence,
+    Function,
+    Pad,
+    DmaLength,
+    Entry,
+    // The entry's row is out of range, so no call wrote it.
+    EntryOutside,
+    Key,
+    Lengths,
+}
 
 // What the headers after the BTH say, each number 0 and each flag false where no header has it; swap is also FetchAdd's
 // addend.
