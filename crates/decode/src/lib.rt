@@ -200,12 +200,12 @@ fn packet_of(b: Bth, class: OpcodeClass, operands: Operands, n: usize) -> Packet
     ensures { result ≡ record { kind = class.kind; place = class.place; ackreq = b.ackreq; pad = b.pad; psn = b.psn; start = class.length; body = n - class.length; operands = operands } }
 {
     let psn = b.psn;
-    let body = number::saturating_sub(n, class.length);
+    let body = n.saturating_sub(class.length);
     Packet {
         kind: class.kind,
         place: class.place,
         ackreq: b.ackreq,
-        pad: b.pad as usize,
+        pad: usize::from(b.pad),
         psn,
         start: class.length,
         body,

@@ -10,22 +10,12 @@ use Rattle.opcode.specs.Opcode.{class_of}
 use Rattle.opcode.specs.declared.OpcodeClass.{OpcodeClass}
 use Rattle.memory.specs.Memory.{store}
 use Rattle.memory.proofs.Overwrite.{length-store, store-twice}
-use Rattle.header.specs.Write.{bth_fits, extension_fits, header_fits, header_length, bth_bytes, extension_bytes, written, written_out}
+use Rattle.header.specs.Write.{header_fits, header_length, bth_bytes, extension_bytes, written, written_out}
 use Rattle.header.specs.declared.Header.{Header}
 use Rattle.header.specs.declared.Extension.{Extension}
 use Rattle.header.specs.declared.Answer.TheVariants.{Done, Refused}
 use Rattle.header.proofs.Lengths.{length-is}
-use Rattle.header.proofs.Writes.{bth-off, refused, short, done, two-parts}
-
--- a refusal by the BTH, or by the headers after it, whose class k is that of the opcode
-pub by-bth : (h : Header) (u : Bool) → u ≡ not (bth_fits h.bth) → u ≡ true → true ≡ not (header_fits h)
-by-bth h u e t = sym (ap not (bth-off h (not-true (bth_fits h.bth) u e t)))
-
-pub by-extension : (h : Header) (u : Bool) → u ≡ not (bth_fits h.bth) → u ≡ false → (k : OpcodeClass)
-    → k ≡ class_of h.bth.opcode → (v : Bool) → v ≡ not (extension_fits k.follows h.extension)
-    → v ≡ not (header_fits h)
-unfolding header_fits
-by-extension h u e f k is v x = simp (x, is, not-false (bth_fits h.bth) u e f)
+use Rattle.header.proofs.Writes.{refused, short, done, two-parts}
 
 -- no such header
 pub by-fields : (h : Header) (out : List ℕ) (u : Bool) → u ≡ not (header_fits h) → u ≡ true

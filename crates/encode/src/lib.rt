@@ -1,41 +1,29 @@
 // Headers written as bytes.
 #![tactic(auto)]
 
-mod width;
-
 ghost use Rattle.std.specs.Prelude.{◌≡◌, not, ◌+◌, ◌≤◌, length};
 ghost use Rattle.memory.specs.Memory.{store};
 ghost use Rattle.header.specs.Write.{bth_fits, follows_by, widths_fit, extension_fits, header_fits, extension_bytes, write_answer, written, answer_number, written_out};
 
 use header::{Answer, Bth, Extension, Header};
-use sequence::Psn;
+use sequence::{Msn, Psn};
 
 // A field over its width, a TVer or a service that no header here has. What a field's own type bounds
 // is not tested again.
+#[tactic(auto, unfolding(header::specs::Write::bth_fits))]
 fn bth_unfit(b: Bth) -> bool
     ensures { result ≡ not (bth_fits b) }
 {
-    let other = header::other_service(b.opcode / opcode::PER_SERVICE);
-    if other {
-        return true;
-    }
-    if 4 <= b.pad {
-        return true;
-    }
-    if b.tver != 0 {
-        return true;
-    }
-    if header::QPN_SPACE <= b.dest {
-        return true;
-    }
-    if 128 <= b.reserved7 {
-        return true;
-    }
-    let psn = b.psn;
-    Psn::SPACE <= psn.0
+    header::other_service(b.opcode / opcode::PER_SERVICE)
+        || 4 <= b.pad
+        || b.tver != 0
+        || header::QPN_SPACE <= b.dest
+        || 128 <= b.reserved7
+        || Psn::SPACE <= b.psn.0
 }
 
 // Which headers these are, as an opcode's class numbers them.
+#[tactic(auto, unfolding(header::specs::Write::follows_by))]
 fn follows_by(e: Extension) -> u8
     ensures { result ≡ follows_by e }
 {
@@ -50,79 +38,55 @@ fn follows_by(e: Extension) -> u8
     }
 }
 
+// Whether a field is over its width. One as wide as its type never is: of these headers only the MSN can be.
 fn widths_unfit(e: Extension) -> bool
     ensures { result ≡ not (widths_fit e) }
 {
     match e {
-        Extension::Bare => false,
-        Extension::Remote(r) => width::reth_unfit(r),
-        Extension::RemoteImmediate(r, i) => width::reth_immediate_unfit(r, i),
-        Extension::Immediate(i) => width::immediate_unfit(i),
-        Extension::Atomic(a) => width::atomic_unfit(a),
-        Extension::Acknowledge(a) => width::aeth_unfit(a),
-        Extension::AtomicAcknowledge(a, v) => width::aeth_value_unfit(a, v),
+        Extension::Acknowledge(a) | Extension::AtomicAcknowledge(a, _) => Msn::SPACE <= a.msn.0,
+        Extension::Bare
+        | Extension::Remote(_)
+        | Extension::RemoteImmediate(_, _)
+        | Extension::Immediate(_)
+        | Extension::Atomic(_) => false,
     }
 }
 
 // Headers that are not those of the opcode's class, or a field of theirs over its width.
+#[tactic(auto, unfolding(header::specs::Write::extension_fits))]
 fn extension_unfit(follows: u8, e: Extension) -> bool
     ensures { result ≡ not (extension_fits follows e) }
 {
-    let own = follows_by(e);
-    if follows != own {
-        return true;
-    }
-    widths_unfit(e)
+    follows != follows_by(e) || widths_unfit(e)
 }
 
 // Whether there is no such header: a field over its width, or headers that are not those of the opcode.
+#[tactic(auto, unfolding(header::specs::Write::header_fits))]
 pub fn unfit(h: Header) -> bool
     ensures { result ≡ not (header_fits h) }
 {
-    let bth = h.bth;
-    let wide = bth_unfit(bth);
-    if wide {
-        return true;
-    }
-    let class = opcode::class(bth.opcode);
-    let extension = h.extension;
-    extension_unfit(class.follows, extension)
+    bth_unfit(h.bth) || extension_unfit(opcode::class(h.bth.opcode).follows, h.extension)
 }
 
 // The headers after the BTH, into an output that has room for them.
+#[tactic(auto, unfolding(header::specs::Write::extension_bytes))]
 fn write_extension(out: &mut [u8], e: Extension)
     requires { 12 + length (extension_bytes e) ≤ length out.old }
     ensures { out.new ≡ store out.old 12 (extension_bytes e) }
 {
     match e {
         Extension::Bare => memory::store(out, 12, &[]),
-        Extension::Remote(r) => {
-            let b = wire::reth_bytes(r);
-            memory::store(out, 12, &b)
-        }
+        Extension::Remote(r) => memory::store(out, 12, &wire::reth_bytes(r)),
         Extension::RemoteImmediate(r, i) => {
-            let b = wire::reth_bytes(r);
-            memory::store(out, 12, &b);
-            let c = wire::immediate_bytes(i);
-            memory::store(out, 28, &c)
+            memory::store(out, 12, &wire::reth_bytes(r));
+            memory::store(out, 28, &wire::immediate_bytes(i))
         }
-        Extension::Immediate(i) => {
-            let b = wire::immediate_bytes(i);
-            memory::store(out, 12, &b)
-        }
-        Extension::Atomic(a) => {
-            let b = wire::atomic_bytes(a);
-            memory::store(out, 12, &b)
-        }
-        Extension::Acknowledge(a) => {
-            let b = wire::aeth_bytes(a);
-            memory::store(out, 12, &b)
-        }
+        Extension::Immediate(i) => memory::store(out, 12, &wire::immediate_bytes(i)),
+        Extension::Atomic(a) => memory::store(out, 12, &wire::atomic_bytes(a)),
+        Extension::Acknowledge(a) => memory::store(out, 12, &wire::aeth_bytes(a)),
         Extension::AtomicAcknowledge(a, v) => {
-            let b = wire::aeth_bytes(a);
-            memory::store(out, 12, &b);
-            let c = wire::value_bytes(v);
-            memory::store(out, 16, &c)
+            memory::store(out, 12, &wire::aeth_bytes(a));
+            memory::store(out, 16, &wire::value_bytes(v))
         }
     }
 }

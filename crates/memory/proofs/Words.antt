@@ -1,5 +1,7 @@
 -- Laws of eight bytes of memory taken as one number.
-use Rattle.std.proofs.Common.{◌≡◌, ℕ, zero, suc, ◌+◌, ◌*◌, ◌/◌, ◌%◌, ◌^◌, ◌<◌, ◌≤◌, Bool, true, false, cond, eqb, leb, List, [], ◌∷◌, ◌++◌, length, get_or, take, drop, sym, refl, ap, ◌∙◌, subst, mod-lt, mod-eq_of_lt, pow-suc, arith, length-drop, take-append-drop, length-take, get_or-drop, get_or-take, drop-drop, take-add, eq-eqb, ne_eqb, le-leb, leb-false, leb-true}
+use Rattle.std.proofs.Common.{◌≡◌, ℕ, zero, suc, ◌+◌, ◌*◌, ◌/◌, ◌%◌, ◌^◌, ◌<◌, ◌≤◌, Bool, true, false, cond, eqb, leb, List, [], ◌∷◌, ◌++◌, length, get_or, take, drop, sym, refl, ap, ◌∙◌, subst, mod-lt, mod-eq_of_lt, pow-suc, arith, length-drop, take-append-drop, length-take, take_all, get_or-drop, get_or-take, drop-drop, eq-eqb, ne_eqb, le-leb, leb-false, leb-true}
+use Rattle.std.specs.Int.{w64, from_le_bytes}
+use Rattle.lemmas.proofs.Lists.{elements, take-elements}
 use native.Mathlib.Nat.{mod-add-div, add-mul-mod_self_left, div-div-eq-div-mul}
 use borrow.Author.Tests.{lt-leb}
 use Rattle.memory.specs.Memory.{overwrite, store}
@@ -10,20 +12,15 @@ use Rattle.memory.specs.Claims.{FetchWraps, SwapEqual, SwapUnequal}
 use Rattle.memory.proofs.Overwrite.{store-overwrite, store-past, length-store, store_found, store-before, store-after}
 
 -- a part that lies in memory has its whole length
-part_length : (m : List ℕ) (at n : ℕ) → at + n ≤ length m → length (take n (drop at m)) ≡ n
+pub part_length : (m : List ℕ) (at n : ℕ) → at + n ≤ length m → length (take n (drop at m)) ≡ n
 part_length m at n h = simp (length-take, length-drop) (omega arith)
 
--- a number of two parts, the low one first
-number_append : (d e : List ℕ) → low_number (d ++ e) ≡ low_number d + 256 ^ length d * low_number e
-unfolding low_number
-number_append [] e = omega arith
-number_append (b ∷ d) e = rw pow-suc (omega (arith, number_append d e))
-
-pub word-halves : (m : List ℕ) (at : ℕ) → at + 8 ≤ length m
-    → low_number (take 4 (drop at m)) + low_number (take 4 (drop (at + 4) m)) * 4294967296
-    ≡ low_number (take 8 (drop at m))
-word-halves m at h =
-    rw (take-add 4 4 (drop at m), number_append, part_length m at 4 (omega arith), drop-drop) (omega arith)
+-- eight bytes are the number that the library reads in them
+pub from_bytes : (d : List ℕ) → length d ≡ 8 → from_le_bytes w64 d ≡ low_number d
+unfolding low_number elements
+from_bytes d l =
+    let whole : d ≡ elements d 0 8 = sym (take_all 8 d (omega arith)) ∙ take-elements d 0 8 (omega arith) in
+    omega (arith, ap low_number whole)
 
 -- the bytes of a number
 pub low-length : LowLength
