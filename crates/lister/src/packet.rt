@@ -1,8 +1,6 @@
 // One packet: its header's fields and what writing the header gives back, or why it is dropped.
-ghost use Rattle.std.specs.Prelude.{◌≡◌, true, take};
-
-use crate::print::{decimal_line, size};
-use crate::{fields, words};
+use crate::fields;
+use crate::words::{self, Size};
 use header::{Answer, Extension, Header, HeaderRead};
 use std::io::{self, Write};
 
@@ -26,40 +24,17 @@ fn list_extension<W: Write>(out: &mut W, e: &Extension) -> io::Result<()> {
 
 // The bytes after the headers, the pad among them.
 fn list_payload<W: Write>(out: &mut W, n: usize, pad: u8) -> io::Result<()> {
-    write!(out, "  payload       ")?;
-    size(out, n)?;
-    if n < pad as usize {
-        decimal_line(out, ", fewer than PadCnt ", pad as u64)
+    write!(out, "  payload       {}", Size(n))?;
+    if n < usize::from(pad) {
+        writeln!(out, ", fewer than PadCnt {pad}")
     } else {
         writeln!(out, ", of which {pad} pad")
     }
 }
 
-// Whether n bytes were written, as many as the headers have, and are the packet's first n.
-fn is_same(out: &[u8], n: usize, headers: usize, p: &[u8]) -> bool
-    ensures { result ≡ true → (n ≡ headers) × (take n out.now ≡ take n p.now) }
-{
-    if n != headers {
-        return false;
-    }
-    if out.len() < n {
-        return false;
-    }
-    if p.len() < n {
-        return false;
-    }
-    &out[0..n] == &p[0..n]
-}
-
-fn list_written<W: Write>(
-    out: &mut W,
-    written: &[u8; 40],
-    n: usize,
-    headers: usize,
-    p: &[u8],
-) -> io::Result<()> {
-    let same = is_same(written, n, headers, p);
-    if same {
+// Whether as many bytes were written as the headers have, and the packet begins with them.
+fn list_written<W: Write>(out: &mut W, written: &[u8], headers: usize, p: &[u8]) -> io::Result<()> {
+    if written.len() == headers && p.starts_with(written) {
         writeln!(out, "same")
     } else {
         writeln!(out, "DIFFERENT")
@@ -71,18 +46,17 @@ fn write_back<W: Write>(out: &mut W, h: Header, headers: usize, p: &[u8]) -> io:
     write!(out, "  written back  ")?;
     let mut written = [0u8; 40];
     match encode::write(h, &mut written) {
-        Answer::Done(n) => list_written(out, &written, n, headers, p),
-        Answer::Refused(code) => decimal_line(out, "refused ", code as u64),
+        Answer::Done(n) => list_written(out, &written[..n], headers, p),
+        Answer::Refused(code) => writeln!(out, "refused {code}"),
     }
 }
 
 fn list_header<W: Write>(out: &mut W, h: Header, p: &[u8]) -> io::Result<()> {
-    let class = opcode::class(h.bth.opcode);
-    let headers = class.length;
-    fields::bth(out, &h.bth, class)?;
+    let headers = opcode::class(h.bth.opcode).length;
+    fields::bth(out, &h.bth)?;
     list_extension(out, &h.extension)?;
-    if headers <= p.len() {
-        list_payload(out, p.len() - headers, h.bth.pad)?;
+    if let Some(n) = p.len().checked_sub(headers) {
+        list_payload(out, n, h.bth.pad)?;
     }
     write_back(out, h, headers, p)
 }
@@ -94,9 +68,7 @@ fn list_drop<W: Write>(out: &mut W, check: u8) -> io::Result<()> {
 
 // Lists a packet of any bytes.
 pub(crate) fn list<W: Write>(out: &mut W, number: u64, p: &[u8]) -> io::Result<()> {
-    write!(out, "packet {number}, ")?;
-    size(out, p.len())?;
-    writeln!(out)?;
+    writeln!(out, "packet {number}, {}", Size(p.len()))?;
     match decode::read(p) {
         HeaderRead::Accepted(h) => list_header(out, h, p),
         HeaderRead::Dropped(check) => list_drop(out, check),

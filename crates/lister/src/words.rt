@@ -1,14 +1,14 @@
-// Numbers in words: an opcode's, and that of the check that dropped a packet.
+// Numbers in words: an opcode's, that of the check that dropped a packet, and a number of bytes.
 use header::reason;
 use opcode::OpcodeClass;
-use std::io::{self, Write};
+use std::fmt;
 
 // No packet that reads has another service.
 fn service(n: u8) -> &'static str {
     match n {
-        opcode::RC => "RC ",
-        opcode::UC => "UC ",
-        _ => "other ",
+        opcode::RC => "RC",
+        opcode::UC => "UC",
+        _ => "other",
     }
 }
 
@@ -26,44 +26,39 @@ fn kind(n: u8) -> &'static str {
     }
 }
 
-fn has_places(kind: u8) -> bool {
-    match kind {
-        opcode::SEND => true,
-        opcode::WRITE => true,
-        opcode::READ_RESPONSE => true,
-        _ => false,
-    }
-}
-
-fn place(n: u8) -> &'static str {
-    match n {
-        opcode::FIRST => " First",
-        opcode::MIDDLE => " Middle",
-        opcode::LAST => " Last",
-        _ => " Only",
+// Nothing for a kind of which there are no parts.
+fn place(class: &OpcodeClass) -> &'static str {
+    match class.kind {
+        opcode::SEND | opcode::WRITE | opcode::READ_RESPONSE => match class.place {
+            opcode::FIRST => " First",
+            opcode::MIDDLE => " Middle",
+            opcode::LAST => " Last",
+            _ => " Only",
+        },
+        _ => "",
     }
 }
 
 fn immediate(follows: u8) -> &'static str {
     match follows {
-        opcode::IMMEDIATE => " with Immediate",
-        opcode::RETH_IMMEDIATE => " with Immediate",
+        opcode::IMMEDIATE | opcode::RETH_IMMEDIATE => " with Immediate",
         _ => "",
     }
 }
 
-pub(crate) fn opcode_words<W: Write>(out: &mut W, n: u8, class: OpcodeClass) -> io::Result<()> {
-    write!(
-        out,
-        "{}{}",
-        service(n / opcode::PER_SERVICE),
-        kind(class.kind)
-    )?;
-    let stored = has_places(class.kind);
-    if stored {
-        write!(out, "{}", place(class.place))?;
+// An opcode in words.
+#[derive(Drop)]
+pub(crate) struct Opcode(pub(crate) u8);
+
+impl fmt::Display for Opcode {
+    fn fmt<W: fmt::Write>(&self, f: &mut fmt::Formatter<W>) -> fmt::Result {
+        let class = opcode::class(self.0);
+        let service = service(self.0 / opcode::PER_SERVICE);
+        let kind = kind(class.kind);
+        let place = place(&class);
+        let immediate = immediate(class.follows);
+        write!(f, "{service} {kind}{place}{immediate}")
     }
-    write!(out, "{}", immediate(class.follows))
 }
 
 // Why reading dropped a packet.
@@ -74,5 +69,18 @@ pub(crate) fn check_words(n: u8) -> &'static str {
         reason::SERVICE => "service, neither RC nor UC",
         reason::SHORT => "too short for its headers",
         _ => "other",
+    }
+}
+
+// A number of bytes.
+#[derive(Drop)]
+pub(crate) struct Size(pub(crate) usize);
+
+impl fmt::Display for Size {
+    fn fmt<W: fmt::Write>(&self, f: &mut fmt::Formatter<W>) -> fmt::Result {
+        match self.0 {
+            1 => write!(f, "1 byte"),
+            n => write!(f, "{n} bytes"),
+        }
     }
 }

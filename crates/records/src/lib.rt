@@ -1,0 +1,66 @@
+// Records in a stream: a length of 2 bytes, big-endian, and a packet of that many bytes.
+#![tactic(auto)]
+
+ghost use Rattle.std.specs.Prelude.{◌≡◌, ◌^◌, ◌<◌, ◌≤◌, length, take, IfOk};
+ghost use Rattle.std.specs.Int.{w16, to_be_bytes, from_be_bytes};
+ghost use Rattle.std.specs.Io.KnownBytes.{Consumes, IsAtEnd};
+ghost use Rattle.records.specs.Next.{ReadsNext};
+
+use std::io::{self, Read};
+
+// What comes next in a stream.
+#[derive(Clone, Copy)]
+pub enum Record<'a> {
+    // The packet of a whole record.
+    Packet(&'a [u8]),
+    // A record that breaks off, or whose packet has no room.
+    Cut,
+    End,
+}
+
+// Reads until buf is full or the input ends, and says how many bytes came.
+fn fill<R: Read>(input: &mut R, buf: &mut [u8]) -> io::Result<usize>
+    ensures count { IfOk result (λ n. n ≤ length buf.new) }
+    ensures bytes { IfOk result (λ n. Consumes (R.remaining input.old) (R.remaining input.new) (take n buf.new)) }
+    ensures end { IfOk result (λ n. n < length buf.new → IsAtEnd (R.remaining input.new)) }
+{
+    let mut done = 0;
+    while done < buf.len() {
+        let n = input.read(&mut buf[done..])?;
+        if n == 0 {
+            break;
+        }
+        done += n;
+    }
+    Ok(done)
+}
+
+// The length of a record's packet.
+fn length_of(two: [u8; 2]) -> usize
+    ensures fits { result < 2 ^ 16 }
+    ensures value { result ≡ from_be_bytes w16 two }
+    ensures back { to_be_bytes w16 result ≡ two }
+{
+    usize::from(u16::from_be_bytes(two))
+}
+
+// Reads the next record, its packet to the start of buf.
+pub fn next<'a, R: Read>(input: &mut R, buf: &'a mut [u8]) -> io::Result<Record<'a>>
+    ensures { IfOk result (ReadsNext (R.remaining input.old) (R.remaining input.new) (length buf.old)) }
+{
+    let mut two = [0; 2];
+    match fill(input, &mut two)? {
+        0 => return Ok(Record::End),
+        1 => return Ok(Record::Cut),
+        _ => {}
+    }
+    let length = length_of(two);
+    if buf.len() < length {
+        return Ok(Record::Cut);
+    }
+    let packet = &mut buf[..length];
+    if fill(input, packet)? < length {
+        return Ok(Record::Cut);
+    }
+    Ok(Record::Packet(packet))
+}
