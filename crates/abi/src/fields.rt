@@ -2,7 +2,7 @@
 ghost use Rattle.std.specs.Prelude.{◌≡◌};
 ghost use Rattle.abi_spec.specs.Fields.{bth_from, bth_words, reth_from, atomic_from, aeth_from, extension_from, remote_words, atomic_words, aeth_words, immediate_words, extension_words};
 
-use crate::{flag, low8, low16, low32};
+use crate::{BYTE, KEYS, PKEYS};
 use header::{Aeth, AtomicEth, Bth, Extension, Reth};
 use sequence::{Msn, Psn};
 
@@ -20,29 +20,29 @@ const AETH: u64 = opcode::AETH as u64;
 const AETH_ATOMIC_ACK: u64 = opcode::AETH_ATOMIC_ACK as u64;
 
 // The BTH of its words, each cut to its field.
+#[tactic(auto, unfolding(abi_spec::specs::Fields::bth_from, abi_spec::specs::Words::flag))]
 pub fn bth_from(w: &[u64; 11]) -> Bth
     ensures { result ≡ bth_from w.now }
 {
-    let psn = Psn(low32(w[10]));
     Bth {
-        opcode: low8(w[0]),
-        se: flag(w[1]),
-        migreq: flag(w[2]),
-        pad: low8(w[3]),
-        tver: low8(w[4]),
-        pkey: low16(w[5]),
-        reserved8: low8(w[6]),
-        dest: low32(w[7]),
-        ackreq: flag(w[8]),
-        reserved7: low8(w[9]),
-        psn,
+        opcode: (w[0] % BYTE) as u8,
+        se: w[1] != 0,
+        migreq: w[2] != 0,
+        pad: (w[3] % BYTE) as u8,
+        tver: (w[4] % BYTE) as u8,
+        pkey: (w[5] % PKEYS) as u16,
+        reserved8: (w[6] % BYTE) as u8,
+        dest: (w[7] % KEYS) as u32,
+        ackreq: w[8] != 0,
+        reserved7: (w[9] % BYTE) as u8,
+        psn: Psn((w[10] % KEYS) as u32),
     }
 }
 
+#[tactic(auto, unfolding(abi_spec::specs::Fields::bth_words))]
 pub fn bth_words(b: Bth) -> [u64; 11]
     ensures { result ≡ bth_words b }
 {
-    let psn = b.psn;
     [
         b.opcode as u64,
         b.se as u64,
@@ -54,75 +54,62 @@ pub fn bth_words(b: Bth) -> [u64; 11]
         b.dest as u64,
         b.ackreq as u64,
         b.reserved7 as u64,
-        psn.0 as u64,
+        b.psn.0 as u64,
     ]
 }
 
+#[tactic(auto, unfolding(abi_spec::specs::Fields::reth_from))]
 fn reth_from(w: &[u64; 10]) -> Reth
     ensures { result ≡ reth_from w.now }
 {
     Reth {
         address: w[1],
-        key: low32(w[2]),
-        length: low32(w[3]),
+        key: (w[2] % KEYS) as u32,
+        length: (w[3] % KEYS) as u32,
     }
 }
 
+#[tactic(auto, unfolding(abi_spec::specs::Fields::aeth_from))]
 fn aeth_from(w: &[u64; 10]) -> Aeth
     ensures { result ≡ aeth_from w.now }
 {
-    let msn = Msn(low32(w[7]));
     Aeth {
-        syndrome: low8(w[6]),
-        msn,
+        syndrome: (w[6] % BYTE) as u8,
+        msn: Msn((w[7] % KEYS) as u32),
     }
 }
 
+#[tactic(auto, unfolding(abi_spec::specs::Fields::atomic_from))]
 fn atomic_from(w: &[u64; 10]) -> AtomicEth
     ensures { result ≡ atomic_from w.now }
 {
     AtomicEth {
         address: w[1],
-        key: low32(w[2]),
+        key: (w[2] % KEYS) as u32,
         swap: w[4],
         compare: w[5],
     }
 }
 
 // The headers that the first word names, of the words that are theirs.
+#[tactic(auto, unfolding(abi_spec::specs::Fields::extension_from))]
 pub fn extension_from(w: &[u64; 10]) -> Extension
     ensures { result ≡ extension_from w.now }
 {
-    let follows = w[0];
-    if follows == RETH {
-        let reth = reth_from(w);
-        return Extension::Remote(reth);
+    let immediate = (w[9] % KEYS) as u32;
+    match w[0] {
+        RETH => Extension::Remote(reth_from(w)),
+        RETH_IMMEDIATE => Extension::RemoteImmediate(reth_from(w), immediate),
+        IMMEDIATE => Extension::Immediate(immediate),
+        ATOMIC_ETH => Extension::Atomic(atomic_from(w)),
+        AETH => Extension::Acknowledge(aeth_from(w)),
+        AETH_ATOMIC_ACK => Extension::AtomicAcknowledge(aeth_from(w), w[8]),
+        _ => Extension::Bare,
     }
-    if follows == RETH_IMMEDIATE {
-        let reth = reth_from(w);
-        let immediate = low32(w[9]);
-        return Extension::RemoteImmediate(reth, immediate);
-    }
-    if follows == IMMEDIATE {
-        let immediate = low32(w[9]);
-        return Extension::Immediate(immediate);
-    }
-    if follows == ATOMIC_ETH {
-        let atomic = atomic_from(w);
-        return Extension::Atomic(atomic);
-    }
-    if follows == AETH {
-        let aeth = aeth_from(w);
-        return Extension::Acknowledge(aeth);
-    }
-    if follows == AETH_ATOMIC_ACK {
-        let aeth = aeth_from(w);
-        return Extension::AtomicAcknowledge(aeth, w[8]);
-    }
-    Extension::Bare
 }
 
 // Words of a RETH with an immediate, of an AtomicETH, and of an AETH with a value, under the number of their class.
+#[tactic(auto, unfolding(abi_spec::specs::Fields::remote_words))]
 fn remote_words(follows: u64, r: Reth, immediate: u32) -> [u64; 10]
     ensures { result ≡ remote_words follows r immediate }
 {
@@ -140,6 +127,7 @@ fn remote_words(follows: u64, r: Reth, immediate: u32) -> [u64; 10]
     ]
 }
 
+#[tactic(auto, unfolding(abi_spec::specs::Fields::atomic_words))]
 fn atomic_words(a: AtomicEth) -> [u64; 10]
     ensures { result ≡ atomic_words a }
 {
@@ -157,10 +145,10 @@ fn atomic_words(a: AtomicEth) -> [u64; 10]
     ]
 }
 
+#[tactic(auto, unfolding(abi_spec::specs::Fields::aeth_words))]
 fn aeth_words(follows: u64, a: Aeth, value: u64) -> [u64; 10]
     ensures { result ≡ aeth_words follows a value }
 {
-    let msn = a.msn;
     [
         follows,
         0,
@@ -169,12 +157,13 @@ fn aeth_words(follows: u64, a: Aeth, value: u64) -> [u64; 10]
         0,
         0,
         a.syndrome as u64,
-        msn.0 as u64,
+        a.msn.0 as u64,
         value,
         0,
     ]
 }
 
+#[tactic(auto, unfolding(abi_spec::specs::Fields::immediate_words))]
 fn immediate_words(immediate: u32) -> [u64; 10]
     ensures { result ≡ immediate_words immediate }
 {
@@ -182,6 +171,7 @@ fn immediate_words(immediate: u32) -> [u64; 10]
 }
 
 // The words of the headers after the BTH: which these are, then every field of any of them, 0 where there is none.
+#[tactic(auto, unfolding(abi_spec::specs::Fields::extension_words))]
 pub fn extension_words(e: Extension) -> [u64; 10]
     ensures { result ≡ extension_words e }
 {

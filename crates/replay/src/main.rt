@@ -26,7 +26,7 @@ fn replay<R: Read, W: Write>(
                 let status = setting.receive(packet);
                 print::answer(
                     output,
-                    status.number(),
+                    u8::from(status),
                     setting.pair.expected.0,
                     setting.pair.msn.0,
                 )?;

@@ -46,16 +46,12 @@ fn report_header(h: Header, bth: &mut [u64; 11], extension: &mut [u64; 10]) -> u
 }
 
 // Whether words are those of the header that they say.
+#[tactic(auto, using(abi_spec::proofs::Lists::pointwise_words), unfolding(udalopek_spec::specs::Headers::own_words))]
 fn own_words(bth: &[u64; 11], extension: &[u64; 10]) -> bool
     ensures { result ≡ own_words bth.now extension.now }
 {
-    let b = abi::bth_words(abi::bth_from(bth));
-    let base = abi::same(bth, &b);
-    if base {
-        let e = abi::extension_words(abi::extension_from(extension));
-        return abi::same(extension, &e);
-    }
-    false
+    *bth == abi::bth_words(abi::bth_from(bth))
+        && *extension == abi::extension_words(abi::extension_from(extension))
 }
 
 pub(crate) fn bytes_written(answer: Answer) -> u64

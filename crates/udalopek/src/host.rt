@@ -1,28 +1,28 @@
 // The calls of a host, on words that are lent.
 ghost use Rattle.std.specs.Prelude.{◌≡◌, cond};
+ghost use Rattle.table.specs.declared.Region.{Region};
+ghost use Rattle.table.specs.declared.Entry.{Entry};
+ghost use Rattle.pair.specs.declared.Setup.{Setup};
 ghost use Rattle.pair.specs.Answer.{status_number, executed};
 ghost use Rattle.abi_spec.specs.Words.{overwrite_words};
 ghost use Rattle.abi_spec.specs.Pair.{pair_words};
 ghost use Rattle.udalopek_spec.specs.Host.{set_up_number, set_up_words, set_up_table, reset_number, reset_words, reset_table, ready_number, ready_words, add_number, add_table, remove_number, remove_table, post_number, post_words, post_table};
 
 use crate::left;
+use crate::words::said;
 use pair::{HostOutcome, Setup};
 use sequence::Psn;
 use table::{Entry, Region};
 
 // Writes the pair of a call that is done over its words, and answers the call's number.
-fn leave(pair: &mut [u64], left: HostOutcome) -> u8
+fn leave(words: &mut [u64; abi::PAIR], left: HostOutcome) -> u8
     ensures value { result ≡ status_number left.status }
-    ensures pair_after { pair.new ≡ cond (executed left.status) (overwrite_words pair.old (pair_words left.pair)) pair.old }
+    ensures words_after { words.new ≡ cond (executed left.status) (overwrite_words words.old (pair_words left.pair)) words.old }
 {
-    let status = left.status;
-    let number = u8::from(status);
-    if number != 0 {
-        return number;
+    let number = u8::from(left.status);
+    if number == 0 {
+        abi::overwrite_words(words, &abi::pair_words(left.pair));
     }
-    let q = left.pair;
-    let next = abi::pair_words(q);
-    abi::overwrite_words(pair, &next);
     number
 }
 
@@ -44,20 +44,17 @@ pub extern "C" fn udalopek_set_up(
     atomic: bool,
     memory: usize,
 ) -> u8
-    ensures value { result ≡ set_up_number pair.old (record { pmtu = pmtu; memory = memory; ours = ours; theirs = theirs; start = record { 0 = start }; pkey = pkey; service = service; timer = timer; send = send; write = write; read = read; atomic = atomic }) }
-    ensures pair_after { pair.new ≡ set_up_words pair.old (record { pmtu = pmtu; memory = memory; ours = ours; theirs = theirs; start = record { 0 = start }; pkey = pkey; service = service; timer = timer; send = send; write = write; read = read; atomic = atomic }) }
-    ensures regions_after { regions.new ≡ set_up_table pair.old regions.old (record { pmtu = pmtu; memory = memory; ours = ours; theirs = theirs; start = record { 0 = start }; pkey = pkey; service = service; timer = timer; send = send; write = write; read = read; atomic = atomic }) }
+    ensures { let s : Setup = record { pmtu = pmtu; memory = memory; ours = ours; theirs = theirs; start = record { 0 = start }; pkey = pkey; service = service; timer = timer; send = send; write = write; read = read; atomic = atomic } in (result ≡ set_up_number pair.old s) × (pair.new ≡ set_up_words pair.old s) × (regions.new ≡ set_up_table pair.old regions.old s) }
 {
-    if pair.len() != abi::PAIR {
+    let Some(words) = pair.as_mut_array() else {
         return header::OUT_OF_RANGE;
-    }
-    let first = Psn(start);
+    };
     let setup = Setup {
         pmtu,
         memory,
         ours,
         theirs,
-        start: first,
+        start: Psn(start),
         pkey,
         service,
         timer,
@@ -66,8 +63,7 @@ pub extern "C" fn udalopek_set_up(
         read,
         atomic,
     };
-    let made = host_calls::set_up(setup, regions);
-    leave(pair, made)
+    leave(words, host_calls::set_up(setup, regions))
 }
 
 // Starts afresh with the numbers of the set-up.
@@ -77,13 +73,10 @@ pub extern "C" fn udalopek_reset(pair: &mut [u64], regions: &mut [[u64; 7]; tabl
     ensures pair_after { pair.new ≡ reset_words pair.old }
     ensures regions_after { regions.new ≡ reset_table pair.old regions.old }
 {
-    if pair.len() != abi::PAIR {
+    let Some(words) = pair.as_mut_array() else {
         return header::OUT_OF_RANGE;
-    }
-    let stray = abi::strays(pair);
-    let q = abi::pair_said(stray, pair);
-    let left = host_calls::reset(q, regions);
-    leave(pair, left)
+    };
+    leave(words, host_calls::reset(said(words), regions))
 }
 
 // The pair takes packets from now on.
@@ -92,13 +85,10 @@ pub extern "C" fn udalopek_make_ready(pair: &mut [u64]) -> u8
     ensures value { result ≡ ready_number pair.old }
     ensures pair_after { pair.new ≡ ready_words pair.old }
 {
-    if pair.len() != abi::PAIR {
+    let Some(words) = pair.as_mut_array() else {
         return header::OUT_OF_RANGE;
-    }
-    let stray = abi::strays(pair);
-    let q = abi::pair_said(stray, pair);
-    let left = host_calls::make_ready(q);
-    leave(pair, left)
+    };
+    leave(words, host_calls::make_ready(said(words)))
 }
 
 // Lets peers name a part of memory by a key.
@@ -114,14 +104,11 @@ pub extern "C" fn udalopek_add_region(
     read: bool,
     atomic: bool,
 ) -> u8
-    ensures value { result ≡ add_number pair.now regions.old (record { key = key; address = address; length = length; offset = offset; write = write; read = read; atomic = atomic }) }
-    ensures regions_after { regions.new ≡ add_table pair.now regions.old (record { key = key; address = address; length = length; offset = offset; write = write; read = read; atomic = atomic }) }
+    ensures { let r : Region = record { key = key; address = address; length = length; offset = offset; write = write; read = read; atomic = atomic } in (result ≡ add_number pair.now regions.old r) × (regions.new ≡ add_table pair.now regions.old r) }
 {
-    if pair.len() != abi::PAIR {
+    let Some(words) = pair.as_array() else {
         return header::OUT_OF_RANGE;
-    }
-    let stray = abi::strays(pair);
-    let q = abi::pair_said(stray, pair);
+    };
     let region = Region {
         key,
         address,
@@ -131,8 +118,7 @@ pub extern "C" fn udalopek_add_region(
         read,
         atomic,
     };
-    let status = host_calls::add_region(q, regions, region);
-    u8::from(status)
+    u8::from(host_calls::add_region(said(words), regions, region))
 }
 
 // Takes a key back.
@@ -148,8 +134,7 @@ pub extern "C" fn udalopek_remove_region(
     if pair.len() != abi::PAIR {
         return header::OUT_OF_RANGE;
     }
-    let status = host_calls::remove_region(regions, key);
-    u8::from(status)
+    u8::from(host_calls::remove_region(regions, key))
 }
 
 // Gives memory for a message that a peer will send.
@@ -161,28 +146,20 @@ pub extern "C" fn udalopek_post_entry(
     offset: u64,
     length: u64,
 ) -> u8
-    ensures value { result ≡ post_number pair.old (record { number = number; offset = offset; length = length }) }
-    ensures pair_after { pair.new ≡ post_words pair.old (record { number = number; offset = offset; length = length }) }
-    ensures entries_after { entries.new ≡ post_table pair.old entries.old (record { number = number; offset = offset; length = length }) }
+    ensures { let e : Entry = record { number = number; offset = offset; length = length } in (result ≡ post_number pair.old e) × (pair.new ≡ post_words pair.old e) × (entries.new ≡ post_table pair.old entries.old e) }
 {
-    if pair.len() != abi::PAIR {
+    let Some(words) = pair.as_mut_array() else {
         return header::OUT_OF_RANGE;
-    }
-    let stray = abi::strays(pair);
-    let q = abi::pair_said(stray, pair);
+    };
     let entry = Entry {
         number,
         offset,
         length,
     };
-    let posted = host_calls::post_entry(q, entries, entry);
-    let status = posted.status;
-    let answer = u8::from(status);
-    if answer != 0 {
-        return answer;
+    let posted = host_calls::post_entry(said(words), entries, entry);
+    let number = u8::from(posted.status);
+    if number == 0 {
+        left::put_entries(words, posted.pair.entries);
     }
-    let after = posted.pair;
-    let ring = after.entries;
-    left::put_entries(pair, ring);
-    answer
+    number
 }

@@ -7,3 +7,4 @@ mod host;
 mod left;
 mod messages;
 mod packets;
+mod words;

@@ -1,5 +1,8 @@
 // A message cut into packets, one a call.
-ghost use Rattle.std.specs.Prelude.{◌≡◌};
+ghost use Rattle.std.specs.Prelude.{◌≡◌, ◌<◌, ◌≤◌, MatchOption};
+ghost use Rattle.sequence.specs.declared.Psn.{Psn};
+ghost use Rattle.cut_spec.specs.declared.Connection.{Connection};
+ghost use Rattle.udalopek_spec.specs.RequestKind.{fetch_add};
 ghost use Rattle.udalopek_spec.specs.Cutting.{request_of, following_psn, cut_report, cut_number, cut_output, cut_words};
 
 use crate::headers::{bytes_written, refusal_number};
@@ -22,7 +25,8 @@ const CMP_SWAP: u8 = 5;
 
 const FETCH_ADD: u8 = 6;
 
-// The request of a kind, from the numbers that it has.
+// The request of a kind, from the numbers that it has, where there is such a kind.
+#[tactic(auto, unfolding(udalopek_spec::specs::Cutting::request_of))]
 fn request_of(
     kind: u8,
     address: u64,
@@ -31,40 +35,30 @@ fn request_of(
     swap: u64,
     compare: u64,
     immediate: u32,
-) -> Request
-    ensures { result ≡ request_of kind address key length swap compare immediate }
+) -> Option<Request>
+    ensures { MatchOption result (fetch_add < kind) (λ r. (kind ≤ fetch_add) × (r ≡ request_of kind address key length swap compare immediate)) }
 {
     let target = Target { address, key };
-    if kind == SEND {
-        return Request::Send;
-    }
-    if kind == SEND_IMMEDIATE {
-        return Request::SendImmediate(immediate);
-    }
-    if kind == WRITE {
-        return Request::Write(target);
-    }
-    if kind == WRITE_IMMEDIATE {
-        return Request::WriteImmediate(target, immediate);
-    }
-    if kind == READ {
-        let reth = Reth {
+    let request = match kind {
+        SEND => Request::Send,
+        SEND_IMMEDIATE => Request::SendImmediate(immediate),
+        WRITE => Request::Write(target),
+        WRITE_IMMEDIATE => Request::WriteImmediate(target, immediate),
+        READ => Request::Read(Reth {
             address,
             key,
             length,
-        };
-        return Request::Read(reth);
-    }
-    if kind == CMP_SWAP {
-        let atomic = AtomicEth {
+        }),
+        CMP_SWAP => Request::CmpSwap(AtomicEth {
             address,
             key,
             swap,
             compare,
-        };
-        return Request::CmpSwap(atomic);
-    }
-    Request::FetchAdd(target, swap)
+        }),
+        FETCH_ADD => Request::FetchAdd(target, swap),
+        _ => return None,
+    };
+    Some(request)
 }
 
 fn following_psn(f: Following) -> u64
@@ -106,15 +100,12 @@ pub extern "C" fn udalopek_cut(
     out: &mut [u8],
     report: &mut [u64; 2],
 ) -> u8
-    ensures value { result ≡ cut_number kind (record { service = service; pmtu = pmtu; pkey = pkey; dest = dest }) (request_of kind address key length swap compare immediate) message.now (record { 0 = psn }) index out.old }
-    ensures out_after { out.new ≡ cut_output kind (record { service = service; pmtu = pmtu; pkey = pkey; dest = dest }) (request_of kind address key length swap compare immediate) message.now (record { 0 = psn }) index out.old }
-    ensures report_after { report.new ≡ cut_words kind (record { service = service; pmtu = pmtu; pkey = pkey; dest = dest }) (request_of kind address key length swap compare immediate) message.now (record { 0 = psn }) index out.old }
+    ensures { let c : Connection = record { service = service; pmtu = pmtu; pkey = pkey; dest = dest } in let r = request_of kind address key length swap compare immediate in let first : Psn = record { 0 = psn } in (result ≡ cut_number kind c r message.now first index out.old) × (out.new ≡ cut_output kind c r message.now first index out.old) × (report.new ≡ cut_words kind c r message.now first index out.old) }
 {
-    if FETCH_ADD < kind {
+    let Some(request) = request_of(kind, address, key, length, swap, compare, immediate) else {
         *report = [0; 2];
         return header::BAD_NUMBER;
-    }
-    let request = request_of(kind, address, key, length, swap, compare, immediate);
+    };
     let connection = Connection {
         service,
         pmtu,

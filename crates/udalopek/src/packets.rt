@@ -3,6 +3,7 @@ ghost use Rattle.std.specs.Prelude.{◌≡◌};
 ghost use Rattle.udalopek_spec.specs.Packets.{lent, returned, inbound_returned, report_words, next_number, next_words, next_output, next_report};
 
 use crate::left;
+use crate::words::said;
 use responder_spec::Completion;
 use table::Tables;
 
@@ -33,12 +34,11 @@ pub extern "C" fn udalopek_inbound(
 ) -> u8
     ensures { returned result pair.new saved.new mem.new out.new report.new ≡ inbound_returned (lent pair.old regions.now entries.now saved.old mem.old packet.now out.old) }
 {
-    if pair.len() != abi::PAIR {
+    let Some(words) = pair.as_mut_array() else {
         *report = [0; 6];
         return header::OUT_OF_RANGE;
-    }
-    let stray = abi::strays(pair);
-    let q = abi::pair_said(stray, pair);
+    };
+    let q = said(words);
     let tables = Tables {
         regions,
         entries,
@@ -51,9 +51,8 @@ pub extern "C" fn udalopek_inbound(
     let reply = acknowledge::reply_with(d.reply, next.msn, value);
     let outgoing = acknowledge::write_ack(out, q.setup, reply);
     *report = report_words(outgoing, d.progress.completion);
-    left::put_left(pair, next, d);
-    let status = d.status;
-    u8::from(status)
+    left::put_left(words, next, d);
+    u8::from(d.status)
 }
 
 // Writes the next response of a READ.
@@ -69,21 +68,15 @@ pub extern "C" fn udalopek_next_response(
     ensures out_after { out.new ≡ next_output pair.old mem.now out.old }
     ensures report_after { report.new ≡ next_report pair.old mem.now out.old }
 {
-    if pair.len() != abi::PAIR {
+    let Some(words) = pair.as_mut_array() else {
         *report = [0; 1];
         return header::OUT_OF_RANGE;
-    }
-    let stray = abi::strays(pair);
-    let q = abi::pair_said(stray, pair);
-    let got = responder::next_response(q, mem, out);
+    };
+    let got = responder::next_response(said(words), mem, out);
     *report = [number::usize_to_u64(got.outgoing)];
-    let status = got.status;
-    let number = u8::from(status);
-    if number != 0 {
-        return number;
+    let number = u8::from(got.status);
+    if number == 0 {
+        left::put_read(words, got.pair.read);
     }
-    let after = got.pair;
-    let read = after.read;
-    left::put_read(pair, read);
     number
 }

@@ -1,16 +1,13 @@
-use mathlib.Core.Path.{ap, ◌∙◌}
+use Rattle.std.proofs.Common.{ap, ◌∙◌}
 use Rattle.abi_spec.specs.Words.{overwrite_words}
 use Rattle.udalopek_spec.proofs.Steps.{first, second}
 use Rattle.udalopek_spec.proofs.Done.{done, undone}
 use Rattle.udalopek.proofs.host.leave.Goals as goal
 
-pub returns-then-number-ne0 : goal.returns-then-number-ne0
-returns-then-number-ne0 c =
-    let n = c.from-number.ensures in
-    record { value = n; pair_after = second _ _ _ (undone _ _ n c.if-number-ne0.true) }
+pub returns-then-number-eq0-clause-words_after : goal.returns-then-number-eq0-clause-words_after
+returns-then-number-eq0-clause-words_after c =
+    c.overwrite_words.ensures ∙ ap (overwrite_words c.args.words.now) c.pair_words.ensures
+    ∙ first _ _ _ (done _ _ c.from-number.ensures c.if-number-eq0.true)
 
-pub returns : goal.returns
-returns c =
-    let A = c.args in
-    let n = c.from-number.ensures in
-    record { value = n; pair_after = c.overwrite_words.ensures ∙ ap (overwrite_words A.pair.now) c.pair_words-next.ensures ∙ first _ _ _ (done _ _ n c.if-number-ne0.false) }
+pub returns-else-number-eq0-clause-words_after : goal.returns-else-number-eq0-clause-words_after
+returns-else-number-eq0-clause-words_after c = second _ _ _ (undone _ _ c.from-number.ensures c.if-number-eq0.false)

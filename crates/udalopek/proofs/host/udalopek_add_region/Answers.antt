@@ -1,23 +1,24 @@
-use mathlib.Core.Path.{ap, ◌∙◌}
-use Rattle.udalopek_spec.proofs.Steps.{second, first, many, few, said}
+use Rattle.std.proofs.Common.{ap, ◌∙◌}
+use Rattle.table.specs.declared.Region.{Region}
 use Rattle.pair.specs.Answer.{status_number}
 use Rattle.pair.specs.Host.{add_status, add_regions}
+use Rattle.abi_spec.specs.Pair.{pair_of}
+use Rattle.udalopek_spec.proofs.Steps.{second, first, many, few}
 use Rattle.udalopek_spec.specs.Host.{add_number, add_table}
 use Rattle.udalopek.proofs.host.udalopek_add_region.Goals as goal
 
-pub returns-then-pair-ne-PAIR : goal.returns-then-pair-ne-PAIR
+pub returns-in_default : goal.returns-in_default
 unfolding add_number add_table
-returns-then-pair-ne-PAIR c =
-    let f = few _ c.if-pair-ne-PAIR.true in
-    record { value = first _ 34 _ f; regions_after = first _ _ _ f }
+returns-in_default c = let f = few _ c.in_default.ensures.cases in (first _ 34 _ f, first _ _ _ f)
 
 pub returns : goal.returns
 unfolding add_number add_table
 returns c =
     let A = c.args in
-    let l = many _ c.if-pair-ne-PAIR.false in
-    let q = said A.pair.now _ _ c.strays-stray.ensures c.pair_said-q.ensures in
-    record {
-      value = c.from.ensures ∙ ap status_number (c.add_region-status.ensures.value ∙ ap (λ x. add_status x A.regions.now (record { key = A.key; address = A.address; length = A.length; offset = A.offset; write = A.write; read = A.read; atomic = A.atomic })) q) ∙ second _ 34 _ l;
-      regions_after = c.add_region-status.ensures.regions_after ∙ ap (λ x. add_regions x A.regions.now (record { key = A.key; address = A.address; length = A.length; offset = A.offset; write = A.write; read = A.read; atomic = A.atomic })) q ∙ second _ _ _ l;
-    }
+    let w = c.in-Some.ensures.cases in
+    let l = many A.pair.now w.long in
+    let q = c.said.ensures ∙ ap pair_of w.same in
+    let r : Region = record { key = A.key; address = A.address; length = A.length; offset = A.offset; write = A.write; read = A.read; atomic = A.atomic } in (
+      c.from.ensures ∙ ap status_number (c.add_region.ensures.value ∙ ap (λ x. add_status x A.regions.now r) q) ∙ second _ 34 _ l,
+      c.add_region.ensures.regions_after ∙ ap (λ x. add_regions x A.regions.now r) q ∙ second _ _ _ l,
+    )

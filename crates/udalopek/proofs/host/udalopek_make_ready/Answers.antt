@@ -1,29 +1,30 @@
-use mathlib.Core.Path.{ap, ◌∙◌}
-use mathlib.Core.Bool.{cond}
-use Rattle.udalopek_spec.proofs.Steps.{second, first, many, few, few-stray, said}
-use Rattle.udalopek_spec.proofs.Done.{ready_words_lem}
+use Rattle.std.proofs.Common.{ap, ◌∙◌, cond}
 use Rattle.pair.specs.Answer.{status_number, executed}
 use Rattle.pair.specs.Host.{made_ready}
 use Rattle.abi_spec.specs.Words.{overwrite_words}
-use Rattle.abi_spec.specs.Pair.{pair_words}
+use Rattle.abi_spec.specs.Pair.{pair_of, pair_words}
+use Rattle.udalopek_spec.proofs.Steps.{second, first, many, few, few-stray}
+use Rattle.udalopek_spec.proofs.Done.{ready_words_lem}
 use Rattle.udalopek_spec.specs.Host.{ready_number, ready_words}
 use Rattle.udalopek.proofs.host.udalopek_make_ready.Goals as goal
 
-pub returns-then-pair-ne-PAIR : goal.returns-then-pair-ne-PAIR
+pub returns-in_default : goal.returns-in_default
 unfolding ready_number ready_words
-returns-then-pair-ne-PAIR c =
-    let f = few _ c.if-pair-ne-PAIR.true in
+returns-in_default c =
+    let f = few _ c.in_default.ensures.cases in
     record { value = first _ 34 _ f; pair_after = first _ _ _ (few-stray _ f) }
 
 pub returns : goal.returns
 unfolding ready_number made_ready
 returns c =
     let A = c.args in
-    let l = many A.pair.now c.if-pair-ne-PAIR.false in
-    let q = said A.pair.now _ _ c.strays-stray.ensures c.pair_said-q.ensures in
-    let e = c.make_ready-left.ensures ∙ ap made_ready q in
+    let w = c.in-Some.ensures.cases in
+    let l = many A.pair.now w.long in
+    let e = c.make_ready.ensures ∙ ap made_ready (c.said.ensures ∙ ap pair_of w.same) in
     record {
       value = c.leave.ensures.value ∙ ap (λ o. status_number o.status) e ∙ second _ 34 _ l;
-      pair_after = c.leave.ensures.pair_after ∙ ap (λ o. cond (executed o.status) (overwrite_words A.pair.now (pair_words o.pair)) A.pair.now) e
+      pair_after =
+          c.leave.ensures.words_after
+          ∙ (λ i. cond (executed (e i).status) (overwrite_words (w.same i) (pair_words (e i).pair)) (w.same i))
           ∙ ready_words_lem A.pair.now l;
     }

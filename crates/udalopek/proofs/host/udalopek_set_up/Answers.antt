@@ -1,5 +1,4 @@
-use mathlib.Core.Path.{ap, ◌∙◌}
-use mathlib.Core.Bool.{cond}
+use Rattle.std.proofs.Common.{ap, ◌∙◌, cond}
 use Rattle.pair.specs.Answer.{status_number, executed}
 use Rattle.abi_spec.specs.Words.{overwrite_words}
 use Rattle.abi_spec.specs.Pair.{pair_words}
@@ -8,23 +7,20 @@ use Rattle.udalopek_spec.proofs.Done.{set-up-left}
 use Rattle.udalopek_spec.specs.Host.{set_up_number, set_up_words, set_up_table}
 use Rattle.udalopek.proofs.host.udalopek_set_up.Goals as goal
 
-pub returns-then-pair-ne-PAIR : goal.returns-then-pair-ne-PAIR
+pub returns-in_default : goal.returns-in_default
 unfolding set_up_number set_up_words set_up_table
-returns-then-pair-ne-PAIR c =
-    let f = few _ c.if-pair-ne-PAIR.true in
-    record { value = first _ 34 _ f; pair_after = first _ _ _ f; regions_after = first _ _ _ f }
+returns-in_default c = let f = few _ c.in_default.ensures.cases in (first _ 34 _ f, first _ _ _ f, first _ _ _ f)
 
 pub returns : goal.returns
 unfolding set_up_number set_up_table
 returns c =
     let A = c.args in
-    let l = many A.pair.now c.if-pair-ne-PAIR.false in
-    let e = c.set_up-made.ensures.value in
-    record {
-      value = c.leave.ensures.value ∙ ap (λ o. status_number o.status) e ∙ second _ 34 _ l;
-      pair_after =
-          c.leave.ensures.pair_after
-          ∙ ap (λ o. cond (executed o.status) (overwrite_words A.pair.now (pair_words o.pair)) A.pair.now) e
-          ∙ set-up-left A.pair.now l _;
-      regions_after = c.set_up-made.ensures.regions_after ∙ second _ _ _ l;
-    }
+    let w = c.in-Some.ensures.cases in
+    let l = many A.pair.now w.long in
+    let e = c.set_up.ensures.value in (
+      c.leave.ensures.value ∙ ap (λ o. status_number o.status) e ∙ second _ 34 _ l,
+      c.leave.ensures.words_after
+          ∙ (λ i. cond (executed (e i).status) (overwrite_words (w.same i) (pair_words (e i).pair)) (w.same i))
+          ∙ set-up-left A.pair.now l _,
+      c.set_up.ensures.regions_after ∙ second _ _ _ l,
+    )

@@ -1,17 +1,17 @@
-use mathlib.Core.Path.{ap, ◌∙◌}
-use mathlib.Core.List.{[], ◌∷◌}
-use Rattle.udalopek_spec.proofs.Steps.{second, first, many, few, few-stray, said}
-use Rattle.udalopek_spec.proofs.Done.{done, undone, drained-words, undrained-words}
+use Rattle.std.proofs.Common.{[], ◌∷◌, ap, ◌∙◌}
 use Rattle.pair.specs.Answer.{status_number}
 use Rattle.responder_spec.specs.Response.{next_response, next_out}
+use Rattle.abi_spec.specs.Pair.{pair_of}
+use Rattle.udalopek_spec.proofs.Steps.{second, first, many, few, few-stray}
+use Rattle.udalopek_spec.proofs.Done.{done, undone, drained-words, undrained-words}
 use Rattle.udalopek_spec.specs.Left.{read_put}
 use Rattle.udalopek_spec.specs.Packets.{next_number, next_words, next_output, next_report}
 use Rattle.udalopek.proofs.packets.udalopek_next_response.Goals as goal
 
-pub returns-then-pair-ne-PAIR : goal.returns-then-pair-ne-PAIR
+pub returns-in_default : goal.returns-in_default
 unfolding next_number next_words next_output next_report
-returns-then-pair-ne-PAIR c =
-    let f = few _ c.if-pair-ne-PAIR.true in
+returns-in_default c =
+    let f = few _ c.in_default.ensures.cases in
     record {
       value = first _ 34 _ f;
       pair_after = first _ _ _ (few-stray _ f);
@@ -19,37 +19,36 @@ returns-then-pair-ne-PAIR c =
       report_after = first _ _ _ f;
     }
 
-pub returns-then-number-ne0 : goal.returns-then-number-ne0
+pub returns-else-number-eq0 : goal.returns-else-number-eq0
 unfolding next_number next_output next_report next_response
-returns-then-number-ne0 c =
+returns-else-number-eq0 c =
     let A = c.args in
-    let l = many A.pair.now c.if-pair-ne-PAIR.false in
-    let q = said A.pair.now _ _ c.strays-stray.ensures c.pair_said-q.ensures in
+    let w = c.in-Some.ensures.cases in
+    let l = many A.pair.now w.long in
+    let q = c.said.ensures ∙ ap pair_of w.same in
     let e = c.next_response-got.ensures.value ∙ ap (λ x. next_response x A.mem.now A.out.now) q in
     let n = c.from-number.ensures ∙ ap (λ o. status_number o.status) e in
-    let out = c.next_response-got.ensures.out_after ∙ ap (λ x. next_out x A.mem.now A.out.now) q ∙ second _ _ _ l in
-    let report = ap (λ k. k ∷ []) (c.usize_to_u64.ensures ∙ ap (λ x. x.outgoing) e) ∙ second _ _ _ l in
     record {
       value = n ∙ second _ 34 _ l;
-      pair_after = undrained-words A.pair.now l _ _ (undone _ _ n c.if-number-ne0.true);
-      out_after = out;
-      report_after = report;
+      pair_after = w.same ∙ undrained-words A.pair.now l _ _ (undone _ _ n c.if-number-eq0.false);
+      out_after = c.next_response-got.ensures.out_after ∙ ap (λ x. next_out x A.mem.now A.out.now) q ∙ second _ _ _ l;
+      report_after = ap (λ k. k ∷ []) (c.usize_to_u64.ensures ∙ ap (λ x. x.outgoing) e) ∙ second _ _ _ l;
     }
 
-pub returns : goal.returns
+pub returns-then-number-eq0 : goal.returns-then-number-eq0
 unfolding next_number next_output next_report next_response
-returns c =
+returns-then-number-eq0 c =
     let A = c.args in
-    let l = many A.pair.now c.if-pair-ne-PAIR.false in
-    let q = said A.pair.now _ _ c.strays-stray.ensures c.pair_said-q.ensures in
+    let w = c.in-Some.ensures.cases in
+    let l = many A.pair.now w.long in
+    let q = c.said.ensures ∙ ap pair_of w.same in
     let e = c.next_response-got.ensures.value ∙ ap (λ x. next_response x A.mem.now A.out.now) q in
     let n = c.from-number.ensures ∙ ap (λ o. status_number o.status) e in
-    let out = c.next_response-got.ensures.out_after ∙ ap (λ x. next_out x A.mem.now A.out.now) q ∙ second _ _ _ l in
-    let report = ap (λ k. k ∷ []) (c.usize_to_u64.ensures ∙ ap (λ x. x.outgoing) e) ∙ second _ _ _ l in
-    let w = c.put_read.ensures ∙ ap (λ o. read_put A.pair.now o.pair.read) e in
     record {
       value = n ∙ second _ 34 _ l;
-      pair_after = drained-words A.pair.now l A.mem.now A.out.now (done _ _ n c.if-number-ne0.false) _ w;
-      out_after = out;
-      report_after = report;
+      pair_after =
+          drained-words A.pair.now l A.mem.now A.out.now (done _ _ n c.if-number-eq0.true) _
+          (c.put_read.ensures ∙ (λ i. read_put (w.same i) (e i).pair.read));
+      out_after = c.next_response-got.ensures.out_after ∙ ap (λ x. next_out x A.mem.now A.out.now) q ∙ second _ _ _ l;
+      report_after = ap (λ k. k ∷ []) (c.usize_to_u64.ensures ∙ ap (λ x. x.outgoing) e) ∙ second _ _ _ l;
     }
