@@ -3,7 +3,7 @@ ghost use Rattle.std.specs.Prelude.{◌≡◌, true, take};
 
 use crate::print::{decimal_line, size};
 use crate::{fields, words};
-use header::{Answer, Extension, Header, HeaderRead};
+use header::{Answer, Extension, Header, Reason};
 use std::io::{self, Write};
 
 fn list_extension<W: Write>(out: &mut W, e: &Extension) -> io::Result<()> {
@@ -87,8 +87,9 @@ fn list_header<W: Write>(out: &mut W, h: Header, p: &[u8]) -> io::Result<()> {
     write_back(out, h, headers, p)
 }
 
-fn list_drop<W: Write>(out: &mut W, check: u8) -> io::Result<()> {
-    let words = words::check_words(check);
+fn list_drop<W: Write>(out: &mut W, reason: Reason) -> io::Result<()> {
+    let check = u8::from(reason);
+    let words = words::check_words(reason);
     writeln!(out, "  dropped       check {check}: {words}")
 }
 
@@ -98,7 +99,7 @@ pub(crate) fn list<W: Write>(out: &mut W, number: u64, p: &[u8]) -> io::Result<(
     size(out, p.len())?;
     writeln!(out)?;
     match decode::read(p) {
-        HeaderRead::Accepted(h) => list_header(out, h, p),
-        HeaderRead::Dropped(check) => list_drop(out, check),
+        Ok(h) => list_header(out, h, p),
+        Err(reason) => list_drop(out, reason),
     }
 }

@@ -19,5 +19,5 @@ pub returns : goal.returns
 returns c =
     let A = c.args in
     admitted-packet (arriving A.pair A.regions.now A.entries.now A.saved.now A.mem.now A.packet.now A.out.now) c.refusal-refused.result c.refusal-refused.ensures
-    c.number.result c.number.ensures c.if-number-ne0.false c.admit-found.result c.admit-found.ensures.value _ c.in-Admitted.is
+    c.number.result c.number.ensures c.if-number-ne0.false c.admit-found.result c.admit-found.ensures.value _ c.in-Ok.is
     c.decision.result c.decision.ensures
