@@ -18,7 +18,7 @@ use Rattle.sequence.specs.declared.Class.{Class}
 use Rattle.sequence.specs.declared.Class.TheVariants as class
 use Rattle.opcode.specs.Opcode.{service_of, low_of, kind_of, low_class, reserved_class, uc_has, class_of}
 use Rattle.header.specs.declared.Header.{Header}
-use Rattle.header.specs.declared.HeaderRead.TheVariants as read
+use Rattle.std.specs.Prelude.{Ok, Err}
 use Rattle.pmtu.specs.Pieces.{pieces}
 use Rattle.table.specs.Table.{no_region, memory_offset}
 use Rattle.table.specs.View.{region_of, newest_saved}
@@ -64,7 +64,7 @@ pub header-dropped : HeaderDropped
 unfolding inbound left_by decision no_reply status_number
 header-dropped a W reason e = rw (goes a W, e)
 
-pub looked : (a : Arrival) → Willing a → (h : Header) → header_by a ≡ read.Accepted h
+pub looked : (a : Arrival) → Willing a → (h : Header) → header_by a ≡ Ok h
     → (inbound a).number
     ≡ status_number (packet_decision a.whole (packet_of h (length a.packet))).status
 unfolding inbound left_by decision

@@ -8,9 +8,10 @@ use lib.Dec.{eqb}
 use borrow.Author.Tests.{eqb-true, eqb-false}
 use Rattle.responder_spec.specs.Arrival.{Arrival}
 use Rattle.header.specs.Read.{bth_of, header_of}
-use Rattle.header.specs.Check.{header_reason, admitted}
-use Rattle.header.specs.declared.HeaderRead.{HeaderRead}
-use Rattle.header.specs.declared.HeaderRead.TheVariants as read
+use Rattle.header.specs.Check.{header_checks, admitted}
+use Rattle.header.specs.declared.Reason.{Reason}
+use Rattle.header.specs.declared.Header.{Header}
+use Rattle.std.specs.Prelude.{Result, Ok, Err}
 use Rattle.header.proofs.Reasons.{accepted-by}
 use Rattle.pair.specs.declared.OpenMessage.{OpenMessage}
 use Rattle.request_spec.specs.Packet.{packet_of}
@@ -29,7 +30,7 @@ use Rattle.answer_laws.proofs.Unreliable.{uc-kinds, uc-passed}
 others : (check : ℕ) → (check ≡ 0 → ⊥) → (check ≡ 8 → ⊥) → check ≤ 8 → Fails check
 others check a b h = (omega arith, omega arith)
 
-module _ (arrival : Arrival) (t : OpenMessage) (n : ℕ) (f : header_by arrival ≡ read.Accepted (header_of arrival.packet))
+module _ (arrival : Arrival) (t : OpenMessage) (n : ℕ) (f : header_by arrival ≡ Ok (header_of arrival.packet))
     (K : Carries (packet_in arrival.packet).kind) (X : UcComes arrival.whole (packet_in arrival.packet) t n) where
   abbrev R : ℕ → Type 0
   R = UcCause arrival t
@@ -92,11 +93,11 @@ pub uc-reason : UcReason
 unfolding admitted packet_of header_of
 uc-reason a W s t C = go (header_by a) refl
   where
-    go : (r : HeaderRead) → header_by a ≡ r → UcCause a t (inbound a).number
-    go (read.Dropped reason) e =
-        subst (UcCause a t) (sym (header-dropped a W reason e)) (unread reason e)
-    go (read.Accepted h) e =
-        let i = (accepted-by (header_reason a.whole.pair.setup.service a.whole.pair.setup.ours a.whole.pair.setup.pkey (eqb a.whole.pair.state 1) a.packet) a.packet h e).1 in
-        let f : header_by a ≡ read.Accepted (header_of a.packet) = subst (λ x. header_by a ≡ read.Accepted x) (sym i) e in
+    go : (r : Result Header Reason) → header_by a ≡ r → UcCause a t (inbound a).number
+    go (Err why) e =
+        subst (UcCause a t) (sym (header-dropped a W why e)) (unread why e)
+    go (Ok h) e =
+        let i = (accepted-by (header_checks a.whole.pair.setup.service a.whole.pair.setup.ours a.whole.pair.setup.pkey (eqb a.whole.pair.state 1) a.packet) a.packet h e).1 in
+        let f : header_by a ≡ Ok (header_of a.packet) = subst (λ x. header_by a ≡ Ok x) (sym i) e in
         cause-by a t (inbound a).number f (uc-kinds a (header_of a.packet) s f)
         (uc-passed a W s (header_of a.packet) f t C) (any_place (bth_of a.packet).opcode)

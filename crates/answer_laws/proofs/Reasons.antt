@@ -12,9 +12,10 @@ use Rattle.sequence.specs.Sequence.{psn_class}
 use Rattle.sequence.specs.declared.Class.{Class}
 use Rattle.sequence.specs.declared.Class.TheVariants as class
 use Rattle.header.specs.Read.{header_of}
-use Rattle.header.specs.Check.{admitted, header_reason}
-use Rattle.header.specs.declared.HeaderRead.{HeaderRead}
-use Rattle.header.specs.declared.HeaderRead.TheVariants as read
+use Rattle.header.specs.Check.{admitted, header_checks}
+use Rattle.header.specs.declared.Reason as header
+use Rattle.header.specs.declared.Header.{Header}
+use Rattle.std.specs.Prelude.{Result, Ok, Err}
 use Rattle.header.proofs.Reasons.{accepted-by}
 use Rattle.table.specs.View.{region_of, newest_saved}
 use Rattle.pair.specs.declared.OpenMessage.{OpenMessage}
@@ -137,7 +138,7 @@ module _ (arrival : Arrival) (t : OpenMessage) where
           none (inr (inl x)) = s (inr (inl x.0))
           none (inr (inr x)) = s (inr (inr x.0))
 
-  passed-reason : (n : ℕ) → header_by arrival ≡ read.Accepted (header_of arrival.packet) → Classed arrival.whole k t n → R n
+  passed-reason : (n : ℕ) → header_by arrival ≡ Ok (header_of arrival.packet) → Classed arrival.whole k t n → R n
   passed-reason n h C = go (psn_class k.psn.0 arrival.whole.pair.expected.0) refl
     where
       go : (c : Class) → psn_class k.psn.0 arrival.whole.pair.expected.0 ≡ c → R n
@@ -149,11 +150,11 @@ pub inbound-reason : InboundReason
 unfolding admitted
 inbound-reason a W rc t C = go (header_by a) refl
   where
-    go : (r : HeaderRead) → header_by a ≡ r → Reason a t (inbound a).number
-    go (read.Dropped reason) e =
-        subst (Reason a t) (sym (header-dropped a W reason e)) (unread reason e)
-    go (read.Accepted h) e =
-        let i = (accepted-by (header_reason a.whole.pair.setup.service a.whole.pair.setup.ours a.whole.pair.setup.pkey (eqb a.whole.pair.state 1) a.packet) a.packet h e).1 in
-        let f : header_by a ≡ read.Accepted (header_of a.packet) = subst (λ x. header_by a ≡ read.Accepted x) (sym i) e in
+    go : (r : Result Header header.Reason) → header_by a ≡ r → Reason a t (inbound a).number
+    go (Err why) e =
+        subst (Reason a t) (sym (header-dropped a W why e)) (unread why e)
+    go (Ok h) e =
+        let i = (accepted-by (header_checks a.whole.pair.setup.service a.whole.pair.setup.ours a.whole.pair.setup.pkey (eqb a.whole.pair.state 1) a.packet) a.packet h e).1 in
+        let f : header_by a ≡ Ok (header_of a.packet) = subst (λ x. header_by a ≡ Ok x) (sym i) e in
         passed-reason a t (inbound a).number f
         (header-passed a W rc (header_of a.packet) f t C)

@@ -13,8 +13,8 @@ use Rattle.lemmas.proofs.Tests.{or_right, not-false}
 use Rattle.sequence.specs.Sequence.{distance}
 use Rattle.opcode.specs.Opcode.{service_of, low_of, kind_of, low_class, uc_has, class_of}
 use Rattle.header.specs.Read.{bth_of, header_of, bad_length, other_service}
-use Rattle.header.specs.Check.{pkeys_match, wrong_service, is_response, beyond_service, header_reason, admitted}
-use Rattle.header.proofs.Reasons.{accepted-by}
+use Rattle.header.specs.Check.{pkeys_match, wrong_service, is_response, beyond_service, header_checks, header_reason, admitted}
+use Rattle.header.proofs.Reasons.{accepted-by, none-failed, held}
 use Rattle.opcode.specs.Place.{starts}
 use Rattle.table.specs.View.{region_of}
 use Rattle.pair.specs.Answer.{status_number}
@@ -39,23 +39,19 @@ use Rattle.decision_laws.proofs.Views.{closed-starts, closed-onward, orphan-drop
 use Rattle.decision_laws.proofs.Rows.{region_by}
 use Rattle.answer_laws.proofs.Answers.{looked, head_first, code_by_lem, carry}
 
--- Opcodes. A cascade that comes to 0 has failed no test
-pass : (b : Bool) (n x : ℕ) → (n ≡ 0 → ⊥) → cond b n x ≡ 0 → (b ≡ false) × (x ≡ 0)
-pass true n x z e = absurd (z e)
-pass false n x z e = (refl, e)
-
+-- Opcodes. What passes all header checks has passed those of the opcode
 service-low : (service ours pkey : ℕ) (ready : Bool) (p : List ℕ) → header_reason service ours pkey ready p ≡ 0
     → (wrong_service (service_of (bth_of p).opcode) service ≡ false) × (beyond_service service (low_of (bth_of p).opcode) ≡ false)
-unfolding header_reason
+unfolding header_reason header_checks
 service-low service ours pkey ready p e =
     let o = (bth_of p).opcode in
-    let a = pass (bad_length (length p)) 1 _ (λ z. omega arith) e in
-    let b = pass (not (eqb (bth_of p).tver 0)) 2 _ (λ z. omega arith) a.1 in
-    let c = pass (not (eqb (bth_of p).dest ours)) 3 _ (λ z. omega arith) b.1 in
-    let d = pass (not (pkeys_match (bth_of p).pkey pkey)) 4 _ (λ z. omega arith) c.1 in
-    let f = pass (wrong_service (service_of o) service) 5 _ (λ z. omega arith) d.1 in
-    let g = pass (is_response (low_of o)) 6 _ (λ z. omega arith) f.1 in
-    (f.0, (pass (beyond_service service (low_of o)) 7 _ (λ z. omega arith) g.1).0)
+    let a = held (bad_length (length p)) _ _ (none-failed _ e) in
+    let b = held (not (eqb (bth_of p).tver 0)) _ _ a.1 in
+    let c = held (not (eqb (bth_of p).dest ours)) _ _ b.1 in
+    let d = held (not (pkeys_match (bth_of p).pkey pkey)) _ _ c.1 in
+    let f = held (wrong_service (service_of o) service) _ _ d.1 in
+    let g = held (is_response (low_of o)) _ _ f.1 in
+    (f.0, (held (beyond_service service (low_of o)) _ _ g.1).0)
 
 low-carries : (low : ℕ) → uc_has low ≡ true → Carries (kind_of low)
 unfolding uc_has kind_of
@@ -73,9 +69,9 @@ class-carries opcode w b =
     rw (s, u) (low-carries (opcode % 32) u)
 
 pub uc-kinds : UcKinds
-unfolding admitted packet_of header_of
+unfolding admitted header_reason packet_of header_of
 uc-kinds a h s e =
-    let A = accepted-by (header_reason a.whole.pair.setup.service a.whole.pair.setup.ours a.whole.pair.setup.pkey (eqb a.whole.pair.state 1) a.packet) a.packet h e in
+    let A = accepted-by (header_checks a.whole.pair.setup.service a.whole.pair.setup.ours a.whole.pair.setup.pkey (eqb a.whole.pair.state 1) a.packet) a.packet h e in
     let L = service-low a.whole.pair.setup.service a.whole.pair.setup.ours a.whole.pair.setup.pkey (eqb a.whole.pair.state 1) a.packet A.0 in
     subst (λ x. Carries (class_of x.bth.opcode).kind) A.1
     (class-carries (bth_of a.packet).opcode (subst (λ n. wrong_service (service_of (bth_of a.packet).opcode) n ≡ false) s L.0)

@@ -1,6 +1,6 @@
 -- Which answer the inbound call gives, and where the bytes of a message went; the proofs stand in proofs/.
 -- The conditions are those of the claims of request_spec, in plain numbers.
-use Rattle.std.specs.Prelude.{ℕ, ◌+◌, ◌-◌, ◌≤◌, ◌<◌, ◌≡◌, Bool, true, false, List, [], ◌⊎◌, eqb, length, get_or, Some, None}
+use Rattle.std.specs.Prelude.{ℕ, ◌+◌, ◌-◌, ◌≤◌, ◌<◌, ◌≡◌, Bool, true, false, List, [], ◌⊎◌, eqb, length, get_or, Some, None, Result, Ok, Err}
 use Rattle.pair.specs.Calls.{Whole}
 use Rattle.responder_spec.specs.Arrival.{Arrival, Left}
 use Rattle.sequence.specs.Sequence.{distance, psn_class}
@@ -9,8 +9,7 @@ use Rattle.sequence.specs.declared.Class.TheVariants as class
 use Rattle.header.specs.Read.{header_of}
 use Rattle.header.specs.Check.{admitted}
 use Rattle.header.specs.declared.Header.{Header}
-use Rattle.header.specs.declared.HeaderRead.{HeaderRead}
-use Rattle.header.specs.declared.HeaderRead.TheVariants as read
+use Rattle.header.specs.declared.Reason as header
 use Rattle.memory.specs.Memory.{store}
 use Rattle.memory.specs.Word.{word_at, fetch_added, swapped}
 use Rattle.memory.specs.Claims.{OnlyBytes}
@@ -36,14 +35,14 @@ pub record Willing (a : Arrival) : Type 0 where
   pub idle : a.whole.pair.read.remaining ≡ 0
 
 -- What the header checks of this pair make of a packet. It is Ready in state 1.
-abbrev pub header_by : Arrival → HeaderRead
+abbrev pub header_by : Arrival → Result Header header.Reason
 header_by a = admitted a.whole.pair.setup.service a.whole.pair.setup.ours a.whole.pair.setup.pkey (eqb a.whole.pair.state 1) a.packet
 
 -- A header that does not pass: 5.
 abbrev pub HeaderDropped : Type 0
 HeaderDropped =
     (a : Arrival) → Willing a
-    → (reason : ℕ) → header_by a ≡ read.Dropped reason
+    → (why : header.Reason) → header_by a ≡ Err why
     → AnswersWith a 5
 
 -- The entry that a message takes: the first of the ring.
@@ -98,7 +97,7 @@ pub record Classed (w : Whole) (k : Packet) (t : OpenMessage) (number : ℕ) : T
 abbrev pub HeaderPassed : Type 0
 HeaderPassed =
     (a : Arrival) → Willing a → a.whole.pair.setup.service ≡ 0
-    → (h : Header) → header_by a ≡ read.Accepted h
+    → (h : Header) → header_by a ≡ Ok h
     → (t : OpenMessage) → IsCurrent a.whole.pair.message (packet_of h (length a.packet)) t
     → Classed a.whole (packet_of h (length a.packet)) t (inbound a).number
 
@@ -112,7 +111,7 @@ pub record DuplicateReplies (w : Whole) (k : Packet) (outgoing : ℕ) : Type 0 w
 abbrev pub DuplicateSent : Type 0
 DuplicateSent =
     (a : Arrival) → Willing a → a.whole.pair.setup.service ≡ 0
-    → (h : Header) → header_by a ≡ read.Accepted h
+    → (h : Header) → header_by a ≡ Ok h
     → psn_class (packet_of h (length a.packet)).psn.0 a.whole.pair.expected.0 ≡ class.Duplicate
     → DuplicateReplies a.whole (packet_of h (length a.packet)) (inbound a).outgoing
 
@@ -124,7 +123,7 @@ Recalled w k t =
     ⊎ (IsAtomic k.kind × ((v : ℕ) × (newest_saved k.psn.0 w.saved w.pair.saved ≡ Some v))))
 
 abbrev pub Comes : Arrival → Class → Type 0
-Comes a c = (header_by a ≡ read.Accepted (header_of a.packet)) × (psn_class (packet_in a.packet).psn.0 a.whole.pair.expected.0 ≡ c)
+Comes a c = (header_by a ≡ Ok (header_of a.packet)) × (psn_class (packet_in a.packet).psn.0 a.whole.pair.expected.0 ≡ c)
 
 -- a packet with the expected PSN, and the check that fails
 pub record Examined (a : Arrival) (t : OpenMessage) (check : ℕ) : Type 0 where
@@ -132,7 +131,7 @@ pub record Examined (a : Arrival) (t : OpenMessage) (check : ℕ) : Type 0 where
   pub judged : JudgedIn a.whole a.whole.pair.message (packet_in a.packet) t check
 
 pub data Reason (a : Arrival) (t : OpenMessage) : ℕ → Type 0 where
-  unread : (reason : ℕ) → header_by a ≡ read.Dropped reason → Reason a t 5
+  unread : (why : header.Reason) → header_by a ≡ Err why → Reason a t 5
   marked : Comes a class.Ahead → a.whole.pair.nakmark ≡ true → Reason a t 5
   ahead : Comes a class.Ahead → a.whole.pair.nakmark ≡ false → Reason a t 16
   again : Comes a class.Duplicate → Recalled a.whole (packet_in a.packet) t → Reason a t 4

@@ -1,12 +1,12 @@
 -- Which answer the inbound call gives on the unreliable connection, UC, which is service 1, and what it never does
 -- there; the proofs stand in proofs/. The conditions are in plain numbers, those of the checks as in the claims of
 -- request_spec.
-use Rattle.std.specs.Prelude.{ℕ, ◌%◌, ◌≤◌, ◌≡◌, false, List, [], ◌∷◌, ◌++◌, ◌⊎◌, length, get_or}
+use Rattle.std.specs.Prelude.{ℕ, ◌%◌, ◌≤◌, ◌≡◌, false, List, [], ◌∷◌, ◌++◌, ◌⊎◌, length, get_or, Ok, Err}
 use Rattle.pair.specs.Calls.{Whole}
 use Rattle.responder_spec.specs.Arrival.{Arrival, Left}
 use Rattle.header.specs.Read.{header_of}
 use Rattle.header.specs.declared.Header.{Header}
-use Rattle.header.specs.declared.HeaderRead.TheVariants as read
+use Rattle.header.specs.declared.Reason.{Reason}
 use Rattle.packet.specs.Packet.{payload_of}
 use Rattle.table.specs.View.{region_of}
 use Rattle.pair.specs.Answer.{status_number}
@@ -24,7 +24,7 @@ use Rattle.request_spec.specs.Packet.{packet_in}
 -- Only SENDs and WRITEs pass the header checks: UC has no other opcode.
 abbrev pub UcKinds : Type 0
 UcKinds =
-    (a : Arrival) (h : Header) → a.whole.pair.setup.service ≡ 1 → header_by a ≡ read.Accepted h
+    (a : Arrival) (h : Header) → a.whole.pair.setup.service ≡ 1 → header_by a ≡ Ok h
     → Carries (packet_of h (length a.packet)).kind
 
 -- A packet that does not go on with the open message: its PSN is not the expected one, or its kind is another.
@@ -61,22 +61,22 @@ pub record UcComes (w : Whole) (k : Packet) (t : OpenMessage) (number : ℕ) : T
 abbrev pub UcPassed : Type 0
 UcPassed =
     (a : Arrival) → Willing a → a.whole.pair.setup.service ≡ 1
-    → (h : Header) → header_by a ≡ read.Accepted h
+    → (h : Header) → header_by a ≡ Ok h
     → (t : OpenMessage) → IsCurrent a.whole.pair.message (packet_of h (length a.packet)) t
     → UcComes a.whole (packet_of h (length a.packet)) t (inbound a).number
 
 -- a packet that is checked, and the check that fails
 pub record UcExamined (a : Arrival) (t : OpenMessage) (check : ℕ) : Type 0 where
-  pub passes : header_by a ≡ read.Accepted (header_of a.packet)
+  pub passes : header_by a ≡ Ok (header_of a.packet)
   pub opened : OpenMessage
   pub meets : CheckedUnder a.whole.pair (packet_in a.packet) opened
   pub judged : JudgedIn a.whole opened (packet_in a.packet) t check
 
 -- The reasons, each by the number of its answer.
 pub data UcCause (a : Arrival) (t : OpenMessage) : ℕ → Type 0 where
-  unread : (reason : ℕ) → header_by a ≡ read.Dropped reason → UcCause a t 5
-  orphan : header_by a ≡ read.Accepted (header_of a.packet) → GoesOn (packet_in a.packet).place → a.whole.pair.message.kind ≡ 255 → UcCause a t 5
-  stray : header_by a ≡ read.Accepted (header_of a.packet) → GoesOn (packet_in a.packet).place
+  unread : (why : Reason) → header_by a ≡ Err why → UcCause a t 5
+  orphan : header_by a ≡ Ok (header_of a.packet) → GoesOn (packet_in a.packet).place → a.whole.pair.message.kind ≡ 255 → UcCause a t 5
+  stray : header_by a ≡ Ok (header_of a.packet) → GoesOn (packet_in a.packet).place
       → (a.whole.pair.message.kind ≡ 255 → ⊥)
       → Strays a.whole.pair (packet_in a.packet)
       → UcCause a t 6

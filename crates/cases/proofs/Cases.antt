@@ -6,7 +6,7 @@ use Rattle.opcode.specs.Opcode.{kind_of, place_in, send_write_follows, follows_o
 use Rattle.header.specs.Read as read
 use Rattle.header.specs.Read.{bth_of, extension_of, header_of, bad_length, other_service}
 use Rattle.header.specs.Write.{bth_bytes, aeth_bytes, extension_bytes, header_bytes, header_length, answer_by}
-use Rattle.header.specs.Check.{full_member, pkeys_match, wrong_service, is_response, beyond_service, header_reason, admitted}
+use Rattle.header.specs.Check.{full_member, pkeys_match, wrong_service, is_response, beyond_service, header_checks, admitted}
 use Rattle.memory.specs.Memory.{overwrite, store}
 use Rattle.memory.specs.Word.{low_bytes, low_number, word_at, store_word, fetch_added}
 use Rattle.packet.specs.Packet.{pad_of, packet_bytes}
@@ -83,7 +83,7 @@ w11 = refl
 w12 : found W12 ≡ said W12
 unfolding class_at psn_class opcode.place_of kind_of place_in send_write_follows follows_of length_of low_class class_of
     read.read_by bth_of extension_of header_of bad_length other_service bth_bytes aeth_bytes extension_bytes header_bytes
-    header_length full_member pkeys_match wrong_service is_response beyond_service header_reason admitted overwrite store pad_of
+    header_length full_member pkeys_match wrong_service is_response beyond_service header_checks admitted overwrite store pad_of
     packet_bytes pmtu_fits pieces place_at ends starts piece_at part_at outside past_top region_outside region_row entry_row
     sought first_from entry_slot region_of status_number executed fresh_pair setup_unfit setup_unsound counters_unsound ring_unsound
     message_unsound read_unsound pair_unsound set_up_status set_up set_up_regions ready_status made_ready add_status add_regions

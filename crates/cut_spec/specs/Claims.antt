@@ -1,5 +1,5 @@
 -- What is proved of cut messages, each statement by a name; the proofs stand in proofs/.
-use Rattle.std.specs.Prelude.{ℕ, suc, ◌+◌, ◌*◌, ◌^◌, ◌≤◌, ◌<◌, ◌≡◌, true, false, List, [], ◌++◌, ◌⊎◌, length, take, drop}
+use Rattle.std.specs.Prelude.{ℕ, suc, ◌+◌, ◌*◌, ◌^◌, ◌≤◌, ◌<◌, ◌≡◌, true, false, List, [], ◌++◌, ◌⊎◌, length, take, drop, Ok}
 use Rattle.sequence.specs.declared.Psn.{Psn}
 use Rattle.opcode.specs.Opcode.{class_of, service_of}
 use Rattle.header.specs.Check.{pkeys_match, admitted}
@@ -8,7 +8,6 @@ use Rattle.header.specs.Claims.{RethWidths, Widths}
 use Rattle.header.specs.declared.Reth.{Reth}
 use Rattle.header.specs.declared.AtomicEth.{AtomicEth}
 use Rattle.header.specs.declared.Extension.TheVariants.{Bare, Remote, RemoteImmediate, Immediate, Atomic}
-use Rattle.header.specs.declared.HeaderRead.TheVariants.{Accepted}
 use Rattle.header.specs.declared.Answer.TheVariants.{Done, Refused}
 use Rattle.packet.specs.Packet.{pad_of, payload_of}
 use Rattle.packet.specs.Claims.{Found}
@@ -127,7 +126,7 @@ CutAdmitted =
     (c : Connection) (r : Request) (d : List ℕ) (first : Psn) (i pkey : ℕ) → Cuttable c r (length d) first.0
     → i < packets_of r (length d) c.pmtu
     → pkeys_match c.pkey pkey ≡ true
-    → admitted c.service c.dest pkey true (cut_bytes c r d first i) ≡ Accepted (header_at c r (length d) first i)
+    → admitted c.service c.dest pkey true (cut_bytes c r d first i) ≡ Ok (header_at c r (length d) first i)
 
 -- Packet i carries PMTU bytes, or as many as are left, from byte i x PMTU on; its PadCnt is their pad.
 abbrev pub CutPayload : Type 0

@@ -16,9 +16,10 @@ use Rattle.sequence.specs.declared.Class.TheVariants as class
 use Rattle.opcode.specs.Opcode.{follows_of, low_class, class_of}
 use Rattle.opcode.specs.Opcode as Opcode
 use Rattle.header.specs.Read.{bth_of, extension_of, header_of}
-use Rattle.header.specs.Check.{admitted, header_reason}
-use Rattle.header.specs.declared.HeaderRead.{HeaderRead}
-use Rattle.header.specs.declared.HeaderRead.TheVariants as read
+use Rattle.header.specs.Check.{admitted, header_checks}
+use Rattle.header.specs.declared.Reason.{Reason}
+use Rattle.header.specs.declared.Header.{Header}
+use Rattle.std.specs.Prelude.{Result, Ok, Err}
 use Rattle.header.proofs.Reasons.{accepted-by}
 use Rattle.opcode.specs.Place.{starts}
 use Rattle.pmtu.specs.Pieces.{pieces}
@@ -357,21 +358,21 @@ formed p = record { one = first; eight = eights }
     eights (inr e) = subst (λ c. (operands_of (extension_of c.follows p)).length ≡ 8) (sym (class-is o 20 adds e)) (atomic-eight p).1
 
 admitted-row : (Q : Status → Type 0) → Q status.Dropped → (w : Whole) → Sound w.pair → (p : List ℕ)
-    → AnyOff Q w (packet_in p) → (r : HeaderRead)
+    → AnyOff Q w (packet_in p) → (r : Result Header Reason)
     → admitted w.pair.setup.service w.pair.setup.ours w.pair.setup.pkey (eqb w.pair.state 1) p ≡ r
     → AnyRow Q w (packet_in p) (or_drop r (λ h. packet_decision w (packet_of h (length p))))
 unfolding admitted
-admitted-row Q shut w S p off (read.Accepted h) e =
-    let reason = header_reason w.pair.setup.service w.pair.setup.ours w.pair.setup.pkey (eqb w.pair.state 1) p in
-    subst (λ x. AnyRow Q w (packet_in p) (packet_decision w (packet_of x (length p)))) (accepted-by reason p h e).1
+admitted-row Q shut w S p off (Ok h) e =
+    let found = header_checks w.pair.setup.service w.pair.setup.ours w.pair.setup.pkey (eqb w.pair.state 1) p in
+    subst (λ x. AnyRow Q w (packet_in p) (packet_decision w (packet_of x (length p)))) (accepted-by found p h e).1
     (packet-row Q shut w S (packet_in p) off (formed p))
-admitted-row Q shut w S p off (read.Dropped reason) e = quiet_row Q w (packet_in p) status.Dropped shut
+admitted-row Q shut w S p off (Err why) e = quiet_row Q w (packet_in p) status.Dropped shut
 
 pub decided-row : (a : Arrival) → AnyRow Quiet a.whole (packet_in a.packet) (decision a)
 unfolding decision
 decided-row a = go (executed (refusal_of a)) refl
   where
-    D : HeaderRead → Decision
+    D : Result Header Reason → Decision
     D r = or_drop r (λ h. packet_decision a.whole (packet_of h (length a.packet)))
 
     go : (b : Bool) → executed (refusal_of a) ≡ b

@@ -15,9 +15,10 @@ use Rattle.sequence.specs.declared.Class.{Class}
 use Rattle.sequence.specs.declared.Class.TheVariants as class
 use Rattle.header.specs.Read.{header_of}
 use Rattle.header.specs.Write.{header_length}
-use Rattle.header.specs.Check.{admitted, header_reason}
-use Rattle.header.specs.declared.HeaderRead.{HeaderRead}
-use Rattle.header.specs.declared.HeaderRead.TheVariants as read
+use Rattle.header.specs.Check.{admitted, header_checks}
+use Rattle.header.specs.declared.Reason.{Reason}
+use Rattle.header.specs.declared.Header.{Header}
+use Rattle.std.specs.Prelude.{Result, Ok, Err}
 use Rattle.header.proofs.Reasons.{accepted-by}
 use Rattle.memory.specs.Memory.{store}
 use Rattle.memory.proofs.Overwrite.{length-store, store-before, store-after}
@@ -160,15 +161,15 @@ quiet-number a short = omega arith
 quiet-number a range = omega arith
 quiet-number a unfinished = omega arith
 
-pub header-way : (w : Whole) → Sound w.pair → (p : List ℕ) → (r : HeaderRead)
+pub header-way : (w : Whole) → Sound w.pair → (p : List ℕ) → (r : Result Header Reason)
     → admitted w.pair.setup.service w.pair.setup.ours w.pair.setup.pkey (eqb w.pair.state 1) p ≡ r
     → Way w (packet_in p) (or_drop r (λ h. packet_decision w (packet_of h (length p))))
 unfolding admitted status_number no_reply
-header-way w S p (read.Accepted h) e =
-    let reason = header_reason w.pair.setup.service w.pair.setup.ours w.pair.setup.pkey (eqb w.pair.state 1) p in
-    subst (λ x. Way w (packet_in p) (packet_decision w (packet_of x (length p)))) (accepted-by reason p h e).1
+header-way w S p (Ok h) e =
+    let found = header_checks w.pair.setup.service w.pair.setup.ours w.pair.setup.pkey (eqb w.pair.state 1) p in
+    subst (λ x. Way w (packet_in p) (packet_decision w (packet_of x (length p)))) (accepted-by found p h e).1
     (packet-way w S (packet_in p))
-header-way w S p (read.Dropped reason) e = away (no_reply status.Dropped) (inr (omega arith))
+header-way w S p (Err why) e = away (no_reply status.Dropped) (inr (omega arith))
 
 pub decided-way : (a : Arrival) → Way a.whole (packet_in a.packet) (decision a)
 unfolding decision no_reply

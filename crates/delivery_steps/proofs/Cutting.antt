@@ -12,7 +12,7 @@ use Rattle.header.specs.Check.{admitted}
 use Rattle.header.specs.Read.{bth_of, header_of, read_header}
 use Rattle.header.specs.Write.{header_length}
 use Rattle.header.specs.declared.Header.{Header}
-use Rattle.header.specs.declared.HeaderRead.TheVariants.{Accepted}
+use Rattle.std.specs.Prelude.{Ok}
 use Rattle.header.proofs.Reasons.{accepted}
 use Rattle.packet.specs.Packet.{pad_of, packet_length, payload_of}
 use Rattle.packet.proofs.Bytes.{length-packet}
@@ -75,15 +75,15 @@ module _ (s : Setup) (f : SetupFit s) (t : Slot) (h : Sent s t) where
   pub cuttable : Cuttable t.message.connection t.message.request (length t.message.bytes) t.first.0
   cuttable = record { fit = fit; limit = h.addressed.limit; pkey = omega (arith, h.addressed.pkey); widths = h.addressed.widths }
 
-  reads : read_header (packet_at t) ≡ Accepted (header_for t)
+  reads : read_header (packet_at t) ≡ Ok (header_for t)
   unfolding packet_at
   reads = (cut-reads t.message.connection t.message.request t.message.bytes t.first t.index cuttable h.inside).header
 
-  pub admits : admitted s.service s.ours s.pkey true (packet_at t) ≡ Accepted (header_for t)
+  pub admits : admitted s.service s.ours s.pkey true (packet_at t) ≡ Ok (header_for t)
   unfolding packet_at
   admits =
-      subst (λ x. admitted x s.ours s.pkey true (packet_at t) ≡ Accepted (header_for t)) h.addressed.service
-      (subst (λ x. admitted t.message.connection.service x s.pkey true (packet_at t) ≡ Accepted (header_for t)) h.addressed.dest
+      subst (λ x. admitted x s.ours s.pkey true (packet_at t) ≡ Ok (header_for t)) h.addressed.service
+      (subst (λ x. admitted t.message.connection.service x s.pkey true (packet_at t) ≡ Ok (header_for t)) h.addressed.dest
       (cut-admitted t.message.connection t.message.request t.message.bytes t.first t.index s.pkey cuttable h.inside h.addressed.match))
 
   psn-is : (header_for t).bth.psn ≡ psn_after t.first t.index

@@ -1,7 +1,7 @@
 // One packet: its header's fields and what writing the header gives back, or why it is dropped.
 use crate::fields;
 use crate::words::{self, Size};
-use header::{Answer, Extension, Header, HeaderRead};
+use header::{Answer, Extension, Header, Reason};
 use std::io::{self, Write};
 
 fn list_extension<W: Write>(out: &mut W, e: &Extension) -> io::Result<()> {
@@ -61,8 +61,9 @@ fn list_header<W: Write>(out: &mut W, h: Header, p: &[u8]) -> io::Result<()> {
     write_back(out, h, headers, p)
 }
 
-fn list_drop<W: Write>(out: &mut W, check: u8) -> io::Result<()> {
-    let words = words::check_words(check);
+fn list_drop<W: Write>(out: &mut W, reason: Reason) -> io::Result<()> {
+    let check = u8::from(reason);
+    let words = words::check_words(reason);
     writeln!(out, "  dropped       check {check}: {words}")
 }
 
@@ -70,7 +71,7 @@ fn list_drop<W: Write>(out: &mut W, check: u8) -> io::Result<()> {
 pub(crate) fn list<W: Write>(out: &mut W, number: u64, p: &[u8]) -> io::Result<()> {
     writeln!(out, "packet {number}, {}", Size(p.len()))?;
     match decode::read(p) {
-        HeaderRead::Accepted(h) => list_header(out, h, p),
-        HeaderRead::Dropped(check) => list_drop(out, check),
+        Ok(h) => list_header(out, h, p),
+        Err(reason) => list_drop(out, reason),
     }
 }

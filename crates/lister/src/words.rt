@@ -1,5 +1,5 @@
 // Numbers in words: an opcode's, that of the check that dropped a packet, and a number of bytes.
-use header::reason;
+use header::Reason;
 use opcode::OpcodeClass;
 use std::fmt;
 
@@ -61,13 +61,13 @@ impl fmt::Display for Opcode {
     }
 }
 
-// Why reading dropped a packet.
-pub(crate) fn check_words(n: u8) -> &'static str {
-    match n {
-        reason::LENGTH => "length, not 12 to 4,128 bytes or no multiple of 4",
-        reason::VERSION => "transport version, not 0",
-        reason::SERVICE => "service, neither RC nor UC",
-        reason::SHORT => "too short for its headers",
+// Why reading dropped a packet. It makes no other checks.
+pub(crate) fn check_words(reason: Reason) -> &'static str {
+    match reason {
+        Reason::Length => "length, not 12 to 4,128 bytes or no multiple of 4",
+        Reason::Version => "transport version, not 0",
+        Reason::Service => "service, neither RC nor UC",
+        Reason::Short => "too short for its headers",
         _ => "other",
     }
 }

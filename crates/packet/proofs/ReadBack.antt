@@ -10,7 +10,7 @@ use Rattle.lemmas.proofs.Tests.{not-false}
 use Rattle.header.specs.Read.{header_of, read_header}
 use Rattle.header.specs.Write.{header_bytes, header_fits, header_length}
 use Rattle.header.specs.declared.Header.{Header}
-use Rattle.header.specs.declared.HeaderRead.TheVariants.{Accepted}
+use Rattle.std.specs.Prelude.{Ok}
 use Rattle.header.proofs.Lengths.{length-header}
 use Rattle.header.proofs.ReadBack.{read-packet}
 use Rattle.header.proofs.Reasons.{accepted}
@@ -60,7 +60,7 @@ found h d good pad short =
     let z = replicate {A = ℕ} (pad_of (length d)) 0 in
     let lz : length (d ++ z) ≡ length d + pad_of (length d) = length-append d z ∙ ap (λ n. length d + n) (length-replicate (pad_of (length d)) 0) in
     let words : length (d ++ z) % 4 ≡ 0 = ap (λ n. n % 4) lz ∙ pad-fills (length d) in
-    let read : read_header (header_bytes h ++ (d ++ z)) ≡ Accepted h = read-packet h (d ++ z) good words (omega arith) in
+    let read : read_header (header_bytes h ++ (d ++ z)) ≡ Ok h = read-packet h (d ++ z) good words (omega arith) in
     record {
       header = read;
       payload = payload-back h d good pad (accepted (packet_bytes h d) h read).1;

@@ -1,9 +1,8 @@
 -- What is proved of packets, each statement by a name; the proofs stand in proofs/.
-use Rattle.std.specs.Prelude.{ℕ, ◌+◌, ◌%◌, ◌≤◌, ◌<◌, ◌≡◌, true, false, List, ◌++◌, ◌⊎◌, length, take, drop, replicate}
+use Rattle.std.specs.Prelude.{ℕ, ◌+◌, ◌%◌, ◌≤◌, ◌<◌, ◌≡◌, true, false, List, ◌++◌, ◌⊎◌, length, take, drop, replicate, Ok}
 use Rattle.header.specs.Read.{read_header}
 use Rattle.header.specs.Write.{header_fits, header_length, answer_number}
 use Rattle.header.specs.declared.Header.{Header}
-use Rattle.header.specs.declared.HeaderRead.TheVariants.{Accepted}
 use Rattle.header.specs.declared.Answer.TheVariants.{Done, Refused}
 use Rattle.packet.specs.Packet.{pad_of, payload_out, packet_bytes, packet_length, packet_answer, packet_written, packet_out, payload_of}
 
@@ -27,7 +26,7 @@ PayloadLeftOut = (out d : List ℕ) (at : ℕ) → length out < at + length d �
 -- What is written, in any output, reads as the header and the payload it was made of; behind them stands the pad, in
 -- zero bytes.
 pub record Found (h : Header) (d p : List ℕ) : Type 0 where
-  pub header : read_header p ≡ Accepted h
+  pub header : read_header p ≡ Ok h
   pub payload : payload_of p ≡ d
   pub bytes : take (length d) (drop (header_length h) p) ≡ d
   pub zeros : drop (header_length h + length d) p ≡ replicate h.bth.pad 0

@@ -22,7 +22,7 @@ use Rattle.header.specs.Claims.{BthWidths}
 use Rattle.header.specs.declared.Extension.{Extension}
 use Rattle.header.specs.declared.Extension.TheVariants.{AtomicAcknowledge}
 use Rattle.header.specs.declared.Header.{Header}
-use Rattle.header.specs.declared.HeaderRead.TheVariants.{Accepted}
+use Rattle.std.specs.Prelude.{Ok}
 use Rattle.header.proofs.Lengths.{length-header}
 use Rattle.header.proofs.ReadBack.{read-packet}
 use Rattle.header.proofs.Widths.{bth-fits, extension-fits}
@@ -60,7 +60,7 @@ use Rattle.responder_spec.specs.Reply.{sending, reply_header, ack_header, atomic
 
 -- a header alone, written into an output: it reads back, and the rest stays
 alone : (h : Header) (out : List ℕ) (n : ℕ) → header_fits h ≡ true → header_length h ≡ n → n ≤ 4128
-    → (read_header (take n (over (header_bytes h) out)) ≡ Accepted h) × (drop n (over (header_bytes h) out) ≡ drop n out)
+    → (read_header (take n (over (header_bytes h) out)) ≡ Ok h) × (drop n (over (header_bytes h) out) ≡ drop n out)
 unfolding over
 alone h out n good e most =
     let l : length (header_bytes h) ≡ n = length-header h good ∙ e in (
@@ -105,7 +105,7 @@ value-fits s r w b =
     (extension-fits (class_of 18).follows h.extension refl ((w.syndrome, w.msn), b))
 
 -- a header alone reads back
-lone : (h : Header) (n : ℕ) → header_fits h ≡ true → header_length h ≡ n → n ≤ 4128 → read_header (header_bytes h) ≡ Accepted h
+lone : (h : Header) (n : ℕ) → header_fits h ≡ true → header_length h ≡ n → n ≤ 4128 → read_header (header_bytes h) ≡ Ok h
 lone h n good e most = let l : length (header_bytes h) ≡ n = length-header h good ∙ e in
     ap read_header (sym (append-nil (header_bytes h))) ∙ read-packet h [] good refl (omega arith)
 
@@ -217,7 +217,7 @@ module _ (arrival : Arrival) (S : Sound arrival.whole.pair) (P : arrival.whole.p
         outgoing = ap length b ∙ length-header h f;
         packet =
             ap (λ z. read_header (take 24 (over z arrival.out))) b
-            ∙ (O.0 ∙ (λ i. Accepted (plain_header arrival.whole.pair.setup 18 0 d.reply.psn (AtomicAcknowledge (record { syndrome = y i; msn = (pair_by arrival.whole.pair d).msn }) (ev i)))));
+            ∙ (O.0 ∙ (λ i. Ok (plain_header arrival.whole.pair.setup 18 0 d.reply.psn (AtomicAcknowledge (record { syndrome = y i; msn = (pair_by arrival.whole.pair d).msn }) (ev i)))));
         behind = ap (λ z. drop 24 (over z arrival.out)) b ∙ O.1;
       }
 

@@ -1,5 +1,5 @@
 -- The packet of an answer, read back; and what stands behind it in the output.
-use Rattle.std.specs.Prelude.{ℕ, ◌+◌, ◌-◌, ◌^◌, ◌<◌, ◌≡◌, List, [], ◌⊎◌, take, drop, Some}
+use Rattle.std.specs.Prelude.{ℕ, ◌+◌, ◌-◌, ◌^◌, ◌<◌, ◌≡◌, List, [], ◌⊎◌, take, drop, Some, Ok}
 use Rattle.responder_spec.specs.Arrival.{Arrival, Left}
 use Rattle.responder_spec.specs.Inbound.{inbound}
 use Rattle.sequence.specs.Sequence.{psn_after}
@@ -7,7 +7,6 @@ use Rattle.sequence.specs.declared.Psn.{Psn}
 use Rattle.header.specs.Bytes.{Bytes}
 use Rattle.header.specs.Read.{bth_of, read_header}
 use Rattle.header.specs.declared.Extension.TheVariants.{Acknowledge, AtomicAcknowledge}
-use Rattle.header.specs.declared.HeaderRead.TheVariants.{Accepted}
 use Rattle.memory.specs.Word.{word_at}
 use Rattle.table.specs.Claims.{SavedSound}
 use Rattle.table.specs.View.{newest_saved, saved_rows}
@@ -22,10 +21,10 @@ use Rattle.response_laws.specs.Responses.{plain_header}
 -- rest; of a READ it is the first response of those that are left; any other kind has none.
 pub record Packets (s : Setup) (r : Reply) (bytes : List ℕ) : Type 0 where
   pub ack : r.kind ≡ 17
-      → read_header (reply_bytes s r bytes) ≡ Accepted (plain_header s 17 0 r.psn (Acknowledge (record { syndrome = r.syndrome; msn = r.msn })))
+      → read_header (reply_bytes s r bytes) ≡ Ok (plain_header s 17 0 r.psn (Acknowledge (record { syndrome = r.syndrome; msn = r.msn })))
   pub atomic : r.kind ≡ 18
       → read_header (reply_bytes s r bytes)
-      ≡ Accepted (plain_header s 18 0 r.psn (AtomicAcknowledge (record { syndrome = r.syndrome; msn = r.msn }) r.value))
+      ≡ Ok (plain_header s 18 0 r.psn (AtomicAcknowledge (record { syndrome = r.syndrome; msn = r.msn }) r.value))
   pub response : r.kind ≡ 13 → reply_bytes s r bytes ≡ response_bytes s r bytes (pieces r.length s.pmtu - r.remaining)
   pub none : (r.kind ≡ 13 → ⊥) → (r.kind ≡ 17 → ⊥) → (r.kind ≡ 18 → ⊥) → reply_bytes s r bytes ≡ []
 
@@ -39,14 +38,14 @@ ReplyPackets =
 pub record AckSent (a : Arrival) (l : Left) (psn : Psn) (syndrome : ℕ) : Type 0 where
   pub outgoing : l.outgoing ≡ 16
   pub packet : read_header (take 16 l.out)
-      ≡ Accepted (plain_header a.whole.pair.setup 17 0 psn (Acknowledge (record { syndrome = syndrome; msn = l.whole.pair.msn })))
+      ≡ Ok (plain_header a.whole.pair.setup 17 0 psn (Acknowledge (record { syndrome = syndrome; msn = l.whole.pair.msn })))
   pub behind : drop 16 l.out ≡ drop 16 a.out
 
 -- 24 bytes: an Atomic Acknowledge, opcode 18, of an ACK and a value.
 pub record ValueSent (a : Arrival) (l : Left) (psn : Psn) (value : ℕ) : Type 0 where
   pub outgoing : l.outgoing ≡ 24
   pub packet : read_header (take 24 l.out)
-      ≡ Accepted (plain_header a.whole.pair.setup 18 0 psn (AtomicAcknowledge (record { syndrome = 31; msn = l.whole.pair.msn }) value))
+      ≡ Ok (plain_header a.whole.pair.setup 18 0 psn (AtomicAcknowledge (record { syndrome = 31; msn = l.whole.pair.msn }) value))
   pub behind : drop 24 l.out ≡ drop 24 a.out
 
 -- By the answer's number: syndrome and PSN; an atomic answers the word that it found, and saves it; a duplicate one

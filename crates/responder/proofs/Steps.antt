@@ -9,8 +9,9 @@ use borrow.Author.Tests.{eqb-true, eq-eqb, ne_eqb, le-ltb}
 use Rattle.sequence.specs.declared.Psn.{Psn}
 use Rattle.opcode.specs.Opcode.{place_of, low_class, class_of}
 use Rattle.header.specs.declared.Header.{Header}
-use Rattle.header.specs.declared.HeaderRead.{HeaderRead}
-use Rattle.header.specs.declared.HeaderRead.TheVariants as read
+use Rattle.header.specs.declared.Reason.{Reason}
+use Rattle.std.specs.Prelude.{Result, Ok, Err, is_ok}
+use Rattle.std.specs.Result.{result_unwrap_or}
 use Rattle.memory.specs.Word.{word_at}
 use Rattle.table.specs.View.{saved_rows}
 use Rattle.table.specs.declared.Ring.{Ring}
@@ -23,8 +24,6 @@ use Rattle.opcode.specs.Place.{starts}
 use Rattle.request_spec.specs.Packet.{packet_of, admission}
 use Rattle.request_spec.specs.Verdict.{single, fragment}
 use Rattle.request_spec.specs.declared.Packet.{Packet}
-use Rattle.request_spec.specs.declared.Admission.{Admission}
-use Rattle.request_spec.specs.declared.Admission.TheVariants as found
 use Rattle.decision_laws.proofs.Codes.{Bare, class-is}
 use Rattle.decision_laws.proofs.Codes.Bare.{reads, swaps, adds}
 use Rattle.responder_spec.specs.declared.Change.{Change}
@@ -41,23 +40,13 @@ use Rattle.execute.specs.Fits.{unformed}
 use Rattle.responder.specs.Unchanged.{outcome_with}
 
 -- what the header checks found, as a decision goes on from it
-has_packet : Admission → Bool
-has_packet (found.Admitted k) = true
-has_packet (found.Dropped reason) = false
+drops : (x : Result Header Reason) (n : ℕ) (reason : Reason) → admission x n ≡ Err reason → (f : Header → Decision) → or_drop x f ≡ no_reply status.Dropped
+drops (Ok h) n reason e f = absurd (true≢false (ap is_ok e))
+drops (Err why) n reason e f = refl
 
-packet_in : Packet → Admission → Packet
-packet_in other (found.Admitted k) = k
-packet_in other (found.Dropped reason) = other
-
-drops : (x : HeaderRead) (n reason : ℕ) → admission x n ≡ found.Dropped reason → (f : Header → Decision) → or_drop x f ≡ no_reply status.Dropped
-unfolding has_packet
-drops (read.Accepted h) n reason e f = absurd (true≢false (ap has_packet e))
-drops (read.Dropped why) n reason e f = refl
-
-passes : (x : HeaderRead) (n : ℕ) (k : Packet) → admission x n ≡ found.Admitted k → (f : Packet → Decision) → or_drop x (λ h. f (packet_of h n)) ≡ f k
-unfolding has_packet packet_in
-passes (read.Accepted h) n k e f = ap f (ap (packet_in k) e)
-passes (read.Dropped why) n k e f = absurd (true≢false (sym (ap has_packet e)))
+passes : (x : Result Header Reason) (n : ℕ) (k : Packet) → admission x n ≡ Ok k → (f : Packet → Decision) → or_drop x (λ h. f (packet_of h n)) ≡ f k
+passes (Ok h) n k e f = ap f (ap (λ r. result_unwrap_or r k) e)
+passes (Err why) n k e f = absurd (true≢false (sym (ap is_ok e)))
 
 -- a header's packet is no fragment: READs and atomics are Only
 whole-packet : (h : Header) (n : ℕ) → fragment (packet_of h n) ≡ false
@@ -77,10 +66,9 @@ whole-packet h n =
     go false false true x y z = only 20 adds (eqb-true (class_of h.bth.opcode).kind 20 z)
     go false false false x y z = refl
 
-whole-found : (x : HeaderRead) (n : ℕ) (k : Packet) → admission x n ≡ found.Admitted k → fragment k ≡ false
-unfolding has_packet packet_in
-whole-found (read.Accepted h) n k e = subst (λ y. fragment y ≡ false) (ap (packet_in k) e) (whole-packet h n)
-whole-found (read.Dropped why) n k e = absurd (true≢false (sym (ap has_packet e)))
+whole-found : (x : Result Header Reason) (n : ℕ) (k : Packet) → admission x n ≡ Ok k → fragment k ≡ false
+whole-found (Ok h) n k e = subst (λ y. fragment y ≡ false) (ap (λ r. result_unwrap_or r k) e) (whole-packet h n)
+whole-found (Err why) n k e = absurd (true≢false (sym (ap is_ok e)))
 
 -- the decision, from what each function answered
 module _ (a : Arrival) (t : Status) (is : t ≡ refusal_of a) (n : ℕ) (number : n ≡ status_number t) where
@@ -102,7 +90,7 @@ module _ (a : Arrival) (t : Status) (is : t ≡ refusal_of a) (n : ℕ) (number 
     decision-passes = ap (λ b. cond b passing (no_reply (refusal_of a))) (tested true (eq-eqb n 0 none))
 
     -- a header that does not pass is left at once
-    pub left_at_once : (f : Admission) → f ≡ admission (checked_header a) (length a.packet) → (reason : ℕ) → f ≡ found.Dropped reason
+    pub left_at_once : (f : Result Packet Reason) → f ≡ admission (checked_header a) (length a.packet) → (reason : Reason) → f ≡ Err reason
         → (d : Decision) → d ≡ no_reply status.Dropped → d ≡ decision a
     left_at_once f e reason g d i =
         i
@@ -114,7 +102,7 @@ module _ (a : Arrival) (t : Status) (is : t ≡ refusal_of a) (n : ℕ) (number 
     timer-fits = (passed a.whole.pair (length a.memory) (length a.out) (tested true (eq-eqb n 0 none))).1.setup.0.timer
 
     -- the packet of a header that passes is no fragment, and the timer code of a pair that is not refused is one
-    pub admitted-packet : (f : Admission) → f ≡ admission (checked_header a) (length a.packet) → (k : Packet) → f ≡ found.Admitted k
+    pub admitted-packet : (f : Result Packet Reason) → f ≡ admission (checked_header a) (length a.packet) → (k : Packet) → f ≡ Ok k
         → (d : Decision) → d ≡ cond (unformed k a.whole.pair.setup.timer) (no_reply status.OutOfRange) (packet_decision a.whole k)
         → d ≡ decision a
     unfolding unformed

@@ -12,7 +12,6 @@ ghost use Rattle.responder_spec.specs.Decide.{decision};
 ghost use Rattle.responder.specs.Unchanged.{unchanged, outcome_with};
 
 use pair::{Pair, Status};
-use request_spec::Admission;
 use responder_spec::{Decision, Outcome};
 pub use response::next_response;
 use table::Tables;
@@ -58,7 +57,7 @@ pub fn decided(pair: Pair, tables: Tables, mem: &[u8], packet: &[u8], out: &[u8]
         pair.setup.pkey,
         pair.state == pair::READY,
     );
-    let Admission::Admitted(p) = found else {
+    let Ok(p) = found else {
         return reply::no_reply(Status::Dropped);
     };
     decide::decision(pair, tables, p)

@@ -1,5 +1,5 @@
 -- What a packet leads to: one decision, by the rules of the reliable connection and by those of the unreliable one.
-use Rattle.std.specs.Prelude.{ℕ, ◌+◌, ◌-◌, Bool, true, false, cond, not, ◌&&◌, ◌||◌, List, [], eqb, ltb, length, get_or, Option, Some, None}
+use Rattle.std.specs.Prelude.{ℕ, ◌+◌, ◌-◌, Bool, true, false, cond, not, ◌&&◌, ◌||◌, List, [], eqb, ltb, length, get_or, Option, Some, None, Result, Ok, Err}
 use Rattle.sequence.specs.Sequence.{space, distance, psn_after, psn_class}
 use Rattle.sequence.specs.declared.Psn.{Psn}
 use Rattle.sequence.specs.declared.Class.{Class}
@@ -8,8 +8,7 @@ use Rattle.opcode.specs.Kind as Kind
 use Rattle.opcode.specs.Service as Service
 use Rattle.header.specs.Check.{admitted}
 use Rattle.header.specs.declared.Header.{Header}
-use Rattle.header.specs.declared.HeaderRead.{HeaderRead}
-use Rattle.header.specs.declared.HeaderRead.TheVariants as read
+use Rattle.header.specs.declared.Reason.{Reason}
 use Rattle.opcode.specs.Place.{starts, ends}
 use Rattle.pmtu.specs.Pieces.{pieces}
 use Rattle.table.specs.Table.{entry_slot, no_region, memory_offset}
@@ -286,9 +285,9 @@ packet_decision w p =
     (rc_decision w p)
 
 -- A packet whose header does not pass the header checks is dropped at once
-abbrev pub or_drop : HeaderRead → (Header → Decision) → Decision
-or_drop (read.Accepted h) f = f h
-or_drop (read.Dropped reason) f = no_reply status.Dropped
+abbrev pub or_drop : Result Header Reason → (Header → Decision) → Decision
+or_drop (Ok h) f = f h
+or_drop (Err why) f = no_reply status.Dropped
 
 -- a READ is unfinished: one answer is being sent
 unfoldable pub reads_full : Pair → Bool
@@ -304,7 +303,7 @@ inbound_refusal q memory room =
     (cond (reads_full q) status.ReadUnfinished status.Executed)))
 
 -- what the header checks of the pair make of the packet
-abbrev pub checked_header : Arrival → HeaderRead
+abbrev pub checked_header : Arrival → Result Header Reason
 checked_header a =
     admitted a.whole.pair.setup.service a.whole.pair.setup.ours a.whole.pair.setup.pkey
     (eqb a.whole.pair.state State.ready) a.packet

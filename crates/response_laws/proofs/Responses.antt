@@ -13,7 +13,7 @@ use Rattle.opcode.specs.Opcode.{follows_of, length_of, low_class, class_of}
 use Rattle.header.specs.Write.{follows_by, header_fits, header_length}
 use Rattle.header.specs.Claims.{Widths}
 use Rattle.header.specs.declared.Header.{Header}
-use Rattle.header.specs.declared.HeaderRead.TheVariants.{Accepted}
+use Rattle.std.specs.Prelude.{Ok}
 use Rattle.header.proofs.Widths.{bth-fits, extension-fits}
 use Rattle.header.proofs.Writes.{both-fit}
 use Rattle.packet.specs.Packet.{pad_of, packet_length, payload_of}
@@ -143,8 +143,8 @@ module _ (q : Pair) (m : List ℕ) (A : Answering q m) (i : ℕ) where
         payload = payload-is;
         header =
             reads.header
-            ∙ (ap (λ x. Accepted (plain_header q.setup (response_opcode x) (pad_of (length payload)) (psn_after q.read.psn i) (response_extension x (read_reply q.read)))) e
-            ∙ ap (λ d. Accepted (plain_header q.setup (response_opcode place) (pad_of (length d)) (psn_after q.read.psn i) (response_extension place (read_reply q.read)))) (sym reads.payload));
+            ∙ (ap (λ x. Ok (plain_header q.setup (response_opcode x) (pad_of (length payload)) (psn_after q.read.psn i) (response_extension x (read_reply q.read)))) e
+            ∙ ap (λ d. Ok (plain_header q.setup (response_opcode place) (pad_of (length d)) (psn_after q.read.psn i) (response_extension place (read_reply q.read)))) (sym reads.payload));
         room = room_for;
       }
 

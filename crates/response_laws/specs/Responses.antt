@@ -1,12 +1,11 @@
 -- The responses of a READ, as packets: each reads back, and together they carry the bytes asked for.
-use Rattle.std.specs.Prelude.{ℕ, suc, ◌+◌, ◌*◌, ◌^◌, ◌≤◌, ◌<◌, ◌≡◌, false, List, ◌∷◌, ◌++◌, ◌⊎◌, length, take, drop}
+use Rattle.std.specs.Prelude.{ℕ, suc, ◌+◌, ◌*◌, ◌^◌, ◌≤◌, ◌<◌, ◌≡◌, false, List, ◌∷◌, ◌++◌, ◌⊎◌, length, take, drop, Ok}
 use Rattle.sequence.specs.Sequence.{psn_after}
 use Rattle.sequence.specs.declared.Psn.{Psn}
 use Rattle.header.specs.Read.{read_header}
 use Rattle.header.specs.declared.Extension.{Extension}
 use Rattle.header.specs.declared.Extension.TheVariants.{Bare, Acknowledge}
 use Rattle.header.specs.declared.Header.{Header}
-use Rattle.header.specs.declared.HeaderRead.TheVariants.{Accepted}
 use Rattle.packet.specs.Packet.{pad_of, payload_of}
 use Rattle.pmtu.specs.Pieces.{pieces, joined}
 use Rattle.pair.specs.Claims.{Sound}
@@ -55,7 +54,7 @@ acceptance a = Acknowledge (record { syndrome = 31; msn = a.msn })
 pub record ReadsAs (q : Pair) (bytes : List ℕ) (i opcode : ℕ) (extension : Extension) : Type 0 where
   pub payload : payload_of (response_bytes q.setup (read_reply q.read) bytes i) ≡ take q.setup.pmtu (drop (i * q.setup.pmtu) (asked q.read bytes))
   pub header : read_header (response_bytes q.setup (read_reply q.read) bytes i)
-      ≡ Accepted (plain_header q.setup opcode (pad_of (length (payload_of (response_bytes q.setup (read_reply q.read) bytes i)))) (psn_after q.read.psn i) extension)
+      ≡ Ok (plain_header q.setup opcode (pad_of (length (payload_of (response_bytes q.setup (read_reply q.read) bytes i)))) (psn_after q.read.psn i) extension)
   pub room : length (response_bytes q.setup (read_reply q.read) bytes i) ≤ 16 + q.setup.pmtu
 
 -- First, Middle, Last and Only are opcodes 13 to 16; a Middle has no AETH.

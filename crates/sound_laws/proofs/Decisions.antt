@@ -15,8 +15,9 @@ use Rattle.sequence.specs.declared.Class.{Class}
 use Rattle.sequence.specs.declared.Class.TheVariants as class
 use Rattle.opcode.specs.Opcode.{service_of, low_of, kind_of, place_of, low_class, reserved_class, uc_has, class_of}
 use Rattle.header.specs.Read.{bth_of, header_of, read_by}
-use Rattle.header.specs.Check.{header_reason, admitted}
-use Rattle.header.specs.declared.HeaderRead.TheVariants as read
+use Rattle.header.specs.Check.{header_checks, admitted}
+use Rattle.header.specs.declared.Reason.{Reason}
+use Rattle.std.specs.Prelude.{Result, Ok, Err}
 use Rattle.opcode.specs.Place.{starts}
 use Rattle.pmtu.specs.Pieces.{pieces}
 use Rattle.table.specs.View.{newest_saved}
@@ -211,10 +212,9 @@ module _ (w : Whole) (W : Steady w) where
   unfolding decision admitted read_by packet_of header_of status_number
   decided-leads memory p out n =
       branch w (executed (inbound_refusal w.pair (length memory) (length out))) _ _
-      (λ e. go (eqb (header_reason w.pair.setup.service w.pair.setup.ours w.pair.setup.pkey (eqb w.pair.state 1) p) 0) _)
+      (λ e. go (header_checks w.pair.setup.service w.pair.setup.ours w.pair.setup.pkey (eqb w.pair.state 1) p))
       (λ e. quiet-leads w W (inbound_refusal w.pair (length memory) (length out)) (refused (length memory) (length out) e))
     where
-      go : (b : Bool) (reason : ℕ)
-          → Leads w (or_drop (cond b (read.Accepted (header_of p)) (read.Dropped reason)) (λ h. packet_decision w (packet_of h (length p))))
-      go true reason = packet-leads (packet_of (header_of p) (length p)) n (read-starts (bth_of p).opcode)
-      go false reason = quiet-leads w W status.Dropped refl
+      go : (found : Result (Unit {0}) Reason) → Leads w (or_drop (read_by found p) (λ h. packet_decision w (packet_of h (length p))))
+      go (Ok x) = packet-leads (packet_of (header_of p) (length p)) n (read-starts (bth_of p).opcode)
+      go (Err why) = quiet-leads w W status.Dropped refl

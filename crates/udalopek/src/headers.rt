@@ -5,7 +5,7 @@ ghost use Rattle.header.specs.Write.{done_bytes};
 ghost use Rattle.abi_spec.specs.Fields.{bth_words, extension_words};
 ghost use Rattle.udalopek_spec.specs.Headers.{read_header_number, read_report, read_bth, read_extension, own_words, write_number, write_output, write_report};
 
-use header::{Answer, Header, HeaderRead};
+use header::{Answer, Header};
 
 // Reads a header.
 #[unsafe(no_mangle)]
@@ -22,11 +22,11 @@ pub extern "C" fn udalopek_read_header(
 {
     let found = decode::read(packet);
     match found {
-        HeaderRead::Dropped(check) => {
-            *report = [number::u8_to_u64(check)];
+        Err(reason) => {
+            *report = [u64::from(u8::from(reason))];
             header::QUIET_DROP
         }
-        HeaderRead::Accepted(h) => {
+        Ok(h) => {
             *report = [0; 1];
             report_header(h, bth, extension)
         }

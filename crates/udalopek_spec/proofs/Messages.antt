@@ -123,8 +123,9 @@ write-bad b e out n = sym (second _ _ 39 (go (eq_words b (bth_words (bth_from b)
 pub read_keeps : ReadKeeps
 unfolding read_header_number read_report read_bth read_extension read_number read_check reported_bth reported_extension
 read_keeps p b e n =
-    let a = (read-dropped-by p (read_reason p) refl).1 n in
-    (rw a, rw a, rw a, rw a)
+    let drop = (read-dropped-by p (read_reason p) refl).1 n in
+    let a = drop.2 in
+    (rw a, rw a (ap (λ k. k ∷ []) drop.1), rw a, rw a)
 
 pub write_keeps : WriteKeeps
 unfolding write_number write_output write_report written written_out

@@ -18,10 +18,11 @@ use Rattle.opcode.specs.Place.{starts, ends}
 use Rattle.opcode.specs.Service as Service
 use Rattle.header.specs.Bytes.{Bytes, be4}
 use Rattle.header.specs.Read.{bth_of, reth_of, atomic_of, extension_of, header_of, read_by}
-use Rattle.header.specs.Check.{header_reason, admitted}
+use Rattle.header.specs.Check.{header_checks, admitted}
 use Rattle.header.specs.declared.Header.{Header}
 use Rattle.header.specs.declared.Extension.{Extension}
-use Rattle.header.specs.declared.HeaderRead.TheVariants as read
+use Rattle.header.specs.declared.Reason.{Reason}
+use Rattle.std.specs.Prelude.{Result, Ok, Err}
 use Rattle.table.specs.View.{newest_saved}
 use Rattle.pair.specs.Answer.{status_number, executed}
 use Rattle.pair.specs.Calls.{Whole}
@@ -161,10 +162,11 @@ keyed follows p B =
     (keyed-either (eqb follows Follows.aeth) _ _ (record { key = zero-small })
     (keyed-either (eqb follows Follows.aeth_atomic_ack) _ _ (record { key = zero-small }) (record { key = zero-small }))))))
 
-or-drop : (b : Bool) (h : Header) (reason : ℕ) (f : Header → Decision) → Narrow (f h)
-    → Narrow (Decide.or_drop (cond b (read.Accepted h) (read.Dropped reason)) f)
-or-drop true h reason f n = n
-or-drop false h reason f n = quiet _
+or-drop : (found : Result (Unit {0}) Reason) (p : List ℕ) (f : Header → Decision) → Narrow (f (header_of p))
+    → Narrow (Decide.or_drop (read_by found p) f)
+unfolding read_by
+or-drop (Ok x) p f n = n
+or-drop (Err why) p f n = quiet _
 
 -- what reading finds in a packet: a PSN of 24 bits, an R_Key of 32
 pub record Fitting (p : List ℕ) : Type 0 where
@@ -181,7 +183,7 @@ unfolding Decide.decision admitted read_by packet_of header_of
 decided a F h e =
     let t = F.psn in
     let s : Small (bth_of a.packet).psn.0 = omega (arith, t) in
-    either (executed (Decide.refusal_of a)) _ _ (or-drop (eqb (header_reason _ _ _ _ a.packet) 0) _ _ _ (decides _ F.key s a.whole h e)) (quiet _)
+    either (executed (Decide.refusal_of a)) _ _ (or-drop (header_checks _ _ _ _ a.packet) a.packet _ (decides _ F.key s a.whole h e)) (quiet _)
 
 -- the pair that it leads to
 pub record Held (a : ReadAnswer) : Type 0 where

@@ -1,11 +1,10 @@
 -- What is proved of the exported calls; the proofs stand in proofs/.
-use Rattle.std.specs.Prelude.{ℕ, ◌+◌, ◌%◌, ◌≤◌, ◌<◌, ◌≡◌, true, false, List, [], ◌∷◌, ◌⊎◌, length, get_or, replicate}
+use Rattle.std.specs.Prelude.{ℕ, ◌+◌, ◌%◌, ◌≤◌, ◌<◌, ◌≡◌, true, false, List, [], ◌∷◌, ◌⊎◌, length, get_or, replicate, Ok}
 use Rattle.sequence.specs.declared.Psn.{Psn}
 use Rattle.header.specs.Bytes.{Bytes}
 use Rattle.header.specs.Read.{read_reason, read_header}
 use Rattle.header.specs.Write.{written, written_out, answer_number, done_bytes}
 use Rattle.header.specs.declared.Header.{Header}
-use Rattle.header.specs.declared.HeaderRead.TheVariants.{Accepted}
 use Rattle.header.specs.declared.Answer.TheVariants.{Done}
 use Rattle.table.specs.declared.Region.{Region}
 use Rattle.table.specs.declared.Entry.{Entry}
@@ -227,7 +226,7 @@ CutIs =
 -- A packet that reads is 0 with no check, and leaves the words of its header.
 abbrev pub ReadIs : Type 0
 ReadIs =
-    (p b e : List ℕ) (h : Header) → read_header p ≡ Accepted h
+    (p b e : List ℕ) (h : Header) → read_header p ≡ Ok h
     → (read_header_number p ≡ 0) × (read_report p ≡ 0 ∷ [])
     × (read_bth p b ≡ bth_words h.bth) × (read_extension p e ≡ extension_words h.extension)
 

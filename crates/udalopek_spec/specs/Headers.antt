@@ -1,8 +1,7 @@
 -- Headers read and written, as words.
-use Rattle.std.specs.Prelude.{ℕ, Bool, false, cond, List, [], ◌∷◌, length}
+use Rattle.std.specs.Prelude.{ℕ, Bool, false, cond, List, [], ◌∷◌, length, Result, Ok, Err}
 use Rattle.header.specs.declared.Header.{Header}
-use Rattle.header.specs.declared.HeaderRead.{HeaderRead}
-use Rattle.header.specs.declared.HeaderRead.TheVariants.{Accepted, Dropped}
+use Rattle.header.specs.declared.Reason.{Reason}
 use Rattle.header.specs.Refusal as Refusal
 use Rattle.header.specs.Read.{read_header, read_number, read_check}
 use Rattle.header.specs.Write.{written, written_out, answer_number, done_bytes}
@@ -10,13 +9,13 @@ use Rattle.abi_spec.specs.Words.{eq_words}
 use Rattle.abi_spec.specs.Fields.{bth_from, bth_words, extension_from, extension_words}
 
 -- the words of what was read, or those that were there
-unfoldable pub reported_bth : HeaderRead → List ℕ → List ℕ
-reported_bth (Accepted h) old = bth_words h.bth
-reported_bth (Dropped check) old = old
+unfoldable pub reported_bth : Result Header Reason → List ℕ → List ℕ
+reported_bth (Ok h) old = bth_words h.bth
+reported_bth (Err why) old = old
 
-unfoldable pub reported_extension : HeaderRead → List ℕ → List ℕ
-reported_extension (Accepted h) old = extension_words h.extension
-reported_extension (Dropped check) old = old
+unfoldable pub reported_extension : Result Header Reason → List ℕ → List ℕ
+reported_extension (Ok h) old = extension_words h.extension
+reported_extension (Err why) old = old
 
 -- the answer's number, and the check that failed beside it, or 0
 unfoldable pub read_header_number : List ℕ → ℕ

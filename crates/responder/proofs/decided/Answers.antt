@@ -19,5 +19,5 @@ pub returns : goal.returns
 returns c =
     let A = c.args in
     admitted-packet (arriving A.pair A.tables.regions.now A.tables.entries.now A.tables.saved.now A.mem.now A.packet.now A.out.now) c.refusal-refused.result c.refusal-refused.ensures
-    c.from.result c.from.ensures c.if-from-ne0.false c.admit-found.result c.admit-found.ensures.value _ c.in-Admitted.is
+    c.from.result c.from.ensures c.if-from-ne0.false c.admit-found.result c.admit-found.ensures.value _ c.in-Ok.is
     c.decision.result c.decision.ensures
