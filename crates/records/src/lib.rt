@@ -18,7 +18,8 @@ pub enum Record<'a> {
     End,
 }
 
-// Reads until buf is full or the input ends, and says how many bytes came.
+// Reads until buf is full or the input ends, and says how many bytes came. `read_exact` doesn't say that, and
+// `read_to_end` takes memory.
 fn fill<R: Read>(input: &mut R, buf: &mut [u8]) -> io::Result<usize>
     ensures count { IfOk result (λ n. n ≤ length buf.new) }
     ensures bytes { IfOk result (λ n. Consumes (R.remaining input.old) (R.remaining input.new) (take n buf.new)) }
@@ -54,12 +55,10 @@ pub fn next<'a, R: Read>(input: &mut R, buf: &'a mut [u8]) -> io::Result<Record<
         1 => return Ok(Record::Cut),
         _ => {}
     }
-    let length = length_of(two);
-    if buf.len() < length {
+    let Some(packet) = buf.get_mut(..length_of(two)) else {
         return Ok(Record::Cut);
-    }
-    let packet = &mut buf[..length];
-    if fill(input, packet)? < length {
+    };
+    if fill(input, packet)? < packet.len() {
         return Ok(Record::Cut);
     }
     Ok(Record::Packet(packet))
