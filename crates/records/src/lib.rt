@@ -9,7 +9,7 @@ ghost use Rattle.records.specs.Next.{ReadsNext};
 use std::io::{self, Read};
 
 // What comes next in a stream.
-#[derive(Clone, Copy)]
+#[derive(Debug, Clone, Copy, PartialEq, Eq)]
 pub enum Record<'a> {
     // The packet of a whole record.
     Packet(&'a [u8]),
@@ -62,4 +62,21 @@ pub fn next<'a, R: Read>(input: &mut R, buf: &'a mut [u8]) -> io::Result<Record<
         return Ok(Record::Cut);
     }
     Ok(Record::Packet(packet))
+}
+
+#[cfg(test)]
+mod tests {
+    use super::*;
+    use std::test::Fail;
+
+    #[test]
+    fn records_one_by_one(rt: HostRuntime) -> Result<(), Fail> {
+        let mut input: &[u8] = &[0, 2, 7, 8, 0, 0, 0, 3, 9];
+        let mut buf = [0; 4];
+        assert_eq!(rt; next(&mut input, &mut buf)?, Record::Packet(&[7, 8]));
+        assert_eq!(rt; next(&mut input, &mut buf)?, Record::Packet(&[]));
+        assert_eq!(rt; next(&mut input, &mut buf)?, Record::Cut);
+        assert_eq!(rt; next(&mut input, &mut buf)?, Record::End);
+        Ok(())
+    }
 }
