@@ -9,7 +9,7 @@ ghost use Rattle.records.specs.Next.{ReadsNext};
 use std::io::{self, Read};
 
 // What comes next in a stream.
-#[derive(Clone, Copy)]
+#[derive(Debug, Clone, Copy, PartialEq, Eq)]
 pub enum Record<'a> {
     // The packet of a whole record.
     Packet(&'a [u8]),
@@ -18,7 +18,8 @@ pub enum Record<'a> {
     End,
 }
 
-// Reads until buf is full or the input ends, and says how many bytes came.
+// Reads until buf is full or the input ends, and says how many bytes came. `read_exact` doesn't say that, and
+// `read_to_end` takes memory.
 fn fill<R: Read>(input: &mut R, buf: &mut [u8]) -> io::Result<usize>
     ensures count { IfOk result (λ n. n ≤ length buf.new) }
     ensures bytes { IfOk result (λ n. Consumes (R.remaining input.old) (R.remaining input.new) (take n buf.new)) }
@@ -54,13 +55,28 @@ pub fn next<'a, R: Read>(input: &mut R, buf: &'a mut [u8]) -> io::Result<Record<
         1 => return Ok(Record::Cut),
         _ => {}
     }
-    let length = length_of(two);
-    if buf.len() < length {
+    let Some(packet) = buf.get_mut(..length_of(two)) else {
         return Ok(Record::Cut);
-    }
-    let packet = &mut buf[..length];
-    if fill(input, packet)? < length {
+    };
+    if fill(input, packet)? < packet.len() {
         return Ok(Record::Cut);
     }
     Ok(Record::Packet(packet))
+}
+
+#[cfg(test)]
+mod tests {
+    use super::*;
+    use std::test::Fail;
+
+    #[test]
+    fn records_one_by_one(rt: HostRuntime) -> Result<(), Fail> {
+        let mut input: &[u8] = &[0, 2, 7, 8, 0, 0, 0, 3, 9];
+        let mut buf = [0; 4];
+        assert_eq!(rt; next(&mut input, &mut buf)?, Record::Packet(&[7, 8]));
+        assert_eq!(rt; next(&mut input, &mut buf)?, Record::Packet(&[]));
+        assert_eq!(rt; next(&mut input, &mut buf)?, Record::Cut);
+        assert_eq!(rt; next(&mut input, &mut buf)?, Record::End);
+        Ok(())
+    }
 }
