@@ -38,10 +38,8 @@ fn report_header(h: Header, bth: &mut [u64; 11], extension: &mut [u64; 10]) -> u
     ensures bth_after { bth.new ≡ bth_words h.bth }
     ensures extension_after { extension.new ≡ extension_words h.extension }
 {
-    let b = h.bth;
-    let e = h.extension;
-    *bth = abi::bth_words(b);
-    *extension = abi::extension_words(e);
+    *bth = abi::bth_words(h.bth);
+    *extension = abi::extension_words(h.extension);
     0
 }
 

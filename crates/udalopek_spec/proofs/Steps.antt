@@ -5,11 +5,10 @@ use mathlib.Core.Bool.{Bool, true, false, cond, not}
 use mathlib.Core.List.{List}
 use lib.Dec.{eqb}
 use lib.ListN.{length}
-use native.Mathlib.Omega.{arith}
 use borrow.Author.Tests.{eqb-true, eq-eqb, ne_eqb}
 use Rattle.lemmas.proofs.Tests.{not-false}
 use Rattle.pair.specs.declared.Pair.{Pair}
-use Rattle.abi_spec.specs.Pair.{other_length, strays, said_by, pair_of, pair_words}
+use Rattle.abi_spec.specs.Pair.{other_length, strays, pair_of, pair_words}
 use Rattle.abi_spec.proofs.Laws.{ranges-tested, words-said}
 
 -- a test that is false leads to the second, one that is true to the first
@@ -42,14 +41,6 @@ as_many w e = many w ((ranges-tested w).0 e).words
 -- words in range are those of the pair that they say
 pub own-words : (w : List ℕ) → strays w ≡ false → w ≡ pair_words (pair_of w)
 own-words w e = words-said w ((ranges-tested w).0 e)
-
--- the pair as the code reads it
-pub said : (w : List ℕ) (b : Bool) (q : Pair) → b ≡ strays w → q ≡ said_by b w → q ≡ pair_of w
-unfolding pair_of
-said w b q e f = f ∙ ap (λ t. said_by t w) e
-
-pub thirty-four : ◌≡◌ {A = ℕ} 34 0 → ⊥
-thirty-four e = omega arith
 
 -- words that are left, of a call whose pair is new only where the call is done: as they were, or those of its new pair
 pub left-as-they-were : (w : List ℕ) (q : Pair) → q ≡ pair_of w → w ≡ cond (strays w) w (pair_words q)

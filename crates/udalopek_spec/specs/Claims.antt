@@ -12,7 +12,7 @@ use Rattle.pair.specs.declared.Setup.{Setup}
 use Rattle.pair.specs.declared.Pair.{Pair}
 use Rattle.pair.specs.Answer.{status_number}
 use Rattle.pair.specs.Pair.{fresh_pair}
-use Rattle.pair.specs.Claims.{SetupSound, Sound, WholeSound}
+use Rattle.pair.specs.Claims.{SetupSound, WholeSound}
 use Rattle.pair.specs.Host.{no_regions, set_up, set_up_regions, reset_to, reset_regions, made_ready, add_status, add_regions, remove_status, remove_regions, posted, post_entries}
 use Rattle.responder_spec.specs.Inbound.{inbound}
 use Rattle.responder_spec.specs.Response.{next_response, next_out}

@@ -1,6 +1,6 @@
 -- The calls of a host on lent words: another number of words than a pair has is refused; else they are those of the pair
 -- that the words say, and words out of range, which say no sound pair, stay.
-use Rattle.std.specs.Prelude.{ℕ, Bool, cond, List}
+use Rattle.std.specs.Prelude.{ℕ, cond, List}
 use Rattle.header.specs.Refusal as Refusal
 use Rattle.table.specs.declared.Region.{Region}
 use Rattle.table.specs.declared.Entry.{Entry}
