@@ -37,12 +37,11 @@ pub fn no_completion() -> Completion
 pub fn sending(kind: u8, psn: Psn, syndrome: u8, value: u64) -> Reply
     ensures { result ≡ sending kind psn syndrome value }
 {
-    let msn = Msn(0);
     Reply {
         kind,
         psn,
         syndrome,
-        msn,
+        msn: Msn(0),
         value,
         offset: 0,
         length: 0,
@@ -54,13 +53,11 @@ pub fn sending(kind: u8, psn: Psn, syndrome: u8, value: u64) -> Reply
 pub fn read_reply(a: ReadAnswer) -> Reply
     ensures { result ≡ read_reply a }
 {
-    let psn = a.psn;
-    let msn = a.msn;
     Reply {
         kind: opcode::READ_RESPONSE,
-        psn,
+        psn: a.psn,
         syndrome: ACK,
-        msn,
+        msn: a.msn,
         value: 0,
         offset: a.offset,
         length: a.length,
@@ -72,15 +69,13 @@ pub fn read_reply(a: ReadAnswer) -> Reply
 pub fn read_begun(offset: usize, length: usize, remaining: usize, psn: Psn) -> Reply
     ensures { result ≡ read_begun offset length remaining psn }
 {
-    let msn = Msn(0);
-    let read = ReadAnswer {
+    read_reply(ReadAnswer {
         remaining,
         offset,
         length,
         psn,
-        msn,
-    };
-    read_reply(read)
+        msn: Msn(0),
+    })
 }
 
 // Memory stays.
@@ -101,48 +96,43 @@ pub fn no_change() -> Change
 pub fn reply_only(status: Status, reply: Reply) -> Decision
     ensures { result ≡ reply_only status reply }
 {
-    let change = no_change();
-    let message = pair::no_message();
-    let completion = no_completion();
-    let progress = Progress {
-        message,
-        psns: 0,
-        ends: false,
-        completion,
-    };
     Decision {
         status,
-        change,
-        progress,
+        change: no_change(),
+        progress: Progress {
+            message: pair::no_message(),
+            psns: 0,
+            ends: false,
+            completion: no_completion(),
+        },
         reply,
     }
 }
 
 // Nothing is sent.
+#[tactic(auto, unfolding(responder_spec::specs::Decide::no_reply))]
 pub fn no_reply(status: Status) -> Decision
     ensures { result ≡ no_reply status }
 {
-    let psn = Psn(0);
-    let reply = sending(responder_spec::NO_PACKET, psn, 0, 0);
-    reply_only(status, reply)
+    reply_only(status, sending(responder_spec::NO_PACKET, Psn(0), 0, 0))
 }
 
 // An ACK or a NAK is sent.
+#[tactic(auto, unfolding(responder_spec::specs::Decide::acknowledging))]
 pub fn acknowledging(status: Status, psn: Psn, syndrome: u8) -> Decision
     ensures { result ≡ acknowledging status psn syndrome }
 {
-    let reply = sending(opcode::ACKNOWLEDGE, psn, syndrome, 0);
-    reply_only(status, reply)
+    reply_only(status, sending(opcode::ACKNOWLEDGE, psn, syndrome, 0))
 }
 
 // Ahead: a sequence NAK the first time, nothing while the NAK mark stands.
+#[tactic(auto, unfolding(responder_spec::specs::Decide::ahead_decision))]
 pub fn ahead(nakmark: bool, expected: Psn) -> Decision
     ensures { result ≡ ahead_decision nakmark expected }
 {
     if nakmark {
-        let status = Status::Dropped;
-        return no_reply(status);
+        no_reply(Status::Dropped)
+    } else {
+        acknowledging(Status::SequenceNak, expected, SEQUENCE)
     }
-    let status = Status::SequenceNak;
-    acknowledging(status, expected, SEQUENCE)
 }

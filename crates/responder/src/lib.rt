@@ -20,11 +20,10 @@ pub use response::next_response;
 pub(crate) fn unchanged(status: Status, pair: Pair) -> Outcome
     ensures { result ≡ unchanged status pair }
 {
-    let completion = reply::no_completion();
     Outcome {
         status,
         pair,
-        completion,
+        completion: reply::no_completion(),
         outgoing: 0,
     }
 }
@@ -33,12 +32,10 @@ pub(crate) fn unchanged(status: Status, pair: Pair) -> Outcome
 fn outcome_with(pair: Pair, d: Decision, outgoing: usize) -> Outcome
     ensures { result ≡ outcome_with pair d outgoing }
 {
-    let status = d.status;
-    let completion = d.progress.completion;
     Outcome {
-        status,
+        status: d.status,
         pair,
-        completion,
+        completion: d.progress.completion,
         outgoing,
     }
 }
@@ -57,9 +54,8 @@ pub fn decided(
 ) -> Decision
     ensures { result ≡ decision (arriving pair regions.now entries.now saved.now mem.now packet.now out.now) }
 {
-    let refused = refuse::refusal(pair, mem.len(), out.len());
-    if refused.number() != 0 {
-        return reply::no_reply(refused);
+    if let Err(status) = refuse::refusal(pair, mem.len(), out.len()) {
+        return reply::no_reply(status);
     }
     let found = decode::admit(
         packet,

@@ -1,34 +1,59 @@
-// Refusals of the inbound call, before its packet is looked at.
-ghost use Rattle.std.specs.Prelude.{◌≡◌};
-ghost use Rattle.responder_spec.specs.Decide.{reads_full, inbound_refusal};
+// Refusals of both calls, before they do anything.
+ghost use Rattle.std.specs.Prelude.{◌≡◌, ◌||◌, cond, not, eqb};
+ghost use Rattle.pair.specs.Sound.{pair_unsound};
+ghost use Rattle.responder_spec.specs.Decide.{reads_full, inbound_refusal, unless_executed};
+ghost use Rattle.responder_spec.specs.Response.{next_status};
 
 use pair::{Pair, Status};
 
 // Whether a READ is still being answered.
+#[tactic(auto, unfolding(responder_spec::specs::Decide::reads_full))]
 fn reads_full(pair: Pair) -> bool
     ensures { result ≡ reads_full pair }
 {
     pair.read.remaining != 0
 }
 
-// Which refusal the call gets, or that it is none.
-pub(crate) fn refusal(pair: Pair, memory: usize, room: usize) -> Status
-    ensures { result ≡ inbound_refusal pair memory room }
+// Of memory and pair: memory has the length that was set up, and no number of the pair is out of its range.
+#[tactic(auto, using(host_calls::proofs::Halves::halves))]
+fn unfit(pair: Pair, memory: usize) -> Result<(), Status>
+    ensures { result ≡ cond (not (eqb memory pair.setup.memory) || pair_unsound pair) (Err Status.OutOfRange) (Ok tt) }
 {
-    if room < opcode::WITH_AETH_ATOMIC_ACK {
-        return Status::OutputShort;
-    }
     if memory != pair.setup.memory {
-        return Status::OutOfRange;
+        return Err(Status::OutOfRange);
     }
     let numbers = host_calls::sound::numbers_unsound(pair);
-    let bad = host_calls::sound::work_unsound(numbers, pair);
-    if bad {
-        return Status::OutOfRange;
+    if host_calls::sound::work_unsound(numbers, pair) {
+        return Err(Status::OutOfRange);
     }
-    let full = reads_full(pair);
-    if full {
-        return Status::ReadUnfinished;
+    Ok(())
+}
+
+// On Err the refusal of the inbound call.
+#[tactic(auto, unfolding(responder_spec::specs::Decide::inbound_refusal, responder_spec::specs::Decide::unless_executed, pair::specs::Answer::executed, pair::specs::Answer::status_number))]
+pub(crate) fn refusal(pair: Pair, memory: usize, room: usize) -> Result<(), Status>
+    ensures { result ≡ unless_executed (inbound_refusal pair memory room) }
+{
+    if room < opcode::WITH_AETH_ATOMIC_ACK {
+        return Err(Status::OutputShort);
     }
-    Status::Executed
+    unfit(pair, memory)?;
+    if reads_full(pair) {
+        return Err(Status::ReadUnfinished);
+    }
+    Ok(())
+}
+
+// On Err the refusal of the next response.
+#[tactic(auto, unfolding(responder_spec::specs::Response::next_status, responder_spec::specs::Decide::unless_executed, pair::specs::Answer::executed, pair::specs::Answer::status_number))]
+pub(crate) fn next_refusal(pair: Pair, memory: usize, room: usize) -> Result<(), Status>
+    ensures { result ≡ unless_executed (next_status pair memory room) }
+{
+    if pair.read.remaining == 0 {
+        return Err(Status::WrongState);
+    }
+    if acknowledge::no_room(room, pair.setup.pmtu) {
+        return Err(Status::OutputShort);
+    }
+    unfit(pair, memory)
 }

@@ -1,5 +1,5 @@
 -- What a packet leads to: one decision, by the rules of the reliable connection and by those of the unreliable one.
-use Rattle.std.specs.Prelude.{ℕ, ◌+◌, ◌-◌, Bool, true, false, cond, not, ◌&&◌, ◌||◌, List, [], eqb, ltb, length, get_or}
+use Rattle.std.specs.Prelude.{ℕ, ◌+◌, ◌-◌, Bool, true, false, cond, not, ◌&&◌, ◌||◌, List, [], eqb, ltb, length, get_or, Result, Ok, Err}
 use Rattle.sequence.specs.Sequence.{space, distance, psn_after, psn_class}
 use Rattle.sequence.specs.declared.Psn.{Psn}
 use Rattle.sequence.specs.declared.Class.{Class}
@@ -304,6 +304,10 @@ inbound_refusal q memory room =
     (cond (not (eqb memory q.setup.memory)) status.OutOfRange
     (cond (pair_unsound q) status.OutOfRange
     (cond (reads_full q) status.ReadUnfinished status.Executed)))
+
+-- a call that has this answer before it does anything: refused, where it is another than Executed
+unfoldable pub unless_executed : Status → Result Unit Status
+unless_executed answer = cond (executed answer) (Ok tt) (Err answer)
 
 -- what the header checks of the pair make of the packet
 abbrev pub checked_header : Arrival → HeaderRead
