@@ -26,10 +26,10 @@ answered-key p s m expected region t e f =
     or_left (key_fails s.memory 12 m region) _ d
 
 -- so their offset is its own remainder
-pub answered-offset : (p : Packet) (s : Setup) (m : OpenMessage) (expected : Psn) (region : List ℕ) (t : Bool) → t ≡ duplicate_read_fails p s m expected region
+pub answered_offset : (p : Packet) (s : Setup) (m : OpenMessage) (expected : Psn) (region : List ℕ) (t : Bool) → t ≡ duplicate_read_fails p s m expected region
     → t ≡ false
     → s.memory < 2 ^ 64
     → m.stored ≡ 0
     → memory_offset region m.address m.length % 2 ^ 64 ≡ memory_offset region m.address m.length
-answered-offset p s m expected region t e f memory z =
+answered_offset p s m expected region t e f memory z =
     omega (arith, own-inside 12 s.memory m region refl (answered-key p s m expected region t e f) z)

@@ -14,7 +14,7 @@ use Rattle.pair.specs.declared.OpenMessage.{OpenMessage}
 use Rattle.pair.specs.declared.Setup.{Setup}
 use Rattle.request_spec.specs.Verdict.{carrying, single, fragment, not_enabled, bytes_to_come, key_fails, key_lacking, lacks, payload_size, current}
 use Rattle.request_spec.specs.declared.Packet.{Packet}
-use Rattle.request_checks.proofs.Keys.{none-stored-yet}
+use Rattle.request_checks.proofs.Keys.{none_stored_yet}
 use Rattle.responder_spec.specs.Decide.{target_offset}
 use Rattle.decision_laws.proofs.Codes.{Passed}
 use Rattle.decision_laws.proofs.Inside.{key-inside, own-inside, total, write-total, target-inside}
@@ -94,7 +94,7 @@ module _ (s : Setup) (opened : OpenMessage) (p : Packet) (entry region : List �
 
   -- READs and atomics begin their message
   alone : fragment p ≡ false → carrying p.kind ≡ false → OffsetFits region m.address m.length
-  alone F c = omega (arith, own-inside p.kind s.memory m region (bare-kind p.kind c) P.key (none-stored-yet opened p F (served s p.kind P.enabled c)))
+  alone F c = omega (arith, own-inside p.kind s.memory m region (bare-kind p.kind c) P.key (none_stored_yet opened p F (served s p.kind P.enabled c)))
 
   pub executable : fragment p ≡ false → Executable p m entry region
   executable F = record { stores = storable; own = alone F }

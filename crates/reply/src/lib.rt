@@ -110,27 +110,29 @@ pub fn reply_only(status: Status, reply: Reply) -> Decision
 }
 
 // Nothing is sent.
+#[tactic(auto, unfolding(responder_spec::specs::Decide::no_reply))]
 pub fn no_reply(status: Status) -> Decision
     ensures { result ≡ no_reply status }
 {
-    let reply = sending(responder_spec::NO_PACKET, Psn(0), 0, 0);
-    reply_only(status, reply)
+    reply_only(status, sending(responder_spec::NO_PACKET, Psn(0), 0, 0))
 }
 
 // An ACK or a NAK is sent.
+#[tactic(auto, unfolding(responder_spec::specs::Decide::acknowledging))]
 pub fn acknowledging(status: Status, psn: Psn, syndrome: u8) -> Decision
     ensures { result ≡ acknowledging status psn syndrome }
 {
-    let reply = sending(opcode::ACKNOWLEDGE, psn, syndrome, 0);
-    reply_only(status, reply)
+    reply_only(status, sending(opcode::ACKNOWLEDGE, psn, syndrome, 0))
 }
 
 // Ahead: a sequence NAK the first time, nothing while the NAK mark stands.
+#[tactic(auto, unfolding(responder_spec::specs::Decide::ahead_decision))]
 pub fn ahead(nakmark: bool, expected: Psn) -> Decision
     ensures { result ≡ ahead_decision nakmark expected }
 {
     if nakmark {
-        return no_reply(Status::Dropped);
+        no_reply(Status::Dropped)
+    } else {
+        acknowledging(Status::SequenceNak, expected, SEQUENCE)
     }
-    acknowledging(Status::SequenceNak, expected, SEQUENCE)
 }

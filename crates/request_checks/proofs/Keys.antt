@@ -15,6 +15,6 @@ unfolding lacks past_top
 lacks_past region right memory address n h = grind (arith, nat_tests)
 
 -- a READ or atomic that is no fragment begins its message: nothing of it is stored yet
-pub none-stored-yet : (opened : OpenMessage) (p : Packet) → fragment p ≡ false → single p.kind ≡ true → (current opened p).stored ≡ 0
+pub none_stored_yet : (opened : OpenMessage) (p : Packet) → fragment p ≡ false → single p.kind ≡ true → (current opened p).stored ≡ 0
 unfolding fragment current
-none-stored-yet opened p h c = grind (arith, nat_tests)
+none_stored_yet opened p h c = grind (arith, nat_tests)

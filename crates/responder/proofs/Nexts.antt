@@ -6,7 +6,8 @@ use mathlib.Core.List.{List}
 use native.Mathlib.Omega.{arith}
 use lib.Dec.{eqb, ltb}
 use lib.ListN.{length}
-use borrow.Author.Tests.{eq-eqb, ne_eqb, le-ltb, eqb-true, eqb-false, ltb-false}
+use Rattle.std.specs.Prelude.{Err}
+use borrow.Author.Tests.{le-ltb, eqb-true, eqb-false, ltb-false}
 use Rattle.pmtu.proofs.Counting.{pmtus}
 use Rattle.pair.specs.Answer.{status_number, executed}
 use Rattle.pair.specs.Sound.{pair_unsound}
@@ -17,7 +18,7 @@ use Rattle.pair.specs.declared.Status.TheVariants as status
 use Rattle.pair.proofs.Tests.{tested}
 use Rattle.pair.proofs.Known.{one_number}
 use Rattle.responder_spec.specs.declared.Outcome.{Outcome}
-use Rattle.responder_spec.specs.Decide.{no_completion}
+use Rattle.responder_spec.specs.Decide.{no_completion, unless_executed}
 use Rattle.responder_spec.specs.Apply.{with}
 use Rattle.responder_spec.specs.declared.Reply.{Reply}
 use Rattle.responder_spec.specs.Reply.{read_reply, reply_bytes, over}
@@ -25,30 +26,32 @@ use Rattle.responder_spec.specs.Response.{next_status, one_fewer, next_bytes, ne
 use Rattle.response_laws.proofs.Responses.{live}
 use Rattle.acknowledge.specs.Sendable.{unsendable_response, unsendable}
 use Rattle.responder.specs.Unchanged.{unchanged, responded}
+use Rattle.responder.proofs.Steps.{going_on, is_refused, goes_on}
 
 abbrev pub Leaves : Pair → List ℕ → List ℕ → Outcome → List ℕ → Type 0
 Leaves q m out o out' = (o ≡ next_response q m out) × (out' ≡ next_out q m out)
 
-module _ (q : Pair) (m out : List ℕ) (t : Status) (is : t ≡ next_status q (length m) (length out)) (n : ℕ) (number : n ≡ status_number t) where
-  by_number : eqb (status_number (next_status q (length m) (length out))) 0 ≡ eqb n 0
-  by_number = ap (λ s. eqb (status_number s) 0) (sym is) ∙ ap (λ k. eqb k 0) (sym number)
+module _ (q : Pair) (m out : List ℕ) where
+  abbrev answer : Status
+  answer = next_status q (length m) (length out)
 
-  pub refused : (n ≡ 0 → ⊥) → (o : Outcome) → o ≡ unchanged t q → Leaves q m out o out
-  unfolding next_response next_out executed
-  refused some o a =
-      let x = by_number ∙ ne_eqb n 0 some in
-      rw x (a ∙ ap (λ s. unchanged s q) is, refl)
+  pub refused : (t : Status) → Err t ≡ unless_executed answer → (o : Outcome) → o ≡ unchanged t q → Leaves q m out o out
+  unfolding next_response next_out
+  refused t is o a =
+      let R = is_refused answer t is in
+      rw R.0 (a ∙ ap (λ s. unchanged s q) R.1, refl)
 
   -- what holds where nothing is refused
-  module _ (none : n ≡ 0) where
+  module _ (none : going_on ≡ unless_executed answer) where
     record Willing : Type 0 where
       some : 0 < q.read.remaining
       room : 16 + q.setup.pmtu ≤ length out
       memory : length m ≡ q.setup.memory
       sound : Sound q
 
-    taken : eqb (status_number (next_status q (length m) (length out))) 0 ≡ true
-    taken = by_number ∙ eq-eqb n 0 none
+    taken : eqb (status_number answer) 0 ≡ true
+    unfolding executed
+    taken = goes_on answer none
 
     willing : Willing
     unfolding next_status status_number
@@ -82,9 +85,9 @@ module _ (q : Pair) (m out : List ℕ) (t : Status) (is : t ≡ next_status q (l
           le-ltb (length m) (q.read.offset + q.read.length) within,
         )
 
-    executes : status.Executed ≡ next_status q (length m) (length out)
+    executes : status.Executed ≡ answer
     unfolding status_number
-    executes = one_number status.Executed (next_status q (length m) (length out)) (sym (eqb-true (status_number (next_status q (length m) (length out))) 0 taken))
+    executes = one_number status.Executed answer (sym (eqb-true (status_number answer) 0 taken))
 
     pub outgoing : (r : Reply) → r ≡ read_reply q.read
         → (size : ℕ) → size ≡ cond (unsendable q.setup r (length m) (length out)) 0 (length (reply_bytes q.setup r m))

@@ -5,7 +5,8 @@ use mathlib.Core.Bool.{Bool, true, false, cond, not, ◌&&◌, ◌||◌, true≢
 use mathlib.Core.List.{List, []}
 use lib.Dec.{eqb, ltb}
 use lib.ListN.{length}
-use borrow.Author.Tests.{eqb-true, eq-eqb, ne_eqb, le-ltb}
+use Rattle.std.specs.Prelude.{Result, Ok, Err}
+use borrow.Author.Tests.{eqb-true, le-ltb}
 use Rattle.sequence.specs.declared.Psn.{Psn}
 use Rattle.opcode.specs.Opcode.{place_of, low_class, class_of}
 use Rattle.header.specs.declared.Header.{Header}
@@ -31,7 +32,7 @@ use Rattle.responder_spec.specs.declared.Reply.{Reply}
 use Rattle.responder_spec.specs.declared.Decision.{Decision}
 use Rattle.responder_spec.specs.declared.Outcome.{Outcome}
 use Rattle.responder_spec.specs.Arrival.{Arrival, leaving}
-use Rattle.responder_spec.specs.Decide.{no_reply, packet_decision, or_drop, inbound_refusal, refusal_of, checked_header, decision}
+use Rattle.responder_spec.specs.Decide.{no_reply, packet_decision, or_drop, inbound_refusal, unless_executed, refusal_of, checked_header, decision}
 use Rattle.responder_spec.specs.Apply.{memory_by, acts_atomic, value_by, saved_by, pair_by}
 use Rattle.responder_spec.specs.Reply.{ack_bytes, over}
 use Rattle.responder_spec.specs.Inbound.{Leaves, reply_with, sent_by, left_by, inbound}
@@ -70,24 +71,42 @@ whole-found : (x : Result Header Reason) (n : ℕ) (k : Packet) → admission x 
 whole-found (Ok h) n k e = subst (λ y. fragment y ≡ false) (ap (λ r. result_unwrap_or r k) e) (whole-packet h n)
 whole-found (Err why) n k e = absurd (true≢false (sym (ap is_ok e)))
 
+-- what is refused, and what is not
+abbrev pub going_on : Result Unit Status
+going_on = Ok tt
+
+pub is_refused : (answer t : Status) → Err t ≡ unless_executed answer → (executed answer ≡ false) × (t ≡ answer)
+unfolding unless_executed
+is_refused answer t e = go (executed answer) e
+  where
+    go : (b : Bool) → Err t ≡ cond b going_on (Err answer) → (b ≡ false) × (t ≡ answer)
+    go true i = absurd (cc)
+    go false i = (refl, cc)
+
+pub goes_on : (answer : Status) → going_on ≡ unless_executed answer → executed answer ≡ true
+unfolding unless_executed
+goes_on answer e = go (executed answer) e
+  where
+    go : (b : Bool) → going_on ≡ cond b going_on (Err answer) → b ≡ true
+    go true i = refl
+    go false i = absurd (cc)
+
 -- the decision, from what each function answered
-module _ (a : Arrival) (t : Status) (is : t ≡ refusal_of a) (n : ℕ) (number : n ≡ status_number t) where
+module _ (a : Arrival) where
   abbrev passing : Decision
   passing = or_drop (checked_header a) (λ h. packet_decision a.whole (packet_of h (length a.packet)))
 
-  tested : (b : Bool) → eqb n 0 ≡ b → executed (refusal_of a) ≡ b
-  unfolding executed
-  tested b e = ap (λ s. eqb (status_number s) 0) (sym is) ∙ (ap (λ k. eqb k 0) (sym number) ∙ e)
-
   -- refused before the packet is looked at
-  pub refused : (n ≡ 0 → ⊥) → (d : Decision) → d ≡ no_reply t → d ≡ decision a
+  pub refused : (t : Status) → Err t ≡ unless_executed (refusal_of a) → (d : Decision) → d ≡ no_reply t → d ≡ decision a
   unfolding decision
-  refused some d e = e ∙ (ap no_reply is ∙ sym (ap (λ b. cond b passing (no_reply (refusal_of a))) (tested false (ne_eqb n 0 some))))
+  refused t is d e =
+      let R = is_refused (refusal_of a) t is in
+      e ∙ (ap no_reply R.1 ∙ sym (ap (λ b. cond b passing (no_reply (refusal_of a))) R.0))
 
-  module _ (none : n ≡ 0) where
+  module _ (none : going_on ≡ unless_executed (refusal_of a)) where
     decision-passes : decision a ≡ passing
     unfolding decision
-    decision-passes = ap (λ b. cond b passing (no_reply (refusal_of a))) (tested true (eq-eqb n 0 none))
+    decision-passes = ap (λ b. cond b passing (no_reply (refusal_of a))) (goes_on (refusal_of a) none)
 
     -- a header that does not pass is left at once
     pub left_at_once : (f : Result Packet Reason) → f ≡ admission (checked_header a) (length a.packet) → (reason : Reason) → f ≡ Err reason
@@ -99,7 +118,7 @@ module _ (a : Arrival) (t : Status) (is : t ≡ refusal_of a) (n : ℕ) (number 
         ∙ drops (checked_header a) (length a.packet) reason (sym e ∙ g) (λ h. packet_decision a.whole (packet_of h (length a.packet))))
 
     timer-fits : a.whole.pair.setup.timer ≤ timer_limit
-    timer-fits = (passed a.whole.pair (length a.memory) (length a.out) (tested true (eq-eqb n 0 none))).1.setup.0.timer
+    timer-fits = (passed a.whole.pair (length a.memory) (length a.out) (goes_on (refusal_of a) none)).1.setup.0.timer
 
     -- the packet of a header that passes is no fragment, and the timer code of a pair that is not refused is one
     pub admitted-packet : (f : Result Packet Reason) → f ≡ admission (checked_header a) (length a.packet) → (k : Packet) → f ≡ Ok k

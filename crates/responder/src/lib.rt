@@ -46,9 +46,8 @@ fn outcome_with(pair: Pair, d: Decision, outgoing: usize) -> Outcome
 pub fn decided(pair: Pair, tables: Tables, mem: &[u8], packet: &[u8], out: &[u8]) -> Decision
     ensures { result ≡ decision (arriving pair tables.entry.regions.now tables.entry.entries.now tables.entry.saved.now mem.now packet.now out.now) }
 {
-    let refused = refuse::refusal(pair, mem.len(), out.len());
-    if u8::from(refused) != 0 {
-        return reply::no_reply(refused);
+    if let Err(status) = refuse::refusal(pair, mem.len(), out.len()) {
+        return reply::no_reply(status);
     }
     let found = decode::admit(
         packet,

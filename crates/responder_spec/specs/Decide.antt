@@ -302,6 +302,10 @@ inbound_refusal q memory room =
     (cond (pair_unsound q) status.OutOfRange
     (cond (reads_full q) status.ReadUnfinished status.Executed)))
 
+-- a call that has this answer before it does anything: refused, where it is another than Executed
+unfoldable pub unless_executed : Status → Result Unit Status
+unless_executed answer = cond (executed answer) (Ok tt) (Err answer)
+
 -- what the header checks of the pair make of the packet
 abbrev pub checked_header : Arrival → Result Header Reason
 checked_header a =
