@@ -41,7 +41,7 @@ fn index_of(r: Reply, pmtu: usize) -> usize
     ensures { result ≡ index_of r pmtu }
 {
     let count = pmtu::count(r.length, pmtu);
-    number::saturating_sub(count, r.remaining)
+    count.saturating_sub(r.remaining)
 }
 
 fn response_opcode(place: u8) -> u8
@@ -64,7 +64,7 @@ fn write_headers(out: &mut [u8], s: Setup, r: Reply, i: usize, n: usize) -> usiz
     let place = pmtu::place(count, i);
     let low = response_opcode(place);
     let first = r.psn;
-    let psn = first.after_count(i);
+    let psn = first.after(i);
     let padcnt = packet::pad(n);
     let bth = reply_bth(s, low, padcnt, psn);
     if place == opcode::MIDDLE {

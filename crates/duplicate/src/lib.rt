@@ -16,8 +16,7 @@ use table::Saved;
 fn psn_before(psn: Psn) -> Psn
     ensures { result ≡ psn_before psn }
 {
-    let last = Psn::LAST;
-    psn.after(last.0)
+    psn.after(Psn::LAST.0 as usize)
 }
 
 // Whether a duplicate READ is not answered.
@@ -50,7 +49,7 @@ fn duplicate_read_fails(
     }
     let behind = expected.distance(p.psn);
     let count = pmtu::count(m.length, s.pmtu);
-    number::u32_to_usize(behind) < count
+    (behind as usize) < count
 }
 
 fn duplicate_read(p: Packet, s: Setup, m: OpenMessage, expected: Psn, region: [u64; 7]) -> Decision

@@ -37,15 +37,14 @@ module _ (kind : ℕ) (m : OpenMessage) (entry region : List ℕ) (k : kind ≡ 
   nowhere e =
       sym (elsewhere ∙ ap (λ b. cond b 0 (get_or region 3 0 + (m.address + m.stored - get_or region 1 0))) (eq-eqb needed 0 e))
 
-  pub at_offset : (stored : ℕ) → stored ≡ m.stored → (r : ℕ) → r ≡ memory_offset region (m.address + stored) needed % 2 ^ 64
+  pub at_offset : (r : ℕ) → r ≡ memory_offset region (m.address + m.stored) needed % 2 ^ 64
       → OffsetFits region (m.address + m.stored) (bytes_to_come m.length m.stored)
       → r ≡ target_offset kind m entry region
   unfolding bytes_to_come
-  at_offset stored p r e f =
+  at_offset r e f =
       e
-      ∙ (ap (λ x. memory_offset region (m.address + x) needed % 2 ^ 64) p
       ∙ (own-remainder (memory_offset region (m.address + m.stored) needed) (subst (λ n. memory_offset region (m.address + m.stored) n < 2 ^ 64) (sym s) f)
-      ∙ sym elsewhere))
+      ∙ sym elsewhere)
 
 -- bytes that a region holds end below 2^64
 held_below : (region : List ℕ) (right memory address n : ℕ) → lacks region right memory address n ≡ false → address + n < addresses

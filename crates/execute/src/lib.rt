@@ -66,7 +66,7 @@ fn psns(uc: bool, psn: Psn, expected: Psn) -> usize
 {
     if uc {
         let skipped = psn.distance(expected);
-        return 1 + number::u32_to_usize(skipped);
+        return 1 + skipped as usize;
     }
     1
 }

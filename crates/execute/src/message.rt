@@ -37,7 +37,7 @@ fn completion_of(p: Packet, m: OpenMessage, number: u64) -> Completion
 {
     let done = completes(p.kind, p.place, p.operands.immediate);
     if done {
-        let size = number::saturating_sub(p.body, p.pad);
+        let size = p.body.saturating_sub(p.pad);
         let length = counted(p.kind, m.stored, size, m.length);
         return Completion {
             some: true,
@@ -69,11 +69,11 @@ fn target_offset(kind: u8, m: OpenMessage, entry: [u64; 3], region: [u64; 7]) ->
     requires { TargetFits kind m entry region }
     ensures { result ≡ target_offset kind m entry region }
 {
-    let stored = number::usize_to_u64(m.stored);
+    let stored = m.stored as u64;
     if kind == opcode::SEND {
         return (entry[table::ENTRY_OFFSET] + stored) as usize;
     }
-    let needed = number::saturating_sub(m.length, m.stored);
+    let needed = m.length.saturating_sub(m.stored);
     if needed == 0 {
         return 0;
     }
@@ -111,7 +111,7 @@ pub(crate) fn store_payload(
     requires target_fits { TargetFits p.kind m entry region }
     ensures { result ≡ store_payload asked psns p m entry region }
 {
-    let size = number::saturating_sub(p.body, p.pad);
+    let size = p.body.saturating_sub(p.pad);
     let at = target_offset(p.kind, m, entry, region);
     let change = Change {
         act: responder_spec::STORE,

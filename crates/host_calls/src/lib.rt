@@ -138,12 +138,12 @@ pub fn add_region(pair: Pair, regions: &mut [[u64; 7]; table::REGIONS], region: 
         region.address,
         region.length,
         region.offset,
-        number::usize_to_u64(pair.setup.memory),
+        pair.setup.memory as u64,
     );
     if off {
         return Status::OutOfRange;
     }
-    let used = table::find(regions, false, number::u32_to_u64(region.key));
+    let used = table::find(regions, false, u64::from(region.key));
     let free = table::find(regions, true, 0);
     if used < table::REGIONS {
         return Status::KeyInUse;
@@ -161,7 +161,7 @@ pub fn remove_region(regions: &mut [[u64; 7]; table::REGIONS], key: u32) -> Stat
     ensures value { result ≡ remove_status regions.old key }
     ensures regions_after { regions.new ≡ remove_regions regions.old key }
 {
-    let at = table::find(regions, false, number::u32_to_u64(key));
+    let at = table::find(regions, false, u64::from(key));
     if table::REGIONS <= at {
         return Status::NoSuchKey;
     }
@@ -183,11 +183,7 @@ pub fn post_entry(pair: Pair, entries: &mut [[u64; 3]; table::ENTRIES], entry: E
     if bad {
         return outcome(Status::OutOfRange, pair);
     }
-    let off = table::outside(
-        entry.offset,
-        entry.length,
-        number::usize_to_u64(pair.setup.memory),
-    );
+    let off = table::outside(entry.offset, entry.length, pair.setup.memory as u64);
     if off {
         return outcome(Status::OutOfRange, pair);
     }

@@ -18,7 +18,7 @@ const ROOM: usize = 65536;
 fn length_of(two: &[u8; 2]) -> usize
     ensures { result ≡ get_or two.now 0 0 * 256 + get_or two.now 1 0 }
 {
-    number::u8_to_usize(two[0]) * 256 + number::u8_to_usize(two[1])
+    usize::from(u16::from_be_bytes(*two))
 }
 
 // Reads until buf is full or the input ends, and says how many bytes came.

@@ -11,7 +11,7 @@ pub(crate) struct Record {
 }
 
 fn length_of(two: &[u8; 2]) -> usize {
-    number::u8_to_usize(two[0]) * 256 + number::u8_to_usize(two[1])
+    usize::from(u16::from_be_bytes(*two))
 }
 
 fn none() -> Record

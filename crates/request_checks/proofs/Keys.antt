@@ -28,17 +28,16 @@ module _ (memory kind : ℕ) (m : OpenMessage) (region : List ℕ) (k : kind ≡
       ∙ ((λ i. cond (eqb (sym s i) 0) false (lacks region (right_of kind region) memory (m.address + m.stored) (sym s i)))
       ∙ ap (λ b. cond b false (lacks region (right_of kind region) memory (m.address + m.stored) needed)) (ne_eqb needed 0 some))
 
-  pub past : (stored : ℕ) → stored ≡ m.stored → (t : Bool) → t ≡ past_top m.address stored → t ≡ true
-      → true ≡ key_fails memory kind m region
+  pub past : (t : Bool) → t ≡ past_top m.address m.stored → t ≡ true → true ≡ key_fails memory kind m region
   unfolding past_top
-  past stored p t e f =
+  past t e f =
       sym (keyed
       ∙ lacks-past region (right_of kind region) memory (m.address + m.stored) needed
-      (leb-true addresses (m.address + m.stored) (ap (λ x. past_top m.address x) (sym p) ∙ (sym e ∙ f))))
+      (leb-true addresses (m.address + m.stored) (sym e ∙ f)))
 
-  pub judged : (stored : ℕ) → stored ≡ m.stored → (right : ℕ) → right ≡ right_of kind region → (n : ℕ) → n ≡ needed → (r : Bool)
-      → r ≡ lacks region right memory (m.address + stored) n → r ≡ key_fails memory kind m region
-  judged stored p right q n e r l = l ∙ ((λ i. lacks region (q i) memory (m.address + p i) (e i)) ∙ sym keyed)
+  pub judged : (right : ℕ) → right ≡ right_of kind region → (r : Bool)
+      → r ≡ lacks region right memory (m.address + m.stored) needed → r ≡ key_fails memory kind m region
+  judged right q r l = l ∙ ((λ i. lacks region (q i) memory (m.address + m.stored) needed) ∙ sym keyed)
 
 -- a READ or atomic that is no fragment begins its message: nothing of it is stored yet
 pub none-stored-yet : (opened : OpenMessage) (p : Packet) → fragment p ≡ false → single p.kind ≡ true → (current opened p).stored ≡ 0

@@ -37,7 +37,7 @@ fn lacks(region: [u64; 7], right: u64, memory: usize, address: u64, n: u64) -> b
     let off = table::outside(
         region[table::REGION_OFFSET],
         region[table::REGION_LENGTH],
-        number::usize_to_u64(memory),
+        memory as u64,
     );
     if off {
         return true;
@@ -64,21 +64,15 @@ pub fn key_fails(memory: usize, kind: u8, m: OpenMessage, region: [u64; 7]) -> b
     if kind == opcode::SEND {
         return false;
     }
-    let needed = number::saturating_sub(m.length, m.stored);
+    let needed = m.length.saturating_sub(m.stored);
     if needed == 0 {
         return false;
     }
-    let stored = number::usize_to_u64(m.stored);
+    let stored = m.stored as u64;
     let top = table::past_top(m.address, stored);
     if top {
         return true;
     }
     let right = right_of(kind, region);
-    lacks(
-        region,
-        right,
-        memory,
-        m.address + stored,
-        number::usize_to_u64(needed),
-    )
+    lacks(region, right, memory, m.address + stored, needed as u64)
 }

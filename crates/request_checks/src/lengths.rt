@@ -65,11 +65,7 @@ fn total_off(kind: u8, place: u8, stored: usize, size: usize, length: usize, mos
     ensures { result ≡ total_off kind place stored size length most }
 {
     if kind == opcode::SEND {
-        return over(
-            number::usize_to_u64(stored),
-            number::usize_to_u64(size),
-            most,
-        );
+        return over(stored as u64, size as u64, most);
     }
     let last = opcode::ends(place);
     if last {

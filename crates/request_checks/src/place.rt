@@ -36,7 +36,7 @@ fn entries_waiting(opened: u8, count: usize) -> usize
     ensures { result ≡ entries_waiting opened count }
 {
     if opened == opcode::SEND {
-        return number::saturating_sub(count, 1);
+        return count.saturating_sub(1);
     }
     count
 }
@@ -69,7 +69,7 @@ pub(crate) fn entry_outside(kind: u8, immediate: bool, entry: [u64; 3], memory: 
         return table::outside(
             entry[table::ENTRY_OFFSET],
             entry[table::ENTRY_LENGTH],
-            number::usize_to_u64(memory),
+            memory as u64,
         );
     }
     false

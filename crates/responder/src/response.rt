@@ -50,7 +50,7 @@ fn one_fewer(pair: Pair) -> Pair
     ensures { result ≡ with pair pair.state pair.nakmark (one_fewer pair.read) }
 {
     let mut read = pair.read;
-    read.remaining = number::saturating_sub(pair.read.remaining, 1);
+    read.remaining = pair.read.remaining.saturating_sub(1);
     let mut next = pair;
     next.read = read;
     next

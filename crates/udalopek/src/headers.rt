@@ -23,7 +23,7 @@ pub extern "C" fn udalopek_read_header(
     let found = decode::read(packet);
     match found {
         HeaderRead::Dropped(check) => {
-            *report = [number::u8_to_u64(check)];
+            *report = [u64::from(check)];
             header::QUIET_DROP
         }
         HeaderRead::Accepted(h) => {

@@ -29,4 +29,4 @@ returns-then-lacking c =
 pub returns : goal.returns
 unfolding duplicate_read_fails
 returns c =
-    simp (← c.not_enabled-off.ensures, c.if-off.false, ← c.over_limit-long.ensures, c.if-long.false, eq-eqb _ _ c.if-p-ne0.false, eq-eqb _ _ c.if-p-ne0-2.false, ← c.key_fails-lacking.ensures, c.if-lacking.false, ← c.distance-behind.ensures, ← c.count-count.ensures, ← c.u32_to_usize.ensures)
+    simp (← c.not_enabled-off.ensures, c.if-off.false, ← c.over_limit-long.ensures, c.if-long.false, eq-eqb _ _ c.if-p-ne0.false, eq-eqb _ _ c.if-p-ne0-2.false, ← c.key_fails-lacking.ensures, c.if-lacking.false, ← c.distance-behind.ensures, ← c.count-count.ensures)

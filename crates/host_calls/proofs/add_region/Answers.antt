@@ -14,16 +14,16 @@ returns-then-bad c = record { value = simp (ne_eqb _ _ c.if-pair-eq-ERROR.false,
 
 pub returns-then-off : goal.returns-then-off
 unfolding add_status add_regions executed status_number
-returns-then-off c = record { value = simp (ne_eqb _ _ c.if-pair-eq-ERROR.false, ← c.unsound-bad.ensures, c.if-bad.false, ← c.usize_to_u64.ensures, ← c.region_outside-off.ensures, c.if-off.true); regions_after = simp (ne_eqb _ _ c.if-pair-eq-ERROR.false, ← c.unsound-bad.ensures, c.if-bad.false, ← c.usize_to_u64.ensures, ← c.region_outside-off.ensures, c.if-off.true) }
+returns-then-off c = record { value = simp (ne_eqb _ _ c.if-pair-eq-ERROR.false, ← c.unsound-bad.ensures, c.if-bad.false, ← c.region_outside-off.ensures, c.if-off.true); regions_after = simp (ne_eqb _ _ c.if-pair-eq-ERROR.false, ← c.unsound-bad.ensures, c.if-bad.false, ← c.region_outside-off.ensures, c.if-off.true) }
 
 pub returns-then-used-lt-REGIONS : goal.returns-then-used-lt-REGIONS
 unfolding add_status add_regions executed status_number
-returns-then-used-lt-REGIONS c = record { value = simp (tested, c.if-pair-eq-ERROR.false, ← c.unsound-bad.ensures, c.if-bad.false, ← c.usize_to_u64.ensures, ← c.region_outside-off.ensures, c.if-off.false, ← c.u32_to_u64.ensures.value, ← c.find-used.ensures.value, ← c.find-free.ensures.value, c.if-used-lt-REGIONS.true); regions_after = simp (tested, c.if-pair-eq-ERROR.false, ← c.unsound-bad.ensures, c.if-bad.false, ← c.usize_to_u64.ensures, ← c.region_outside-off.ensures, c.if-off.false, ← c.u32_to_u64.ensures.value, ← c.find-used.ensures.value, ← c.find-free.ensures.value, c.if-used-lt-REGIONS.true) }
+returns-then-used-lt-REGIONS c = record { value = simp (tested, c.if-pair-eq-ERROR.false, ← c.unsound-bad.ensures, c.if-bad.false, ← c.region_outside-off.ensures, c.if-off.false, ← c.from.ensures, ← c.find-used.ensures.value, ← c.find-free.ensures.value, c.if-used-lt-REGIONS.true); regions_after = simp (tested, c.if-pair-eq-ERROR.false, ← c.unsound-bad.ensures, c.if-bad.false, ← c.region_outside-off.ensures, c.if-off.false, ← c.from.ensures, ← c.find-used.ensures.value, ← c.find-free.ensures.value, c.if-used-lt-REGIONS.true) }
 
 pub returns-then-free-ge-REGIONS : goal.returns-then-free-ge-REGIONS
 unfolding add_status add_regions executed status_number
-returns-then-free-ge-REGIONS c = record { value = simp (tested, c.if-pair-eq-ERROR.false, ← c.unsound-bad.ensures, c.if-bad.false, ← c.usize_to_u64.ensures, ← c.region_outside-off.ensures, c.if-off.false, ← c.u32_to_u64.ensures.value, ← c.find-used.ensures.value, ← c.find-free.ensures.value, c.if-used-lt-REGIONS.false, c.if-free-ge-REGIONS.true); regions_after = simp (tested, c.if-pair-eq-ERROR.false, ← c.unsound-bad.ensures, c.if-bad.false, ← c.usize_to_u64.ensures, ← c.region_outside-off.ensures, c.if-off.false, ← c.u32_to_u64.ensures.value, ← c.find-used.ensures.value, ← c.find-free.ensures.value, c.if-used-lt-REGIONS.false, c.if-free-ge-REGIONS.true) }
+returns-then-free-ge-REGIONS c = record { value = simp (tested, c.if-pair-eq-ERROR.false, ← c.unsound-bad.ensures, c.if-bad.false, ← c.region_outside-off.ensures, c.if-off.false, ← c.from.ensures, ← c.find-used.ensures.value, ← c.find-free.ensures.value, c.if-used-lt-REGIONS.false, c.if-free-ge-REGIONS.true); regions_after = simp (tested, c.if-pair-eq-ERROR.false, ← c.unsound-bad.ensures, c.if-bad.false, ← c.region_outside-off.ensures, c.if-off.false, ← c.from.ensures, ← c.find-used.ensures.value, ← c.find-free.ensures.value, c.if-used-lt-REGIONS.false, c.if-free-ge-REGIONS.true) }
 
 pub returns : goal.returns
 unfolding add_status add_regions executed status_number
-returns c = record { value = simp (tested, c.if-pair-eq-ERROR.false, ← c.unsound-bad.ensures, c.if-bad.false, ← c.usize_to_u64.ensures, ← c.region_outside-off.ensures, c.if-off.false, ← c.u32_to_u64.ensures.value, ← c.find-used.ensures.value, ← c.find-free.ensures.value, c.if-used-lt-REGIONS.false, c.if-free-ge-REGIONS.false, ← c.region_row-row.ensures); regions_after = simp (tested, c.if-pair-eq-ERROR.false, ← c.unsound-bad.ensures, c.if-bad.false, ← c.usize_to_u64.ensures, ← c.region_outside-off.ensures, c.if-off.false, ← c.u32_to_u64.ensures.value, ← c.find-used.ensures.value, ← c.find-free.ensures.value, c.if-used-lt-REGIONS.false, c.if-free-ge-REGIONS.false, ← c.region_row-row.ensures) }
+returns c = record { value = simp (tested, c.if-pair-eq-ERROR.false, ← c.unsound-bad.ensures, c.if-bad.false, ← c.region_outside-off.ensures, c.if-off.false, ← c.from.ensures, ← c.find-used.ensures.value, ← c.find-free.ensures.value, c.if-used-lt-REGIONS.false, c.if-free-ge-REGIONS.false, ← c.region_row-row.ensures); regions_after = simp (tested, c.if-pair-eq-ERROR.false, ← c.unsound-bad.ensures, c.if-bad.false, ← c.region_outside-off.ensures, c.if-off.false, ← c.from.ensures, ← c.find-used.ensures.value, ← c.find-free.ensures.value, c.if-used-lt-REGIONS.false, c.if-free-ge-REGIONS.false, ← c.region_row-row.ensures) }

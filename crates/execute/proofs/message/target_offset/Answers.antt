@@ -8,11 +8,11 @@ use Rattle.table.specs.Table.{memory_offset}
 use Rattle.execute.proofs.message.target_offset.Goals as goal
 
 pub overflow_add-result : goal.overflow_add-result
-overflow_add-result c = omega (arith, c.requires.send c.if-kind-eq-SEND.true, c.usize_to_u64-stored.ensures)
+overflow_add-result c = omega (arith, c.requires.send c.if-kind-eq-SEND.true)
 
 pub returns-then-kind-eq-SEND : goal.returns-then-kind-eq-SEND
 unfolding target_offset memory_offset bytes_to_come
-returns-then-kind-eq-SEND c = simp (← c.usize_to_u64-stored.ensures, eq-eqb _ _ c.if-kind-eq-SEND.true)
+returns-then-kind-eq-SEND c = simp (eq-eqb _ _ c.if-kind-eq-SEND.true)
 
 pub returns-then-needed-eq0 : goal.returns-then-needed-eq0
 returns-then-needed-eq0 c =
@@ -24,10 +24,10 @@ unfolding bytes_to_come
 overflow_add-m c =
     let A = c.args in
     let some : 0 < bytes_to_come A.m.length A.m.stored = omega (arith, c.saturating_sub-needed.ensures, c.if-needed-eq0.false) in
-    omega (arith, c.requires.address c.if-kind-eq-SEND.false some, c.usize_to_u64-stored.ensures)
+    omega (arith, c.requires.address c.if-kind-eq-SEND.false some)
 
 pub returns : goal.returns
 returns c =
     let A = c.args in
-    at_offset A.kind A.m A.entry A.region c.if-kind-eq-SEND.false c.saturating_sub-needed.result c.saturating_sub-needed.ensures c.usize_to_u64-stored.result
-    c.usize_to_u64-stored.ensures c.memory_offset.result c.memory_offset.ensures (c.requires.offset c.if-kind-eq-SEND.false)
+    at_offset A.kind A.m A.entry A.region c.if-kind-eq-SEND.false c.saturating_sub-needed.result c.saturating_sub-needed.ensures
+    c.memory_offset.result c.memory_offset.ensures (c.requires.offset c.if-kind-eq-SEND.false)

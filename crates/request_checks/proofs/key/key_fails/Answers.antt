@@ -16,19 +16,15 @@ pub returns-then-top : goal.returns-then-top
 returns-then-top c =
     let A = c.args in
     past A.memory A.kind A.m A.region c.if-kind-eq-SEND.false c.saturating_sub-needed.result c.saturating_sub-needed.ensures c.if-needed-eq0.false
-    c.usize_to_u64-stored.result c.usize_to_u64-stored.ensures c.past_top-top.result c.past_top-top.ensures c.if-top.true
+    c.past_top-top.result c.past_top-top.ensures c.if-top.true
 
 pub overflow_add-m : goal.overflow_add-m
 overflow_add-m c =
     let A = c.args in
-    omega (
-      arith,
-      below_top A.m.address c.usize_to_u64-stored.result c.past_top-top.result c.past_top-top.ensures c.if-top.false,
-    )
+    omega (arith, below_top A.m.address A.m.stored c.past_top-top.result c.past_top-top.ensures c.if-top.false)
 
 pub returns : goal.returns
 returns c =
     let A = c.args in
     judged A.memory A.kind A.m A.region c.if-kind-eq-SEND.false c.saturating_sub-needed.result c.saturating_sub-needed.ensures c.if-needed-eq0.false
-    c.usize_to_u64-stored.result c.usize_to_u64-stored.ensures c.right_of-right.result c.right_of-right.ensures c.usize_to_u64.result c.usize_to_u64.ensures
-    c.lacks.result c.lacks.ensures
+    c.right_of-right.result c.right_of-right.ensures c.lacks.result c.lacks.ensures

@@ -5,7 +5,7 @@ use Rattle.request_checks.proofs.lengths.total_off.Goals as goal
 pub returns-then-kind-eq-SEND : goal.returns-then-kind-eq-SEND
 unfolding total_off
 returns-then-kind-eq-SEND c =
-    simp (eq-eqb _ _ c.if-kind-eq-SEND.true, ← c.usize_to_u64.ensures, ← c.usize_to_u64-then-kind-eq-SEND.ensures, ← c.over.ensures)
+    simp (eq-eqb _ _ c.if-kind-eq-SEND.true, ← c.over.ensures)
 
 pub returns-then-last : goal.returns-then-last
 unfolding total_off

@@ -4,7 +4,7 @@ use Rattle.request_checks.proofs.place.entry_outside.Goals as goal
 pub returns-then-uses : goal.returns-then-uses
 unfolding entry_outside
 returns-then-uses c =
-    simp (← c.uses_entry-uses.ensures, c.if-uses.true, ← c.usize_to_u64.ensures, ← c.outside.ensures)
+    simp (← c.uses_entry-uses.ensures, c.if-uses.true, ← c.outside.ensures)
 
 pub returns : goal.returns
 unfolding entry_outside

@@ -13,7 +13,7 @@ returns-in-Dropped c =
       value = sym (ap read_number e);
       bth_after = sym (ap (λ h. reported_bth h A.bth.now) e);
       extension_after = sym (ap (λ h. reported_extension h A.extension.now) e);
-      report_after = ap (λ n. n ∷ []) c.u8_to_u64.ensures.value ∙ sym (ap (λ h. read_check h ∷ []) e);
+      report_after = ap (λ n. n ∷ []) c.from.ensures ∙ sym (ap (λ h. read_check h ∷ []) e);
     }
 
 pub returns-in-Accepted : goal.returns-in-Accepted

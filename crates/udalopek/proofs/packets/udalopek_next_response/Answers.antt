@@ -28,7 +28,7 @@ returns-then-number-ne0 c =
     let e = c.next_response-got.ensures.value ∙ ap (λ x. next_response x A.mem.now A.out.now) q in
     let n = c.number-number.ensures ∙ ap (λ o. status_number o.status) e in
     let out = c.next_response-got.ensures.out_after ∙ ap (λ x. next_out x A.mem.now A.out.now) q ∙ second _ _ _ l in
-    let report = ap (λ k. k ∷ []) (c.usize_to_u64.ensures ∙ ap (λ x. x.outgoing) e) ∙ second _ _ _ l in
+    let report = ap (λ x. x.outgoing ∷ []) e ∙ second _ _ _ l in
     record {
       value = n ∙ second _ 34 _ l;
       pair_after = undrained-words A.pair.now l _ _ (undone _ _ n c.if-number-ne0.true);
@@ -45,7 +45,7 @@ returns c =
     let e = c.next_response-got.ensures.value ∙ ap (λ x. next_response x A.mem.now A.out.now) q in
     let n = c.number-number.ensures ∙ ap (λ o. status_number o.status) e in
     let out = c.next_response-got.ensures.out_after ∙ ap (λ x. next_out x A.mem.now A.out.now) q ∙ second _ _ _ l in
-    let report = ap (λ k. k ∷ []) (c.usize_to_u64.ensures ∙ ap (λ x. x.outgoing) e) ∙ second _ _ _ l in
+    let report = ap (λ x. x.outgoing ∷ []) e ∙ second _ _ _ l in
     let w = c.put_read.ensures ∙ ap (λ o. read_put A.pair.now o.pair.read) e in
     record {
       value = n ∙ second _ 34 _ l;
