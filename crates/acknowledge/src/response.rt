@@ -41,7 +41,7 @@ fn index_of(r: Reply, pmtu: usize) -> usize
     ensures { result ≡ index_of r pmtu }
 {
     let count = pmtu::count(r.length, pmtu);
-    number::saturating_sub(count, r.remaining)
+    count.saturating_sub(r.remaining)
 }
 
 fn response_opcode(place: u8) -> u8
@@ -63,7 +63,7 @@ fn write_headers(out: &mut [u8], s: Setup, r: Reply, i: usize, n: usize) -> usiz
     let count = pmtu::count(r.length, s.pmtu);
     let place = pmtu::place(count, i);
     let low = response_opcode(place);
-    let psn = r.psn.after_count(i);
+    let psn = r.psn.after(i);
     let padcnt = packet::pad(n);
     let bth = reply_bth(s, low, padcnt, psn);
     if place == opcode::MIDDLE {

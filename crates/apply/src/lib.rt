@@ -18,8 +18,8 @@ use table::Ring;
 fn store_part(mem: &mut [u8], at: usize, packet: &[u8], start: usize, size: usize)
     ensures { mem.new ≡ store mem.old at (take size (drop start packet.now)) }
 {
-    let from = number::min(start, packet.len());
-    let n = number::min(size, packet.len() - from);
+    let from = start.min(packet.len());
+    let n = size.min(packet.len() - from);
     memory::store(mem, at, &packet[from..from + n]);
 }
 

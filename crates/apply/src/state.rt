@@ -14,7 +14,7 @@ fn entries_by(completes: bool, ring: Ring) -> Ring
 {
     if completes {
         let head = table::entry_slot(ring.head, 1);
-        let count = number::saturating_sub(ring.count, 1);
+        let count = ring.count.saturating_sub(1);
         return Ring { head, count };
     }
     ring
@@ -61,7 +61,7 @@ fn executed_pair(pair: Pair, d: Decision) -> Pair
 {
     let progress = d.progress;
     let awaited = pair.expected;
-    let expected = awaited.after_count(progress.psns);
+    let expected = awaited.after(progress.psns);
     let msn = msn_by(progress.ends, pair.msn);
     let held = pair.entries;
     let entries = entries_by(progress.completion.some, held);

@@ -110,7 +110,7 @@ pub fn next_psn(request: Request, n: usize, pmtu: usize, first: Psn) -> Followin
         return Following::Refused(code);
     }
     let count = pmtu::count(whole, pmtu);
-    let next = first.after(count as u32);
+    let next = first.after(count);
     Following::Next(next)
 }
 

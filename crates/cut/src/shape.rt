@@ -128,7 +128,7 @@ pub(crate) fn bth_at(
     ensures { result ≡ bth_at connection low first index count size }
 {
     let pad = packet::pad(size);
-    let psn = first.after(index as u32);
+    let psn = first.after(index);
     Bth {
         opcode: connection.service * opcode::PER_SERVICE + low,
         se: false,

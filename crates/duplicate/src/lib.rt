@@ -17,7 +17,7 @@ use table::Tables;
 fn psn_before(psn: Psn) -> Psn
     ensures { result ≡ psn_before psn }
 {
-    psn.after(Psn::LAST.0)
+    psn.after(Psn::LAST.0 as usize)
 }
 
 // Whether a duplicate READ is not answered.

@@ -129,12 +129,12 @@ pub fn add_region(pair: Pair, regions: &mut [[u64; 7]; table::REGIONS], region: 
         region.address,
         region.length,
         region.offset,
-        number::usize_to_u64(pair.setup.memory),
+        pair.setup.memory as u64,
     );
     if off {
         return Status::OutOfRange;
     }
-    if table::key_row(regions, number::u32_to_u64(region.key)).is_some() {
+    if table::key_row(regions, u64::from(region.key)).is_some() {
         return Status::KeyInUse;
     }
     let Some(free) = table::free_row(regions) else {
@@ -149,7 +149,7 @@ pub fn remove_region(regions: &mut [[u64; 7]; table::REGIONS], key: u32) -> Stat
     ensures value { result ≡ remove_status regions.old key }
     ensures regions_after { regions.new ≡ remove_regions regions.old key }
 {
-    let Some(at) = table::key_row(regions, number::u32_to_u64(key)) else {
+    let Some(at) = table::key_row(regions, u64::from(key)) else {
         return Status::NoSuchKey;
     };
     regions[at] = [0; 7];
@@ -169,11 +169,7 @@ pub fn post_entry(pair: Pair, entries: &mut [[u64; 3]; table::ENTRIES], entry: E
     if bad {
         return outcome(Status::OutOfRange, pair);
     }
-    let off = table::outside(
-        entry.offset,
-        entry.length,
-        number::usize_to_u64(pair.setup.memory),
-    );
+    let off = table::outside(entry.offset, entry.length, pair.setup.memory as u64);
     if off {
         return outcome(Status::OutOfRange, pair);
     }

@@ -10,11 +10,7 @@ use sequence::{Msn, Psn};
 fn outside(offset: usize, length: usize, memory: usize) -> bool
     ensures { result ≡ outside offset length memory }
 {
-    table::outside(
-        number::usize_to_u64(offset),
-        number::usize_to_u64(length),
-        number::usize_to_u64(memory),
-    )
+    table::outside(offset as u64, length as u64, memory as u64)
 }
 
 // Whether a number of the set-up is bad.
@@ -94,7 +90,7 @@ fn message_unsound(kind: u8, stored: usize, address: u64, length: usize, entries
     if pair::LIMIT < length {
         return true;
     }
-    table::past_top(address, number::usize_to_u64(stored))
+    table::past_top(address, stored as u64)
 }
 
 // A read answer has no more responses to send than there are, lies in memory, and has numbers of 24 bits.

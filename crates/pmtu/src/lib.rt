@@ -13,42 +13,26 @@ pub struct Range {
 }
 
 // Whether there is no such PMTU.
+#[tactic(auto, unfolding(crate::specs::Pieces::pmtu_fits))]
 pub fn pmtu_unfit(pmtu: usize) -> bool
     ensures { result ≡ not (pmtu_fits pmtu) }
 {
-    if pmtu == 256 {
-        return false;
-    }
-    if pmtu == 512 {
-        return false;
-    }
-    if pmtu == 1024 {
-        return false;
-    }
-    if pmtu == 2048 {
-        return false;
-    }
-    pmtu != 4096
+    !matches!(pmtu, 256 | 512 | 1024 | 2048 | 4096)
 }
 
-// How many pieces n bytes make.
+// How many pieces n bytes make; without a PMTU it is one.
+#[tactic(auto, unfolding(crate::specs::Pieces::pieces))]
 pub fn count(n: usize, pmtu: usize) -> usize
     ensures { result ≡ pieces n pmtu }
 {
-    if n == 0 {
-        return 1;
-    }
     if pmtu == 0 {
         return 1;
     }
-    let whole = n / pmtu;
-    if n % pmtu == 0 {
-        return whole;
-    }
-    whole + 1
+    n.div_ceil(pmtu).max(1)
 }
 
 // The place of piece i of count.
+#[tactic(auto, unfolding(crate::specs::Pieces::place_at))]
 pub fn place(count: usize, i: usize) -> u8
     ensures { result ≡ place_at count i }
 {
@@ -58,29 +42,18 @@ pub fn place(count: usize, i: usize) -> u8
     if i == 0 {
         return opcode::FIRST;
     }
-    if count <= i {
-        return opcode::MIDDLE;
-    }
-    if count - i == 1 {
+    if count.saturating_sub(i) == 1 {
         return opcode::LAST;
     }
     opcode::MIDDLE
 }
 
 // Where piece i of n bytes stands; past the last one, an empty part at the end, and without a PMTU at the start.
+#[tactic(auto, unfolding(crate::specs::Pieces::part_at))]
 pub fn part(n: usize, pmtu: usize, i: usize) -> Range
     ensures { result ≡ part_at n pmtu i }
 {
-    if pmtu == 0 {
-        return Range { start: 0, end: 0 };
-    }
-    if n / pmtu < i {
-        return Range { start: n, end: n };
-    }
-    let start = i * pmtu;
-    if n - start < pmtu {
-        return Range { start, end: n };
-    }
-    let end = start + pmtu;
+    let start = i.saturating_mul(pmtu).min(n);
+    let end = start.saturating_add(pmtu).min(n);
     Range { start, end }
 }

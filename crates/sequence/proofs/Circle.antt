@@ -10,10 +10,6 @@ use Rattle.sequence.specs.Claims.{order, msn_of, ClassIsOrder, TooFarBehind, Dis
 use Rattle.sequence.specs.declared.Msn.{Msn}
 use Rattle.sequence.specs.declared.Class.TheVariants.{Expected, Ahead, Duplicate}
 
--- summing remainders, which no machine word overflows, is going on
-pub reduced : (number n : ℕ) → (number % 16777216 + n % 16777216) % 16777216 ≡ after number n
-reduced number n = omega arith
-
 pub after-below : AfterBelow
 after-below psn n = omega arith
 
@@ -102,7 +98,3 @@ unfolding psn_class class_at
 too-far-behind start =
     let d : distance (after start 0) (after start 8388608) ≡ 8388608 = omega arith in
     rw d
-
--- a count of numbers may be cut to its remainder
-pub after-rest : (x n : ℕ) → (x + n % 16777216) % 16777216 ≡ (x + n) % 16777216
-after-rest x n = omega arith

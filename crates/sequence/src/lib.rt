@@ -38,43 +38,34 @@ impl Psn {
     }
 
     // The number n further on.
-    pub fn after(self, n: u32) -> Psn
+    pub fn after(self, n: usize) -> Psn
         ensures { result ≡ psn_after self n }
     {
-        Psn((self.0 % Psn::SPACE + n % Psn::SPACE) % Psn::SPACE)
-    }
-
-    // The same for any count.
-    pub fn after_count(self, n: usize) -> Psn
-        ensures { result ≡ psn_after self n }
-    {
-        self.after((n % Psn::SPACE as usize) as u32)
+        let step = (n % Psn::SPACE as usize) as u32;
+        Psn((self.0 % Psn::SPACE + step) % Psn::SPACE)
     }
 
     // The next number: after the last comes the first.
     pub fn next(self) -> Psn
         ensures { result ≡ psn_after self 1 }
     {
-        let last = Psn::LAST;
         let n = self.0 % Psn::SPACE;
-        if n == last.0 {
+        if n == Psn::LAST.0 {
             return Psn::FIRST;
         }
         Psn(n + 1)
     }
 
     // What this number is beside the expected one.
+    #[tactic(auto, unfolding(crate::specs::Sequence::psn_class, crate::specs::Sequence::class_at))]
     pub fn class(self, expected: Psn) -> Class
         ensures { result ≡ psn_class self.0 expected.0 }
     {
-        let d = self.distance(expected);
-        if d == 0 {
-            return Class::Expected;
+        match self.distance(expected) {
+            0 => Class::Expected,
+            1..=Psn::HALF => Class::Ahead,
+            _ => Class::Duplicate,
         }
-        if d <= Psn::HALF {
-            return Class::Ahead;
-        }
-        Class::Duplicate
     }
 }
 

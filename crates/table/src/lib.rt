@@ -108,13 +108,14 @@ pub fn region_outside(address: u64, length: u64, offset: u64, memory: u64) -> bo
     past_top(address, length)
 }
 
+#[tactic(auto, unfolding(crate::specs::Table::region_row))]
 pub fn region_row(r: Region) -> [u64; 7]
     ensures { result ≡ region_row r }
 {
-    let w = number::bool_to_u64(r.write);
-    let d = number::bool_to_u64(r.read);
-    let a = number::bool_to_u64(r.atomic);
-    let k = number::u32_to_u64(r.key);
+    let w = u64::from(r.write);
+    let d = u64::from(r.read);
+    let a = u64::from(r.atomic);
+    let k = u64::from(r.key);
     [k, r.address, r.length, r.offset, w, d, a]
 }
 
@@ -144,7 +145,7 @@ pub fn free_row(regions: &[[u64; 7]; REGIONS]) -> Option<usize>
 pub fn region_of(regions: &[[u64; 7]; REGIONS], key: u32) -> [u64; 7]
     ensures { result ≡ region_of key regions.now }
 {
-    match key_row(regions, number::u32_to_u64(key)) {
+    match key_row(regions, u64::from(key)) {
         Some(i) => regions[i],
         None => [0; 7],
     }
@@ -158,7 +159,7 @@ pub fn memory_offset(region: [u64; 7], address: u64, needed: usize) -> usize
     if needed == 0 {
         return 0;
     }
-    let skip = number::saturating_sub_u64(address, region[REGION_ADDRESS]);
+    let skip = address.saturating_sub(region[REGION_ADDRESS]);
     region[REGION_OFFSET].wrapping_add(skip) as usize
 }
 
@@ -208,7 +209,7 @@ pub fn save(saved: &mut [[u64; 2]; SAVED], ring: Ring, psn: Psn, value: u64)
     ensures { saved.new ≡ saved_rows saved.old ring psn.0 value }
 {
     let at = slot::<SAVED>(ring.head, ring.count);
-    let row = [number::u32_to_u64(psn.0), value];
+    let row = [u64::from(psn.0), value];
     saved[at] = row;
 }
 
@@ -219,7 +220,7 @@ pub fn newest(saved: &[[u64; 2]; SAVED], ring: Ring, psn: Psn) -> Option<u64>
     if SAVED < ring.count {
         return None;
     }
-    newest_of(saved, ring.head, ring.count, number::u32_to_u64(psn.0))
+    newest_of(saved, ring.head, ring.count, u64::from(psn.0))
 }
 
 // Of the first n rows of a ring, looking at the last first.

@@ -65,7 +65,7 @@ fn following_psn(f: Following) -> u64
     ensures { result ≡ following_psn f }
 {
     match f {
-        Following::Next(psn) => number::u32_to_u64(psn.0),
+        Following::Next(psn) => u64::from(psn.0),
         Following::Refused(_) => 0,
     }
 }

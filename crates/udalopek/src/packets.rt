@@ -8,15 +8,14 @@ use responder_spec::Completion;
 use table::Tables;
 
 // The report to the host: bytes to send, and the completion.
+#[tactic(auto, unfolding(udalopek_spec::specs::Packets::report_words))]
 fn report_words(outgoing: usize, c: Completion) -> [u64; 6]
     ensures { result ≡ report_words outgoing c }
 {
-    let s = number::usize_to_u64(outgoing);
-    let some = number::bool_to_u64(c.some);
-    let n = number::usize_to_u64(c.length);
-    let i = number::bool_to_u64(c.immediate);
-    let v = number::u32_to_u64(c.value);
-    [s, some, c.number, n, i, v]
+    let some = u64::from(c.some);
+    let i = u64::from(c.immediate);
+    let v = u64::from(c.value);
+    [outgoing as u64, some, c.number, c.length as u64, i, v]
 }
 
 // Takes a packet: as responder::inbound, but that what is left goes into the words, in place. Everything that takes the
@@ -73,7 +72,7 @@ pub extern "C" fn udalopek_next_response(
         return header::OUT_OF_RANGE;
     };
     let got = responder::next_response(said(words), mem, out);
-    *report = [number::usize_to_u64(got.outgoing)];
+    *report = [got.outgoing as u64];
     let number = u8::from(got.status);
     if number == 0 {
         left::put_read(words, got.pair.read);

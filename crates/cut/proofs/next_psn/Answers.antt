@@ -1,5 +1,3 @@
-use Rattle.cut_spec.proofs.Steps.{count-passed}
-use native.Mathlib.Omega.{arith}
 use Rattle.header.proofs.Writes.{told}
 use Rattle.cut_spec.proofs.Answers.{next-numbers}
 use borrow.Author.Tests.{eq-eqb, le-leb, lt-leb, ne_eqb}
@@ -21,13 +19,6 @@ returns-then-code-ne0 c =
     let all = told following_number _ _ _ (next-numbers A.request A.n A.pmtu A.first)
     (simp (lt-leb _ _ c.if-first-ge-SPACE.false, ← c.message_length-whole.ensures, ← c.length_refusal-code.ensures, ne_eqb _ _ c.if-code-ne0.true)) in
     record { value = all.0; result_value = all.1 }
-
-pub overflow_cast-count : goal.overflow_cast-count
-overflow_cast-count c =
-    omega (
-      arith,
-      count-passed _ c.args.pmtu _ _ c.length_refusal-code.ensures c.if-code-ne0.false c.count-count.ensures,
-    )
 
 pub returns : goal.returns
 unfolding next_answer next_refusal following_by next_psn psns_of

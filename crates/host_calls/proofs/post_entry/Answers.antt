@@ -15,12 +15,12 @@ returns-then-bad c = record { value = simp (ne_eqb _ _ c.if-pair-eq-ERROR.false,
 
 pub returns-then-off : goal.returns-then-off
 unfolding posted post_entries post_status executed status_number
-returns-then-off c = record { value = simp (ne_eqb _ _ c.if-pair-eq-ERROR.false, halves, ← c.numbers_unsound-numbers.ensures, ← c.work_unsound-bad.ensures, c.if-bad.false, ← c.usize_to_u64.ensures, ← c.outside-off.ensures, c.if-off.true, ← c.outcome-then-off.ensures); entries_after = simp (ne_eqb _ _ c.if-pair-eq-ERROR.false, halves, ← c.numbers_unsound-numbers.ensures, ← c.work_unsound-bad.ensures, c.if-bad.false, ← c.usize_to_u64.ensures, ← c.outside-off.ensures, c.if-off.true, ← c.outcome-then-off.ensures) }
+returns-then-off c = record { value = simp (ne_eqb _ _ c.if-pair-eq-ERROR.false, halves, ← c.numbers_unsound-numbers.ensures, ← c.work_unsound-bad.ensures, c.if-bad.false, ← c.outside-off.ensures, c.if-off.true, ← c.outcome-then-off.ensures); entries_after = simp (ne_eqb _ _ c.if-pair-eq-ERROR.false, halves, ← c.numbers_unsound-numbers.ensures, ← c.work_unsound-bad.ensures, c.if-bad.false, ← c.outside-off.ensures, c.if-off.true, ← c.outcome-then-off.ensures) }
 
 pub returns-then-count-ge-ENTRIES : goal.returns-then-count-ge-ENTRIES
 unfolding posted post_entries post_status executed status_number
-returns-then-count-ge-ENTRIES c = record { value = simp (tested, c.if-pair-eq-ERROR.false, halves, ← c.numbers_unsound-numbers.ensures, ← c.work_unsound-bad.ensures, c.if-bad.false, ← c.usize_to_u64.ensures, ← c.outside-off.ensures, c.if-off.false, c.if-count-ge-ENTRIES.true, ← c.outcome-then-count-ge-ENTRIES.ensures); entries_after = simp (tested, c.if-pair-eq-ERROR.false, halves, ← c.numbers_unsound-numbers.ensures, ← c.work_unsound-bad.ensures, c.if-bad.false, ← c.usize_to_u64.ensures, ← c.outside-off.ensures, c.if-off.false, c.if-count-ge-ENTRIES.true, ← c.outcome-then-count-ge-ENTRIES.ensures) }
+returns-then-count-ge-ENTRIES c = record { value = simp (tested, c.if-pair-eq-ERROR.false, halves, ← c.numbers_unsound-numbers.ensures, ← c.work_unsound-bad.ensures, c.if-bad.false, ← c.outside-off.ensures, c.if-off.false, c.if-count-ge-ENTRIES.true, ← c.outcome-then-count-ge-ENTRIES.ensures); entries_after = simp (tested, c.if-pair-eq-ERROR.false, halves, ← c.numbers_unsound-numbers.ensures, ← c.work_unsound-bad.ensures, c.if-bad.false, ← c.outside-off.ensures, c.if-off.false, c.if-count-ge-ENTRIES.true, ← c.outcome-then-count-ge-ENTRIES.ensures) }
 
 pub returns : goal.returns
 unfolding posted post_entries post_status executed status_number
-returns c = record { value = simp (tested, c.if-pair-eq-ERROR.false, halves, ← c.numbers_unsound-numbers.ensures, ← c.work_unsound-bad.ensures, c.if-bad.false, ← c.usize_to_u64.ensures, ← c.outside-off.ensures, c.if-off.false, c.if-count-ge-ENTRIES.false, ← c.entry_slot-at.ensures.value, ← c.entry_row-row.ensures, ← c.outcome-2.ensures); entries_after = simp (tested, c.if-pair-eq-ERROR.false, halves, ← c.numbers_unsound-numbers.ensures, ← c.work_unsound-bad.ensures, c.if-bad.false, ← c.usize_to_u64.ensures, ← c.outside-off.ensures, c.if-off.false, c.if-count-ge-ENTRIES.false, ← c.entry_slot-at.ensures.value, ← c.entry_row-row.ensures, ← c.outcome-2.ensures) }
+returns c = record { value = simp (tested, c.if-pair-eq-ERROR.false, halves, ← c.numbers_unsound-numbers.ensures, ← c.work_unsound-bad.ensures, c.if-bad.false, ← c.outside-off.ensures, c.if-off.false, c.if-count-ge-ENTRIES.false, ← c.entry_slot-at.ensures.value, ← c.entry_row-row.ensures, ← c.outcome-2.ensures); entries_after = simp (tested, c.if-pair-eq-ERROR.false, halves, ← c.numbers_unsound-numbers.ensures, ← c.work_unsound-bad.ensures, c.if-bad.false, ← c.outside-off.ensures, c.if-off.false, c.if-count-ge-ENTRIES.false, ← c.entry_slot-at.ensures.value, ← c.entry_row-row.ensures, ← c.outcome-2.ensures) }

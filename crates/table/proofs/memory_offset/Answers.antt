@@ -8,4 +8,4 @@ returns-then-needed-eq0 c = simp (eq-eqb _ _ c.if-needed-eq0.true)
 
 pub returns : goal.returns
 unfolding memory_offset
-returns c = simp (ne_eqb _ _ c.if-needed-eq0.false, ← c.saturating_sub_u64-skip.ensures)
+returns c = simp (ne_eqb _ _ c.if-needed-eq0.false, ← c.saturating_sub-skip.ensures)

@@ -8,4 +8,4 @@ returns-then-ring-gt-SAVED c = simp (lt-ltb _ _ c.if-ring-gt-SAVED.true)
 
 pub returns : goal.returns
 unfolding newest_saved
-returns c = simp (le-ltb _ _ c.if-ring-gt-SAVED.false, ← c.u32_to_u64.ensures.value, ← c.newest_of.ensures)
+returns c = simp (le-ltb _ _ c.if-ring-gt-SAVED.false, ← c.from.ensures, ← c.newest_of.ensures)

@@ -7,10 +7,10 @@ use Rattle.table.proofs.region_of.Goals as goal
 pub returns-in-Some : goal.returns-in-Some
 unfolding region_of
 returns-in-Some c =
-    let found = found-some (key_row c.u32_to_u64.result c.args.regions.now) c.in-Some.i (sym c.in-Some.is ∙ c.key_row.ensures) in
-    simp (← c.u32_to_u64.ensures.value, lt-ltb _ _ found.1, found.0)
+    let found = found-some (key_row c.from.result c.args.regions.now) c.in-Some.i (sym c.in-Some.is ∙ c.key_row.ensures) in
+    simp (← c.from.ensures, lt-ltb _ _ found.1, found.0)
 
 pub returns-in-None : goal.returns-in-None
 unfolding region_of
 returns-in-None c =
-    simp (← c.u32_to_u64.ensures.value, le-ltb _ _ (found-none (key_row c.u32_to_u64.result c.args.regions.now) (sym c.in-None.is ∙ c.key_row.ensures)))
+    simp (← c.from.ensures, le-ltb _ _ (found-none (key_row c.from.result c.args.regions.now) (sym c.in-None.is ∙ c.key_row.ensures)))

@@ -4,4 +4,4 @@ use Rattle.table.proofs.save.Goals as goal
 
 pub returns : goal.returns
 unfolding saved_rows saved_slot
-returns c = simp (← c.slot-at.ensures.value, ← c.u32_to_u64.ensures.value)
+returns c = simp (← c.slot-at.ensures.value, ← c.from.ensures)

@@ -28,4 +28,4 @@ returns-then-length-gt-LIMIT c =
 pub returns : goal.returns
 unfolding message_unsound write_unsound
 returns c =
-    simp (tested, c.if-kind-eq-CLOSED.false, c.if-kind-eq-SEND.false, eq-eqb _ _ c.if-kind-ne-WRITE.false, c.if-length-stored.false, c.if-length-gt-LIMIT.false, ← c.usize_to_u64.ensures, ← c.past_top.ensures)
+    simp (tested, c.if-kind-eq-CLOSED.false, c.if-kind-eq-SEND.false, eq-eqb _ _ c.if-kind-ne-WRITE.false, c.if-length-stored.false, c.if-length-gt-LIMIT.false, ← c.past_top.ensures)

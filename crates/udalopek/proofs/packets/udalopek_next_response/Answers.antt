@@ -32,7 +32,7 @@ returns-else-number-eq0 c =
       value = n ∙ second _ 34 _ l;
       pair_after = w.same ∙ undrained-words A.pair.now l _ _ (undone _ _ n c.if-number-eq0.false);
       out_after = c.next_response-got.ensures.out_after ∙ ap (λ x. next_out x A.mem.now A.out.now) q ∙ second _ _ _ l;
-      report_after = ap (λ k. k ∷ []) (c.usize_to_u64.ensures ∙ ap (λ x. x.outgoing) e) ∙ second _ _ _ l;
+      report_after = ap (λ x. x.outgoing ∷ []) e ∙ second _ _ _ l;
     }
 
 pub returns-then-number-eq0 : goal.returns-then-number-eq0
@@ -50,5 +50,5 @@ returns-then-number-eq0 c =
           drained-words A.pair.now l A.mem.now A.out.now (done _ _ n c.if-number-eq0.true) _
           (c.put_read.ensures ∙ (λ i. read_put (w.same i) (e i).pair.read));
       out_after = c.next_response-got.ensures.out_after ∙ ap (λ x. next_out x A.mem.now A.out.now) q ∙ second _ _ _ l;
-      report_after = ap (λ k. k ∷ []) (c.usize_to_u64.ensures ∙ ap (λ x. x.outgoing) e) ∙ second _ _ _ l;
+      report_after = ap (λ x. x.outgoing ∷ []) e ∙ second _ _ _ l;
     }

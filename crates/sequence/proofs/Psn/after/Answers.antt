@@ -1,5 +1,0 @@
-use Rattle.sequence.proofs.Circle.{reduced}
-use Rattle.sequence.proofs.Psn.after.Goals as goal
-
-pub returns : goal.returns
-returns c = λ i. record { 0 = reduced c.args.self.0 c.args.n i }
