@@ -3,7 +3,7 @@ ghost use Rattle.std.specs.Prelude.{◌≡◌, true, take};
 
 use crate::print::{decimal_line, size};
 use crate::{fields, words};
-use header::{Answer, Extension, Header, HeaderRead};
+use header::{Extension, Header, HeaderRead};
 use std::io::{self, Write};
 
 fn list_extension<W: Write>(out: &mut W, e: &Extension) -> io::Result<()> {
@@ -71,8 +71,8 @@ fn write_back<W: Write>(out: &mut W, h: Header, headers: usize, p: &[u8]) -> io:
     write!(out, "  written back  ")?;
     let mut written = [0u8; 40];
     match encode::write(h, &mut written) {
-        Answer::Done(n) => list_written(out, &written, n, headers, p),
-        Answer::Refused(code) => decimal_line(out, "refused ", code as u64),
+        Ok(n) => list_written(out, &written, n, headers, p),
+        Err(refusal) => decimal_line(out, "refused ", u64::from(u8::from(refusal))),
     }
 }
 

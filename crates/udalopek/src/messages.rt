@@ -3,8 +3,8 @@ ghost use Rattle.std.specs.Prelude.{◌≡◌};
 ghost use Rattle.udalopek_spec.specs.Cutting.{request_of, following_psn, cut_report, cut_number, cut_output, cut_words};
 
 use crate::headers::{bytes_written, refusal_number};
-use cut_spec::{Connection, Following, Request, Target};
-use header::{AtomicEth, Reth};
+use cut_spec::{Connection, Request, Target};
+use header::{AtomicEth, Refusal, Reth};
 use sequence::Psn;
 
 // The kinds of request that a caller names.
@@ -67,12 +67,12 @@ fn request_of(
     Request::FetchAdd(target, swap)
 }
 
-fn following_psn(f: Following) -> u64
-    ensures { result ≡ following_psn f }
+fn following_psn(next: Result<Psn, Refusal>) -> u64
+    ensures { result ≡ following_psn next }
 {
-    match f {
-        Following::Next(psn) => number::u32_to_u64(psn.0),
-        Following::Refused(_) => 0,
+    match next {
+        Ok(psn) => number::u32_to_u64(psn.0),
+        Err(_) => 0,
     }
 }
 
