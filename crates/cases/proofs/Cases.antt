@@ -6,7 +6,7 @@ use Rattle.opcode.specs.Opcode.{kind_of, place_in, send_write_follows, follows_o
 use Rattle.header.specs.Read as read
 use Rattle.header.specs.Read.{bth_of, extension_of, header_of, bad_length, other_service}
 use Rattle.header.specs.Write.{bth_bytes, aeth_bytes, extension_bytes, header_bytes, header_length, answer_by}
-use Rattle.header.specs.Check.{full_member, pkeys_match, wrong_service, is_response, beyond_service, header_checks, admitted}
+use Rattle.header.specs.Check.{full_member, pkeys_match, wrong_service, is_response, beyond_service, header_checks, admitted, header_reason}
 use Rattle.memory.specs.Memory.{overwrite, store}
 use Rattle.memory.specs.Word.{low_bytes, low_number, word_at, store_word, fetch_added}
 use Rattle.packet.specs.Packet.{pad_of, packet_bytes}
@@ -19,8 +19,8 @@ use Rattle.pair.specs.Pair.{fresh_pair}
 use Rattle.pair.specs.Sound.{setup_unfit, setup_unsound, counters_unsound, ring_unsound, message_unsound, read_unsound, pair_unsound}
 use Rattle.pair.specs.Host.{set_up_status, set_up, set_up_regions, ready_status, made_ready, add_status, add_regions, post_status, posted, post_entries}
 use Rattle.pair.specs.Calls.{begun, called, called_all}
-use Rattle.cut_spec.specs.Message.{carries, carried, carried_length, message_length, packets_of, length_refusal, packets_answer, responses_answer}
-use Rattle.cut_spec.specs.Next.{psns_of, next_psn, next_refusal, following_by, next_answer}
+use Rattle.cut_spec.specs.Message.{carries, carried, carried_length, message_length, packets_of, check_length, packets_answer, responses_answer}
+use Rattle.cut_spec.specs.Next.{psns_of, next_psn, check_next, next_answer}
 use Rattle.cut_spec.specs.Cut.{low_for, extension_for, bth_at, size_at, header_at, payload_at, cut_bytes}
 use Rattle.request_spec.specs.Packet.{operands_of, packet_of}
 use Rattle.request_spec.specs.Verdict.{carrying, out_of_sequence, not_enabled, pad_early, over_limit, needs_entry}
@@ -53,23 +53,23 @@ unfolding class_at psn_class class_number found said
 w4 = refl
 
 w5 : found W5 ≡ said W5
-unfolding opcode.place_of place_in low_class class_of answer_by pmtu_fits pieces place_at carries carried_length message_length packets_of length_refusal packets_answer low_for bth_at header_at count found said
+unfolding opcode.place_of place_in low_class class_of pmtu_fits pieces place_at carries carried_length message_length packets_of check_length packets_answer low_for bth_at header_at count found said
 w5 = refl
 
 w6 : found W6 ≡ said W6
-unfolding answer_by pmtu_fits pieces carries carried_length message_length packets_of length_refusal packets_answer count found said
+unfolding pmtu_fits pieces carries carried_length message_length packets_of check_length packets_answer count found said
 w6 = refl
 
 w7 : found W7 ≡ said W7
-unfolding answer_by pad_of pmtu_fits pieces piece_at part_at carries carried carried_length message_length packets_of length_refusal packets_answer bth_at size_at header_at payload_at count found said
+unfolding pad_of pmtu_fits pieces piece_at part_at carries carried carried_length message_length packets_of check_length packets_answer bth_at size_at header_at payload_at count found said
 w7 = refl
 
 w8 : found W8 ≡ said W8
-unfolding answer_by pmtu_fits pieces message_length length_refusal responses_answer psns_of next_psn next_refusal following_by next_answer count next found said
+unfolding pmtu_fits pieces message_length check_length responses_answer psns_of next_psn check_next next_answer count next found said
 w8 = refl
 
 w9 : found W9 ≡ said W9
-unfolding answer_by pmtu_fits pieces carries carried_length message_length packets_of length_refusal packets_answer count found said
+unfolding pmtu_fits pieces carries carried_length message_length packets_of check_length packets_answer count found said
 w9 = refl
 
 w10 : found W10 ≡ said W10

@@ -1,5 +1,5 @@
 -- The rules' cases W1 to W12, in one table: what the definitions give, and the figures that the rules state.
-use Rattle.std.specs.Prelude.{ℕ, zero, suc, ◌+◌, ◌-◌, ◌*◌, ◌^◌, ◌≡◌, true, List, [], ◌∷◌, ◌++◌, length, replicate}
+use Rattle.std.specs.Prelude.{ℕ, zero, suc, ◌+◌, ◌-◌, ◌*◌, ◌^◌, ◌≡◌, true, List, [], ◌∷◌, ◌++◌, Result, Ok, Err, length, replicate}
 use Rattle.responder_spec.specs.Arrival.{Left, arriving_at}
 use Rattle.sequence.specs.Sequence.{space, distance, psn_class}
 use Rattle.sequence.specs.declared.Psn.{Psn}
@@ -9,8 +9,7 @@ use Rattle.opcode.specs.Opcode.{class_of}
 use Rattle.opcode.specs.Service as Service
 use Rattle.header.specs.Bytes.{bit}
 use Rattle.header.specs.Check.{pkeys_match}
-use Rattle.header.specs.declared.Answer.{Answer}
-use Rattle.header.specs.declared.Answer.TheVariants as answer
+use Rattle.header.specs.declared.Refusal.{Refusal}
 use Rattle.memory.specs.Word.{word_at, fetch_added}
 use Rattle.table.specs.Table.{no_region}
 use Rattle.table.specs.View.{region_of}
@@ -25,8 +24,6 @@ use Rattle.cut_spec.specs.Next.{next_answer}
 use Rattle.cut_spec.specs.Cut.{header_at, payload_at, cut_bytes}
 use Rattle.cut_spec.specs.declared.Connection.{Connection}
 use Rattle.cut_spec.specs.declared.Request.TheVariants.{Send, Read}
-use Rattle.cut_spec.specs.declared.Following.{Following}
-use Rattle.cut_spec.specs.declared.Following.TheVariants as following
 use Rattle.responder_spec.specs.Inbound.{inbound}
 use Rattle.responder_spec.specs.declared.Completion.{Completion}
 
@@ -40,14 +37,14 @@ class_number Ahead = 1
 class_number Duplicate = 2
 
 -- a count of packets; a refusal is 0, which no message has
-unfoldable pub count : Answer → ℕ
-count (answer.Done n) = n
-count (answer.Refused refusal) = 0
+unfoldable pub count : Result ℕ Refusal → ℕ
+count (Ok n) = n
+count (Err refusal) = 0
 
 -- the next message's PSN; a refusal is a number that no PSN has
-unfoldable pub next : Following → ℕ
-next (following.Next psn) = psn.0
-next (following.Refused refusal) = space
+unfoldable pub next : Result Psn Refusal → ℕ
+next (Ok psn) = psn.0
+next (Err refusal) = space
 
 -- a packet number
 abbrev pub at : ℕ → Psn

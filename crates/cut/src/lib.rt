@@ -3,14 +3,14 @@
 
 mod shape;
 
-ghost use Rattle.std.specs.Prelude.{◌≡◌, length};
+ghost use Rattle.std.specs.Prelude.{◌≡◌, Ok, length};
 ghost use Rattle.header.specs.Write.{answer_number};
-ghost use Rattle.cut_spec.specs.Message.{carries, carried_length, message_length, length_refusal, packets_answer, responses_answer};
-ghost use Rattle.cut_spec.specs.Next.{next_refusal, next_answer, following_number};
-ghost use Rattle.cut_spec.specs.Cut.{unserved, cut_unfit, cut_refusal, header_at, cut_answer, cut_written, cut_out};
+ghost use Rattle.cut_spec.specs.Message.{carries, carried_length, message_length, check_length, length_refusal, packets_answer, responses_answer};
+ghost use Rattle.cut_spec.specs.Next.{next_refusal, next_answer};
+ghost use Rattle.cut_spec.specs.Cut.{unserved, cut_unfit, check_cut, header_at, cut_answer, cut_written, cut_out};
 
-use cut_spec::{Connection, Following, Request};
-use header::{Answer, Header};
+use cut_spec::{Connection, Request};
+use header::{Header, Refusal};
 use sequence::Psn;
 
 // Whether the packets carry the message's bytes.
@@ -54,64 +54,52 @@ fn message_length(request: Request, n: usize) -> usize
     }
 }
 
-// Which refusal a length gets at a PMTU, or 0.
-fn length_refusal(n: usize, pmtu: usize) -> u8
-    ensures { result ≡ length_refusal n pmtu }
+// Which refusal a length gets at a PMTU, if any.
+fn check_length(n: usize, pmtu: usize) -> Result<(), Refusal>
+    ensures { result ≡ check_length n pmtu }
 {
     let unfit = pmtu::pmtu_unfit(pmtu);
     if unfit {
-        return header::BAD_NUMBER;
+        return Err(Refusal::BadNumber);
     }
     if cut_spec::MESSAGE_LIMIT < n {
-        return header::OUT_OF_RANGE;
+        return Err(Refusal::OutOfRange);
     }
-    0
+    Ok(())
 }
 
 // How many packets a message has; n is the length of its bytes, if it has bytes.
-pub fn packets(request: Request, n: usize, pmtu: usize) -> Answer
+pub fn packets(request: Request, n: usize, pmtu: usize) -> Result<usize, Refusal>
     ensures value { result ≡ packets_answer request n pmtu }
     ensures result_value { answer_number result ≡ length_refusal (message_length request n) pmtu }
 {
     let whole = message_length(request, n);
-    let code = length_refusal(whole, pmtu);
-    if code != 0 {
-        return Answer::Refused(code);
-    }
+    check_length(whole, pmtu)?;
     let carried = carried_length(request, n);
-    let count = pmtu::count(carried, pmtu);
-    Answer::Done(count)
+    Ok(pmtu::count(carried, pmtu))
 }
 
 // How many responses a READ of n bytes has.
-pub fn responses(n: usize, pmtu: usize) -> Answer
+pub fn responses(n: usize, pmtu: usize) -> Result<usize, Refusal>
     ensures value { result ≡ responses_answer n pmtu }
     ensures result_value { answer_number result ≡ length_refusal n pmtu }
 {
-    let code = length_refusal(n, pmtu);
-    if code != 0 {
-        return Answer::Refused(code);
-    }
-    let count = pmtu::count(n, pmtu);
-    Answer::Done(count)
+    check_length(n, pmtu)?;
+    Ok(pmtu::count(n, pmtu))
 }
 
 // The PSN of the message after this one, whose first packet has the PSN first.
-pub fn next_psn(request: Request, n: usize, pmtu: usize, first: Psn) -> Following
+pub fn next_psn(request: Request, n: usize, pmtu: usize, first: Psn) -> Result<Psn, Refusal>
     ensures value { result ≡ next_answer request n pmtu first }
-    ensures result_value { following_number result ≡ next_refusal (message_length request n) pmtu first.0 }
+    ensures result_value { answer_number result ≡ next_refusal (message_length request n) pmtu first.0 }
 {
     if Psn::SPACE <= first.0 {
-        return Following::Refused(header::BAD_NUMBER);
+        return Err(Refusal::BadNumber);
     }
     let whole = message_length(request, n);
-    let code = length_refusal(whole, pmtu);
-    if code != 0 {
-        return Following::Refused(code);
-    }
+    check_length(whole, pmtu)?;
     let count = pmtu::count(whole, pmtu);
-    let next = first.after(count);
-    Following::Next(next)
+    Ok(first.after(count))
 }
 
 // Whether the service lacks the request: UC has those alone that carry bytes.
@@ -145,30 +133,36 @@ fn unfit(connection: Connection, carrying: bool, first: Psn) -> bool
     unserved(carrying, connection.service)
 }
 
-// Which refusal the cut gets before its output is looked at, or 0.
-fn refusal(connection: Connection, request: Request, n: usize, first: Psn, index: usize) -> u8
-    ensures { result ≡ cut_refusal connection request n first.0 index }
+// Which refusal the cut gets before its output is looked at, if any.
+fn check_cut(
+    connection: Connection,
+    request: Request,
+    n: usize,
+    first: Psn,
+    index: usize,
+) -> Result<(), Refusal>
+    ensures { result ≡ check_cut connection request n first.0 index }
 {
     let carrying = carries(request);
     let bad = unfit(connection, carrying, first);
     if bad {
-        return header::BAD_NUMBER;
+        return Err(Refusal::BadNumber);
     }
     let whole = message_length(request, n);
     if cut_spec::MESSAGE_LIMIT < whole {
-        return header::OUT_OF_RANGE;
+        return Err(Refusal::OutOfRange);
     }
     let carried = carried_length(request, n);
     let count = pmtu::count(carried, connection.pmtu);
     if count <= index {
-        return header::OUT_OF_RANGE;
+        return Err(Refusal::OutOfRange);
     }
-    0
+    Ok(())
 }
 
 // The headers of packet index, of a message that is not refused.
 fn header_at(connection: Connection, request: Request, n: usize, first: Psn, index: usize) -> Header
-    requires { cut_refusal connection request n first.0 index ≡ 0 }
+    requires { check_cut connection request n first.0 index ≡ Ok tt }
     ensures { result ≡ header_at connection request n first index }
 {
     let bytes = carried_length(request, n);
@@ -191,15 +185,12 @@ pub fn cut(
     first: Psn,
     index: usize,
     out: &mut [u8],
-) -> Answer
+) -> Result<usize, Refusal>
     ensures value { result ≡ cut_written connection request message.now first index (length out.old) }
     ensures result_value { answer_number result ≡ cut_answer connection request message.now first index (length out.old) }
     ensures out_after { out.new ≡ cut_out connection request message.now first index out.old }
 {
-    let code = refusal(connection, request, message.len(), first, index);
-    if code != 0 {
-        return Answer::Refused(code);
-    }
+    check_cut(connection, request, message.len(), first, index)?;
     let h = header_at(connection, request, message.len(), first, index);
     let carried = carried_length(request, message.len());
     let part = pmtu::part(carried, connection.pmtu, index);

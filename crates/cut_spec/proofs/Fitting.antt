@@ -1,17 +1,20 @@
 -- The refusals of a cut, by plain facts.
-use Prim.Native.Nat.{ℕ, ◌-◌, ◌≤◌, ◌<◌}
+use Prim.Native.Nat.{ℕ, ◌≤◌, ◌<◌}
 use mathlib.Core.Path.{◌≡◌, refl, sym, ◌∙◌}
 use mathlib.Core.Bool.{Bool, true, false, cond, not, ◌||◌, true≢false}
 use mathlib.Core.Logic.{◌⊎◌, inl, inr}
 use native.Mathlib.Omega.{arith}
 use lib.Dec.{leb, ltb, eqb}
 use borrow.Author.Tests.{ne_eqb, eqb-true, eqb-false, ltb-false, le-ltb, leb-false, lt-leb, le-leb}
+use Rattle.std.specs.Prelude.{Result, Ok, Err, ⊤}
 use Rattle.sequence.specs.Sequence.{space}
 use Rattle.header.specs.Read.{other_service}
+use Rattle.header.specs.declared.Refusal.{Refusal}
+use Rattle.header.specs.declared.Refusal.TheVariants.{OutOfRange, BadNumber}
 use Rattle.pmtu.specs.Pieces.{pmtu_fits}
 use Rattle.pmtu.proofs.Counting.{pmtus}
 use Rattle.cut_spec.specs.Message.{carries, message_length, message_limit, packets_of}
-use Rattle.cut_spec.specs.Cut.{unserved, cut_unfit, cut_refusal}
+use Rattle.cut_spec.specs.Cut.{unserved, cut_unfit, check_cut}
 use Rattle.cut_spec.specs.Claims.{Carrier, InLimit, Fit}
 use Rattle.cut_spec.specs.declared.Connection.{Connection}
 use Rattle.cut_spec.specs.declared.Request.{Request}
@@ -77,42 +80,42 @@ fit c r psn e =
 
 -- the refusals before the output is looked at
 module _ (c : Connection) (r : Request) (n psn i : ℕ) where
-  pub refused-39 : (Fit c r psn → ⊥) → cut_refusal c r n psn i ≡ 39
-  unfolding cut_refusal
-  refused-39 h = go (cut_unfit c (carries r) psn) refl
+  pub refused-unfit : (Fit c r psn → ⊥) → check_cut c r n psn i ≡ Err BadNumber
+  unfolding check_cut
+  refused-unfit h = go (cut_unfit c (carries r) psn) refl
     where
       go : (b : Bool) → cut_unfit c (carries r) psn ≡ b
-          → ◌≡◌ {A = ℕ} (cond b 39 (cond (ltb message_limit (message_length r n)) 34 (cond (leb (packets_of r n c.pmtu) i) 34 0))) 39
+          → ◌≡◌ {A = Result ⊤ Refusal} (cond b (Err BadNumber) (cond (ltb message_limit (message_length r n)) (Err OutOfRange) (cond (leb (packets_of r n c.pmtu) i) (Err OutOfRange) (Ok tt)))) (Err BadNumber)
       go true e = refl
       go false e = absurd (h (fit c r psn e))
 
-  pub refused-34 : Fit c r psn → (InLimit r n → ⊥) ⊎ (packets_of r n c.pmtu ≤ i) → cut_refusal c r n psn i ≡ 34
-  unfolding cut_refusal
-  refused-34 F h = rw (fits c r psn F) (go (ltb message_limit (message_length r n)) refl h)
+  pub refused-over : Fit c r psn → (InLimit r n → ⊥) ⊎ (packets_of r n c.pmtu ≤ i) → check_cut c r n psn i ≡ Err OutOfRange
+  unfolding check_cut
+  refused-over F h = rw (fits c r psn F) (go (ltb message_limit (message_length r n)) refl h)
     where
       go : (b : Bool) → ltb message_limit (message_length r n) ≡ b → (InLimit r n → ⊥) ⊎ (packets_of r n c.pmtu ≤ i)
-          → ◌≡◌ {A = ℕ} (cond b 34 (cond (leb (packets_of r n c.pmtu) i) 34 0)) 34
+          → ◌≡◌ {A = Result ⊤ Refusal} (cond b (Err OutOfRange) (cond (leb (packets_of r n c.pmtu) i) (Err OutOfRange) (Ok tt))) (Err OutOfRange)
       go true e k = refl
       go false e (inl k) = absurd (k (limit-in r n (ltb-false message_limit (message_length r n) e)))
       go false e (inr k) = rw (le-leb (packets_of r n c.pmtu) i k)
 
   -- and what no refusal tells, and needs
-  pub passed : cut_refusal c r n psn i ≡ 0 → Fit c r psn × (message_length r n ≤ message_limit) × (i < packets_of r n c.pmtu)
-  unfolding cut_refusal
+  pub passed : check_cut c r n psn i ≡ Ok tt → Fit c r psn × (message_length r n ≤ message_limit) × (i < packets_of r n c.pmtu)
+  unfolding check_cut
   passed e =
       go (cut_unfit c (carries r) psn) (ltb message_limit (message_length r n)) (leb (packets_of r n c.pmtu) i) refl refl refl e
     where
       go : (x y z : Bool) → cut_unfit c (carries r) psn ≡ x → ltb message_limit (message_length r n) ≡ y
           → leb (packets_of r n c.pmtu) i ≡ z
-          → ◌≡◌ {A = ℕ} (cond x 39 (cond y 34 (cond z 34 0))) 0
+          → ◌≡◌ {A = Result ⊤ Refusal} (cond x (Err BadNumber) (cond y (Err OutOfRange) (cond z (Err OutOfRange) (Ok tt)))) (Ok tt)
           → Fit c r psn × (message_length r n ≤ message_limit) × (i < packets_of r n c.pmtu)
-      go true y z a b d q = absurd (omega arith)
-      go false true z a b d q = absurd (omega arith)
-      go false false true a b d q = absurd (omega arith)
+      go true y z a b d q = absurd cc
+      go false true z a b d q = absurd cc
+      go false false true a b d q = absurd cc
       go false false false a b d q =
           (fit c r psn a, ltb-false message_limit (message_length r n) b, leb-false (packets_of r n c.pmtu) i d)
 
-  pub not-refused : Fit c r psn → InLimit r n → i < packets_of r n c.pmtu → cut_refusal c r n psn i ≡ 0
-  unfolding cut_refusal
+  pub not-refused : Fit c r psn → InLimit r n → i < packets_of r n c.pmtu → check_cut c r n psn i ≡ Ok tt
+  unfolding check_cut
   not-refused F l h =
       rw (fits c r psn F, le-ltb message_limit (message_length r n) (in-limit r n l), lt-leb (packets_of r n c.pmtu) i h)

@@ -7,24 +7,24 @@ use native.Mathlib.Omega.{arith}
 use lib.Dec.{ltb}
 use lib.ListN.{length, take, drop}
 use lib.Seq.{take-nil, drop-nil}
-use borrow.Author.Tests.{ltb-false, lt-leb, ne_eqb}
+use borrow.Author.Tests.{ltb-false, lt-leb}
+use Rattle.std.specs.Prelude.{Result, Ok, Err, ⊤}
 use Rattle.lemmas.proofs.Tests.{not-false, cond-le}
 use Rattle.sequence.specs.Sequence.{space}
 use Rattle.sequence.specs.declared.Psn.{Psn}
 use Rattle.header.specs.Read.{other_service}
-use Rattle.header.specs.Write.{answer_by}
 use Rattle.header.specs.declared.Bth.{Bth}
 use Rattle.header.specs.declared.Extension.{Extension}
 use Rattle.header.specs.declared.Header.{Header}
-use Rattle.header.specs.declared.Answer.{Answer}
-use Rattle.header.specs.declared.Answer.TheVariants.{Refused}
+use Rattle.header.specs.declared.Refusal.{Refusal}
+use Rattle.header.specs.declared.Refusal.TheVariants.{OutOfRange, BadNumber}
 use Rattle.packet.specs.Packet.{packet_written, packet_out}
 use Rattle.pmtu.specs.Pieces.{pmtu_fits, pieces, place_at, piece_at, part_at}
 use Rattle.pmtu.specs.declared.Range.{Range}
 use Rattle.pmtu.proofs.Counting.{pmtus}
 use Rattle.pmtu.proofs.Cuts.{parts, parts_within}
-use Rattle.cut_spec.specs.Message.{carries, carried, carried_length, message_length, message_limit, packets_of, length_refusal}
-use Rattle.cut_spec.specs.Cut.{unserved, cut_unfit, cut_refusal, low_for, extension_for, bth_at, size_at, header_at, payload_at, cut_bytes, cut_answer, cut_written, cut_out}
+use Rattle.cut_spec.specs.Message.{carries, carried, carried_length, message_length, message_limit, packets_of, check_length}
+use Rattle.cut_spec.specs.Cut.{unserved, cut_unfit, check_cut, low_for, extension_for, bth_at, size_at, header_at, payload_at, cut_bytes, cut_written, cut_out}
 use Rattle.cut_spec.specs.Claims.{Fit}
 use Rattle.cut_spec.specs.declared.Connection.{Connection}
 use Rattle.cut_spec.specs.declared.Request.{Request}
@@ -32,19 +32,19 @@ use Rattle.cut_spec.proofs.Bounds.{pieces-bound, index-small, service-small, low
 use Rattle.cut_spec.proofs.Fitting.{known, passed}
 
 -- a length that is not refused
-pub length-passed : (n pmtu : ℕ) → length_refusal n pmtu ≡ 0 → (pmtu_fits pmtu ≡ true) × (n ≤ message_limit)
-unfolding length_refusal
+pub length-passed : (n pmtu : ℕ) → check_length n pmtu ≡ Ok tt → (pmtu_fits pmtu ≡ true) × (n ≤ message_limit)
+unfolding check_length
 length-passed n pmtu e = go (pmtu_fits pmtu) (ltb message_limit n) refl refl e
   where
-    go : (a b : Bool) → pmtu_fits pmtu ≡ a → ltb message_limit n ≡ b → ◌≡◌ {A = ℕ} (cond (not a) 39 (cond b 34 0)) 0
+    go : (a b : Bool) → pmtu_fits pmtu ≡ a → ltb message_limit n ≡ b → ◌≡◌ {A = Result ⊤ Refusal} (cond (not a) (Err BadNumber) (cond b (Err OutOfRange) (Ok tt))) (Ok tt)
         → (pmtu_fits pmtu ≡ true) × (n ≤ message_limit)
-    go false b x y z = absurd (omega arith)
-    go true true x y z = absurd (omega arith)
+    go false b x y z = absurd cc
+    go true true x y z = absurd cc
     go true false x y z = (x, ltb-false message_limit n y)
 
-pub count-passed : (n pmtu code count : ℕ) → code ≡ length_refusal n pmtu → code ≡ 0 → count ≡ pieces n pmtu → count ≤ 4096
-count-passed n pmtu code count e z p =
-    let L = length-passed n pmtu (sym e ∙ z) in
+pub count-passed : (n pmtu count : ℕ) → check_length n pmtu ≡ Ok tt → count ≡ pieces n pmtu → count ≤ 4096
+count-passed n pmtu count e p =
+    let L = length-passed n pmtu e in
     subst (λ k. k ≤ 4096) (sym p) (pieces-bound n pmtu L.0 L.1)
 
 -- the last of the tests on numbers: whether the service has the request
@@ -56,7 +56,7 @@ unfit-last c bytes psn u o w e f g h d p q =
     rw (not-false (pmtu_fits c.pmtu) u e f, sym g ∙ h, lt-leb space c.dest d, lt-leb space psn p) q
 
 -- the header: what the numbers of a cut that is not refused are
-module _ (c : Connection) (r : Request) (n : ℕ) (first : Psn) (i : ℕ) (e : cut_refusal c r n first.0 i ≡ 0) where
+module _ (c : Connection) (r : Request) (n : ℕ) (first : Psn) (i : ℕ) (e : check_cut c r n first.0 i ≡ Ok tt) where
   P : Fit c r first.0 × (message_length r n ≤ message_limit) × (i < packets_of r n c.pmtu)
   P = passed c r n first.0 i e
 
@@ -79,11 +79,11 @@ header_is c r n first i bytes count place low whole part bth x o k p s l b w y =
     simp (y, w, b, l, s, p, k, o)
 
 -- the packet: its part of the message, written under the header h
-pub refused : (c : Connection) (r : Request) (d out : List ℕ) (first : Psn) (i code : ℕ)
-    → code ≡ cut_refusal c r (length d) first.0 i → (code ≡ 0 → ⊥)
-    → (Refused code ≡ cut_written c r d first i (length out)) × (out ≡ cut_out c r d first i out)
-unfolding cut_written cut_out cut_answer answer_by
-refused c r d out first i code e n = simp (← e, ne_eqb code 0 n) (refl, refl)
+pub refused : (c : Connection) (r : Request) (d out : List ℕ) (first : Psn) (i : ℕ) (x : Refusal)
+    → check_cut c r (length d) first.0 i ≡ Err x
+    → (Err x ≡ cut_written c r d first i (length out)) × (out ≡ cut_out c r d first i out)
+unfolding cut_written cut_out
+refused c r d out first i x e = rw e (refl, refl)
 
 pub length-carried : (r : Request) (d : List ℕ) → length (carried r d) ≡ carried_length r (length d)
 unfolding carried carried_length
@@ -122,16 +122,15 @@ range_inside r n carried pmtu i part o s =
       subst (λ x. x.end ≤ n) (sym s) (omega (arith, W.1)),
     )
 
-pub whole : (c : Connection) (r : Request) (d out : List ℕ) (first : Psn) (i code bytes : ℕ) (h : Header) (part : Range) (a : Answer)
-    (w : List ℕ) → code ≡ cut_refusal c r (length d) first.0 i → code ≡ 0 → h ≡ header_at c r (length d) first i
+pub whole : (c : Connection) (r : Request) (d out : List ℕ) (first : Psn) (i bytes : ℕ) (h : Header) (part : Range)
+    (a : Result ℕ Refusal) (w : List ℕ) → check_cut c r (length d) first.0 i ≡ Ok tt → h ≡ header_at c r (length d) first i
     → bytes ≡ carried_length r (length d)
     → part ≡ part_at bytes c.pmtu i
     → a ≡ packet_written h (length (part_of d part)) (length out)
     → w ≡ packet_out h (part_of d part) out
     → (a ≡ cut_written c r d first i (length out)) × (w ≡ cut_out c r d first i out)
-unfolding cut_written cut_out cut_answer cut_bytes payload_at packet_written packet_out
-whole c r d out first i code bytes h part a w e z k o s x y =
+unfolding cut_written cut_out cut_bytes payload_at packet_out
+whole c r d out first i bytes h part a w e k o s x y =
     let p : part_of d part ≡ piece_at (carried r d) c.pmtu i =
     ap (part_of d) (s ∙ ap (λ n. part_at n c.pmtu i) o) ∙ part-carried r d c.pmtu i in
-    let q : cut_refusal c r (length d) first.0 i ≡ 0 = sym e ∙ z in
-    (simp (x, k, p, q), simp (y, k, p, q))
+    (simp (x, k, p, e), simp (y, k, p, e))

@@ -6,14 +6,15 @@ use mathlib.Core.List.{List, [], ◌∷◌, ◌++◌}
 use mathlib.Core.Logic.{◌⊎◌, inl, inr}
 use native.Mathlib.Omega.{arith}
 use lib.ListN.{length, take, drop}
+use Rattle.std.specs.Prelude.{Ok, Err}
 use Rattle.sequence.specs.declared.Psn.{Psn}
 use Rattle.opcode.specs.Opcode.{low_of}
-use Rattle.header.specs.Write.{header_fits, answer_by}
+use Rattle.header.specs.Write.{header_fits}
 use Rattle.header.specs.declared.Header.{Header}
-use Rattle.header.specs.declared.Answer.TheVariants.{Done}
+use Rattle.header.specs.declared.Refusal.{Refusal}
+use Rattle.header.specs.declared.Refusal.TheVariants.{OutOfRange, OutputShort, BadNumber}
 use Rattle.header.proofs.Checks.{admits}
-use Rattle.header.proofs.Writes.{number_by}
-use Rattle.packet.specs.Packet.{pad_of, packet_length, packet_answer, payload_of}
+use Rattle.packet.specs.Packet.{pad_of, packet_length, packet_written, payload_of}
 use Rattle.packet.specs.Claims.{Found}
 use Rattle.packet.proofs.Bytes.{length-packet}
 use Rattle.packet.proofs.ReadBack.{found, none}
@@ -22,7 +23,7 @@ use Rattle.pmtu.specs.Pieces.{pieces, place_at, piece_at, joined}
 use Rattle.pmtu.proofs.Counting.{pmtus, pmtu-bounds}
 use Rattle.pmtu.proofs.Cuts.{joins, full, rest, at_most}
 use Rattle.cut_spec.specs.Message.{carries, carried, carried_length, packets_of}
-use Rattle.cut_spec.specs.Cut.{low_for, bth_at, header_at, payload_at, cut_bytes, cut_refusal, cut_answer, cut_written, cut_out}
+use Rattle.cut_spec.specs.Cut.{low_for, bth_at, header_at, payload_at, cut_bytes, check_cut, cut_answer, cut_written, cut_out}
 use Rattle.cut_spec.specs.Claims.{Carrier, Fit, Cuttable, Refuses, CutUnfit, CutOver, CutShort, Cuts}
 use Rattle.cut_spec.specs.Claims.{CutNumbers, CutReads, CutAdmitted, CutPayload, CutPad, CutJoins, CutFull}
 use Rattle.cut_spec.specs.Claims.{CutLast, CutEmpty}
@@ -33,7 +34,7 @@ use Rattle.pmtu.proofs.Cuts.{place-bound}
 use Rattle.cut_spec.proofs.Bounds.{immediate-bound, low-bound}
 use Rattle.cut_spec.proofs.Steps.{refused, length-carried}
 use Rattle.cut_spec.proofs.Shapes.{place-said, carrier-carries, service-is, low-is}
-use Rattle.cut_spec.proofs.Fitting.{refused-39, refused-34, not-refused}
+use Rattle.cut_spec.proofs.Fitting.{refused-unfit, refused-over, not-refused}
 use Rattle.cut_spec.proofs.Fits.{none-carried, size_is, header-fits, packet-short}
 
 -- what holds of packet i of a sound message
@@ -62,55 +63,47 @@ module _ (c : Connection) (r : Request) (d : List ℕ) (first : Psn) (i : ℕ) (
   reads = found (header_at c r (length d) first i) (payload_at c r d i) good pad short
 
 -- what is refused before the output is looked at
-early : (c : Connection) (r : Request) (d : List ℕ) (first : Psn) (i : ℕ) (out : List ℕ) (k : ℕ)
-    → cut_refusal c r (length d) first.0 i ≡ k → (k ≡ 0 → ⊥) → Refuses c r d first i out k
-early c r d first i out k e n =
-    let R = refused c r d out first i k (sym e) n in
+early : (c : Connection) (r : Request) (d : List ℕ) (first : Psn) (i : ℕ) (out : List ℕ) (x : Refusal)
+    → check_cut c r (length d) first.0 i ≡ Err x → Refuses c r d first i out x
+early c r d first i out x e =
+    let R = refused c r d out first i x e in
     record { answer = sym R.0; output = sym R.1 }
 
 pub cut-unfit : CutUnfit
-cut-unfit c r d first i out h = early c r d first i out 39 (refused-39 c r (length d) first.0 i h) (λ z. omega arith)
+cut-unfit c r d first i out h = early c r d first i out BadNumber (refused-unfit c r (length d) first.0 i h)
 
 pub cut-over : CutOver
-cut-over c r d first i out F h = early c r d first i out 34 (refused-34 c r (length d) first.0 i F h) (λ z. omega arith)
+cut-over c r d first i out F h = early c r d first i out OutOfRange (refused-over c r (length d) first.0 i F h)
 
 -- and after: as the packet writer answers
-late : (c : Connection) (r : Request) (d : List ℕ) (first : Psn) (i room : ℕ) → cut_refusal c r (length d) first.0 i ≡ 0
-    → cut_answer c r d first i room ≡ packet_answer (header_at c r (length d) first i) (length (payload_at c r d i)) room
-unfolding cut_answer
-late c r d first i room e = rw e
-
-through : (c : Connection) (r : Request) (d : List ℕ) (first : Psn) (i : ℕ) → Cuttable c r (length d) first.0
-    → i < packets_of r (length d) c.pmtu → cut_refusal c r (length d) first.0 i ≡ 0
-through c r d first i S l = not-refused c r (length d) first.0 i S.fit S.limit l
+late : (c : Connection) (r : Request) (d : List ℕ) (first : Psn) (i room : ℕ) → Cuttable c r (length d) first.0
+    → i < packets_of r (length d) c.pmtu
+    → cut_written c r d first i room ≡ packet_written (header_at c r (length d) first i) (length (payload_at c r d i)) room
+unfolding cut_written
+late c r d first i room S l = rw (not-refused c r (length d) first.0 i S.fit S.limit l)
 
 pub cut_short : CutShort
-unfolding h cut_written cut_out answer_by
+unfolding h cut_out
 cut_short c r d first i out S l room =
     let H = header_at c r (length d) first i in
-    let e : cut_answer c r d first i (length out) ≡ 35 =
-    late c r d first i (length out) (through c r d first i S l)
+    let e : cut_written c r d first i (length out) ≡ Err OutputShort =
+    late c r d first i (length out) S l
     ∙ lacking H (length (payload_at c r d i)) (length out) (good c r d first i S) (pad c r d first i S) (short c r d first i S) (subst (λ k. length out < k) (size c r d first i S) room) in
-    record { answer = rw e; output = rw e }
-
-written : (c : Connection) (r : Request) (d : List ℕ) (first : Psn) (i : ℕ) (out : List ℕ) (m : ℕ)
-    → packet_length (header_at c r (length d) first i) (length (payload_at c r d i)) ≡ m
-    → cut_answer c r d first i (length out) ≡ 0
-    → (cut_written c r d first i (length out) ≡ Done m) × (cut_out c r d first i out ≡ cut_bytes c r d first i ++ drop m out)
-unfolding cut_written cut_out answer_by
-written c r d first i out m p e = (rw (e, p), rw (e, p))
+    record { answer = e; output = rw e }
 
 pub cuts : Cuts
-unfolding h
+unfolding h cut_out
 cuts c r d first i out S l room =
     let H = header_at c r (length d) first i in
     let s : length (cut_bytes c r d first i) ≡ packet_length H (length (payload_at c r d i)) = size c r d first i S in
-    let e = none H (length (payload_at c r d i)) (length out) (good c r d first i S) (pad c r d first i S) (short c r d first i S) (subst (λ k. k ≤ length out) s room) in
-    written c r d first i out (length (cut_bytes c r d first i)) (sym s) (late c r d first i (length out) (through c r d first i S l) ∙ e)
+    let e : cut_written c r d first i (length out) ≡ Ok (packet_length H (length (payload_at c r d i))) =
+    late c r d first i (length out) S l
+    ∙ none H (length (payload_at c r d i)) (length out) (good c r d first i S) (pad c r d first i S) (short c r d first i S) (subst (λ k. k ≤ length out) s room) in
+    (e ∙ ap Ok (sym s), rw (e, s))
 
 pub cut-numbers : CutNumbers
-unfolding cut_written
-cut-numbers c r d first i room = number_by (cut_answer c r d first i room) (packet_length (header_at c r (length d) first i) (length (payload_at c r d i)))
+unfolding cut_answer
+cut-numbers c r d first i room = refl
 
 pub cut-reads : CutReads
 cut-reads c r d first i S l = reads c r d first i S

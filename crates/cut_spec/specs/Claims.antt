@@ -1,5 +1,5 @@
 -- What is proved of cut messages, each statement by a name; the proofs stand in proofs/.
-use Rattle.std.specs.Prelude.{ℕ, suc, ◌+◌, ◌*◌, ◌^◌, ◌≤◌, ◌<◌, ◌≡◌, true, false, List, [], ◌++◌, ◌⊎◌, length, take, drop, Ok}
+use Rattle.std.specs.Prelude.{ℕ, suc, ◌+◌, ◌*◌, ◌^◌, ◌≤◌, ◌<◌, ◌≡◌, true, false, List, [], ◌++◌, ◌⊎◌, length, take, drop, Ok, Err}
 use Rattle.sequence.specs.declared.Psn.{Psn}
 use Rattle.opcode.specs.Opcode.{class_of, service_of}
 use Rattle.header.specs.Check.{pkeys_match, admitted}
@@ -8,7 +8,8 @@ use Rattle.header.specs.Claims.{RethWidths, Widths}
 use Rattle.header.specs.declared.Reth.{Reth}
 use Rattle.header.specs.declared.AtomicEth.{AtomicEth}
 use Rattle.header.specs.declared.Extension.TheVariants.{Bare, Remote, RemoteImmediate, Immediate, Atomic}
-use Rattle.header.specs.declared.Answer.TheVariants.{Done, Refused}
+use Rattle.header.specs.declared.Refusal.{Refusal}
+use Rattle.header.specs.declared.Refusal.TheVariants.{OutOfRange, OutputShort, BadNumber}
 use Rattle.packet.specs.Packet.{pad_of, payload_of}
 use Rattle.packet.specs.Claims.{Found}
 use Rattle.pmtu.specs.Pieces.{pieces, place_at, joined}
@@ -74,22 +75,22 @@ pub record Cuttable (c : Connection) (r : Request) (n psn : ℕ) : Type 0 where
   pub pkey : c.pkey < 2 ^ 16
   pub widths : RequestWidths r
 
--- a refusal: its number is the answer, and the output stays as it was
-pub record Refuses (c : Connection) (r : Request) (d : List ℕ) (first : Psn) (i : ℕ) (out : List ℕ) (number : ℕ) : Type 0 where
-  pub answer : cut_written c r d first i (length out) ≡ Refused number
+-- a refusal: it is the answer, and the output stays as it was
+pub record Refuses (c : Connection) (r : Request) (d : List ℕ) (first : Psn) (i : ℕ) (out : List ℕ) (why : Refusal) : Type 0 where
+  pub answer : cut_written c r d first i (length out) ≡ Err why
   pub output : cut_out c r d first i out ≡ out
 
 -- 39 comes first, whatever else is wrong; then 34, whatever the output is.
 abbrev pub CutUnfit : Type 0
 CutUnfit =
     (c : Connection) (r : Request) (d : List ℕ) (first : Psn) (i : ℕ) (out : List ℕ) → (Fit c r first.0 → ⊥)
-    → Refuses c r d first i out 39
+    → Refuses c r d first i out BadNumber
 
 abbrev pub CutOver : Type 0
 CutOver =
     (c : Connection) (r : Request) (d : List ℕ) (first : Psn) (i : ℕ) (out : List ℕ) → Fit c r first.0
     → (InLimit r (length d) → ⊥) ⊎ (packets_of r (length d) c.pmtu ≤ i)
-    → Refuses c r d first i out 34
+    → Refuses c r d first i out OutOfRange
 
 -- Each packet of a sound message is refused with 35 if there is no room for it, and is written if there is.
 abbrev pub CutShort : Type 0
@@ -97,14 +98,14 @@ CutShort =
     (c : Connection) (r : Request) (d : List ℕ) (first : Psn) (i : ℕ) (out : List ℕ) → Cuttable c r (length d) first.0
     → i < packets_of r (length d) c.pmtu
     → length out < length (cut_bytes c r d first i)
-    → Refuses c r d first i out 35
+    → Refuses c r d first i out OutputShort
 
 abbrev pub Cuts : Type 0
 Cuts =
     (c : Connection) (r : Request) (d : List ℕ) (first : Psn) (i : ℕ) (out : List ℕ) → Cuttable c r (length d) first.0
     → i < packets_of r (length d) c.pmtu
     → length (cut_bytes c r d first i) ≤ length out
-    → (cut_written c r d first i (length out) ≡ Done (length (cut_bytes c r d first i)))
+    → (cut_written c r d first i (length out) ≡ Ok (length (cut_bytes c r d first i)))
     × (cut_out c r d first i out ≡ cut_bytes c r d first i ++ drop (length (cut_bytes c r d first i)) out)
 
 -- The number of an answer.
@@ -239,11 +240,11 @@ CutExtended = (c : Connection) (t : Target) (v n : ℕ) (first : Psn) → Extend
 
 -- The counts: 39 without a PMTU, then 34 over the limit, else the count.
 pub record Answered (r : Request) (n pmtu : ℕ) : Type 0 where
-  pub unfit : (IsPmtu pmtu → ⊥) → (packets_answer r n pmtu ≡ Refused 39) × (responses_answer n pmtu ≡ Refused 39)
-  pub over : IsPmtu pmtu → (InLimit r n → ⊥) → packets_answer r n pmtu ≡ Refused 34
-  pub packets : IsPmtu pmtu → InLimit r n → packets_answer r n pmtu ≡ Done (packets_of r n pmtu)
-  pub long : IsPmtu pmtu → 1048576 < n → responses_answer n pmtu ≡ Refused 34
-  pub responses : IsPmtu pmtu → n ≤ 1048576 → responses_answer n pmtu ≡ Done (pieces n pmtu)
+  pub unfit : (IsPmtu pmtu → ⊥) → (packets_answer r n pmtu ≡ Err BadNumber) × (responses_answer n pmtu ≡ Err BadNumber)
+  pub over : IsPmtu pmtu → (InLimit r n → ⊥) → packets_answer r n pmtu ≡ Err OutOfRange
+  pub packets : IsPmtu pmtu → InLimit r n → packets_answer r n pmtu ≡ Ok (packets_of r n pmtu)
+  pub long : IsPmtu pmtu → 1048576 < n → responses_answer n pmtu ≡ Err OutOfRange
+  pub responses : IsPmtu pmtu → n ≤ 1048576 → responses_answer n pmtu ≡ Ok (pieces n pmtu)
 
 abbrev pub CountAnswers : Type 0
 CountAnswers = (r : Request) (n pmtu : ℕ) → Answered r n pmtu

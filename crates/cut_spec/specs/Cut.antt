@@ -1,21 +1,22 @@
 -- Packet i of a message.
-use Rattle.std.specs.Prelude.{ℕ, ◌+◌, ◌-◌, ◌*◌, Bool, false, cond, not, ◌&&◌, ◌||◌, List, ◌++◌, leb, ltb, eqb, length, drop}
+use Rattle.std.specs.Prelude.{ℕ, ◌+◌, ◌-◌, ◌*◌, Bool, false, cond, not, ◌&&◌, ◌||◌, List, ◌++◌, Result, Ok, Err, is_ok, leb, ltb, eqb, length, drop, ⊤}
+use Rattle.std.specs.Result.{result_and}
 use Rattle.sequence.specs.Sequence.{space, psn_after}
 use Rattle.sequence.specs.declared.Psn.{Psn}
 use Rattle.opcode.specs.Opcode.{per_service}
 use Rattle.opcode.specs.Kind as Kind
 use Rattle.opcode.specs.Service as Service
-use Rattle.header.specs.Refusal as Refusal
 use Rattle.header.specs.Read.{other_service}
-use Rattle.header.specs.Write.{qpn_space, answer_by}
+use Rattle.header.specs.Write.{qpn_space, answer_number}
 use Rattle.header.specs.declared.Bth.{Bth}
 use Rattle.header.specs.declared.Reth.{Reth}
 use Rattle.header.specs.declared.AtomicEth.{AtomicEth}
 use Rattle.header.specs.declared.Extension.{Extension}
 use Rattle.header.specs.declared.Extension.TheVariants.{Bare, Remote, RemoteImmediate, Immediate, Atomic}
 use Rattle.header.specs.declared.Header.{Header}
-use Rattle.header.specs.declared.Answer.{Answer}
-use Rattle.packet.specs.Packet.{pad_of, packet_bytes, packet_length, packet_answer}
+use Rattle.header.specs.declared.Refusal.{Refusal}
+use Rattle.header.specs.declared.Refusal.TheVariants.{OutOfRange, BadNumber}
+use Rattle.packet.specs.Packet.{pad_of, packet_bytes, packet_length, packet_written}
 use Rattle.opcode.specs.Place.{starts, ends}
 use Rattle.pmtu.specs.Pieces.{pmtu_fits, place_at, piece_at, part_at}
 use Rattle.cut_spec.specs.Message.{carries, carried, carried_length, message_length, message_limit, packets_of}
@@ -118,28 +119,26 @@ cut_unfit c carrying psn =
     not (pmtu_fits c.pmtu)
     || (other_service c.service || (leb qpn_space c.dest || (leb space psn || unserved carrying c.service)))
 
--- the refusal of a cut before its output is looked at, or 0: as above; a message over the limit, or no packet i in it
-unfoldable pub cut_refusal : Connection → Request → ℕ → ℕ → ℕ → ℕ
-cut_refusal c r n psn i =
-    cond (cut_unfit c (carries r) psn) Refusal.bad_number
-    (cond (ltb message_limit (message_length r n)) Refusal.out_of_range
-    (cond (leb (packets_of r n c.pmtu) i) Refusal.out_of_range 0))
+-- the refusals of a cut before its output is looked at: as above; a message over the limit, or no packet i in it
+unfoldable pub check_cut : Connection → Request → ℕ → ℕ → ℕ → Result ⊤ Refusal
+check_cut c r n psn i =
+    cond (cut_unfit c (carries r) psn) (Err BadNumber)
+    (cond (ltb message_limit (message_length r n)) (Err OutOfRange)
+    (cond (leb (packets_of r n c.pmtu) i) (Err OutOfRange) (Ok tt)))
 
--- the answer's number: that, or what the packet writer answers, which refuses a packet that does not fit the output
-unfoldable pub cut_answer : Connection → Request → List ℕ → Psn → ℕ → ℕ → ℕ
-cut_answer c r d first i room =
-    cond (eqb (cut_refusal c r (length d) first.0 i) 0)
-    (packet_answer (header_at c r (length d) first i) (length (payload_at c r d i)) room)
-    (cut_refusal c r (length d) first.0 i)
-
--- the answer: with 0 the bytes written
-unfoldable pub cut_written : Connection → Request → List ℕ → Psn → ℕ → ℕ → Answer
+-- the answer: the one that applies, or what the packet writer answers, which refuses a packet that does not fit the output
+unfoldable pub cut_written : Connection → Request → List ℕ → Psn → ℕ → ℕ → Result ℕ Refusal
 cut_written c r d first i room =
-    answer_by (cut_answer c r d first i room) (packet_length (header_at c r (length d) first i) (length (payload_at c r d i)))
+    result_and (check_cut c r (length d) first.0 i)
+    (packet_written (header_at c r (length d) first i) (length (payload_at c r d i)) room)
+
+-- and its number
+unfoldable pub cut_answer : Connection → Request → List ℕ → Psn → ℕ → ℕ → ℕ
+cut_answer c r d first i room = answer_number (cut_written c r d first i room)
 
 -- the output: packet i and what stood behind it, or, refused, as it was
 unfoldable pub cut_out : Connection → Request → List ℕ → Psn → ℕ → List ℕ → List ℕ
 cut_out c r d first i out =
-    cond (eqb (cut_answer c r d first i (length out)) 0)
+    cond (is_ok (cut_written c r d first i (length out)))
     (cut_bytes c r d first i ++ drop (packet_length (header_at c r (length d) first i) (length (payload_at c r d i))) out)
     out

@@ -1,8 +1,9 @@
 -- Messages: what a request carries, how long it is, and how many packets and responses it has.
-use Rattle.std.specs.Prelude.{ℕ, Bool, true, false, cond, not, List, [], ltb}
-use Rattle.header.specs.Refusal as Refusal
-use Rattle.header.specs.Write.{answer_by}
-use Rattle.header.specs.declared.Answer.{Answer}
+use Rattle.std.specs.Prelude.{ℕ, Bool, true, false, cond, not, List, [], Result, Ok, Err, ltb, ⊤}
+use Rattle.std.specs.Result.{result_and}
+use Rattle.header.specs.Write.{answer_number}
+use Rattle.header.specs.declared.Refusal.{Refusal}
+use Rattle.header.specs.declared.Refusal.TheVariants.{OutOfRange, BadNumber}
 use Rattle.pmtu.specs.Pieces.{pmtu_fits, pieces}
 use Rattle.cut_spec.specs.declared.Request.{Request}
 use Rattle.cut_spec.specs.declared.Request.TheVariants.{Send, SendImmediate, Write, WriteImmediate, Read, CmpSwap, FetchAdd}
@@ -42,13 +43,17 @@ message_limit = 1048576
 unfoldable pub packets_of : Request → ℕ → ℕ → ℕ
 packets_of r n pmtu = pieces (carried_length r n) pmtu
 
--- the refusal of a length, or 0: no such PMTU; over the limit
+-- the refusals of a length: no such PMTU; over the limit
+unfoldable pub check_length : ℕ → ℕ → Result ⊤ Refusal
+check_length n pmtu = cond (not (pmtu_fits pmtu)) (Err BadNumber) (cond (ltb message_limit n) (Err OutOfRange) (Ok tt))
+
+-- the number of the one that applies, or 0
 unfoldable pub length_refusal : ℕ → ℕ → ℕ
-length_refusal n pmtu = cond (not (pmtu_fits pmtu)) Refusal.bad_number (cond (ltb message_limit n) Refusal.out_of_range 0)
+length_refusal n pmtu = answer_number (check_length n pmtu)
 
 -- the answers: how many packets a message has, and how many responses a READ of n bytes
-unfoldable pub packets_answer : Request → ℕ → ℕ → Answer
-packets_answer r n pmtu = answer_by (length_refusal (message_length r n) pmtu) (packets_of r n pmtu)
+unfoldable pub packets_answer : Request → ℕ → ℕ → Result ℕ Refusal
+packets_answer r n pmtu = result_and (check_length (message_length r n) pmtu) (Ok (packets_of r n pmtu))
 
-unfoldable pub responses_answer : ℕ → ℕ → Answer
-responses_answer n pmtu = answer_by (length_refusal n pmtu) (pieces n pmtu)
+unfoldable pub responses_answer : ℕ → ℕ → Result ℕ Refusal
+responses_answer n pmtu = result_and (check_length n pmtu) (Ok (pieces n pmtu))

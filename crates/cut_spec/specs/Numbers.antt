@@ -1,20 +1,21 @@
 -- What is proved of a message's numbers, each statement by a name; the proofs stand in proofs/.
-use Rattle.std.specs.Prelude.{ℕ, suc, ◌^◌, ◌<◌, ◌≡◌}
+use Rattle.std.specs.Prelude.{ℕ, suc, ◌^◌, ◌<◌, ◌≡◌, Ok, Err}
 use Rattle.sequence.specs.Sequence.{psn_after}
 use Rattle.sequence.specs.declared.Psn.{Psn}
+use Rattle.header.specs.Write.{answer_number}
+use Rattle.header.specs.declared.Refusal.TheVariants.{OutOfRange, BadNumber}
 use Rattle.header.specs.declared.Reth.{Reth}
 use Rattle.header.specs.declared.AtomicEth.{AtomicEth}
 use Rattle.pmtu.specs.Pieces.{pieces}
 use Rattle.pmtu.specs.Claims.{IsPmtu}
 use Rattle.cut_spec.specs.Message.{message_length, packets_of}
-use Rattle.cut_spec.specs.Next.{psns_of, next_psn, next_refusal, next_answer, following_number}
+use Rattle.cut_spec.specs.Next.{psns_of, next_psn, next_refusal, next_answer}
 use Rattle.cut_spec.specs.Cut.{header_at}
 use Rattle.cut_spec.specs.Claims.{Carrier, InLimit}
 use Rattle.cut_spec.specs.declared.Connection.{Connection}
 use Rattle.cut_spec.specs.declared.Target.{Target}
 use Rattle.cut_spec.specs.declared.Request.{Request}
 use Rattle.cut_spec.specs.declared.Request.TheVariants.{Read, CmpSwap, FetchAdd}
-use Rattle.cut_spec.specs.declared.Following.TheVariants.{Next, Refused}
 
 -- A message takes as many PSNs as it has packets, but a READ as many as it has responses.
 pub record Taken (n pmtu : ℕ) : Type 0 where
@@ -50,9 +51,9 @@ NextMessage =
 
 -- The answer: 39 without a PMTU or with a PSN over 24 bits, then 34 over the limit, else the PSN.
 pub record Followed (r : Request) (n pmtu : ℕ) (first : Psn) : Type 0 where
-  pub unfit : (IsPmtu pmtu × (first.0 < 2 ^ 24) → ⊥) → next_answer r n pmtu first ≡ Refused 39
-  pub over : IsPmtu pmtu → first.0 < 2 ^ 24 → (InLimit r n → ⊥) → next_answer r n pmtu first ≡ Refused 34
-  pub next : IsPmtu pmtu → first.0 < 2 ^ 24 → InLimit r n → next_answer r n pmtu first ≡ Next (next_psn r n pmtu first)
+  pub unfit : (IsPmtu pmtu × (first.0 < 2 ^ 24) → ⊥) → next_answer r n pmtu first ≡ Err BadNumber
+  pub over : IsPmtu pmtu → first.0 < 2 ^ 24 → (InLimit r n → ⊥) → next_answer r n pmtu first ≡ Err OutOfRange
+  pub next : IsPmtu pmtu → first.0 < 2 ^ 24 → InLimit r n → next_answer r n pmtu first ≡ Ok (next_psn r n pmtu first)
 
 abbrev pub Follows : Type 0
 Follows = (r : Request) (n pmtu : ℕ) (first : Psn) → Followed r n pmtu first
@@ -60,4 +61,4 @@ Follows = (r : Request) (n pmtu : ℕ) (first : Psn) → Followed r n pmtu first
 abbrev pub NextNumbers : Type 0
 NextNumbers =
     (r : Request) (n pmtu : ℕ) (first : Psn)
-    → following_number (next_answer r n pmtu first) ≡ next_refusal (message_length r n) pmtu first.0
+    → answer_number (next_answer r n pmtu first) ≡ next_refusal (message_length r n) pmtu first.0

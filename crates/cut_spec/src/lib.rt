@@ -3,7 +3,6 @@
 #![tactic(auto)]
 
 use header::{AtomicEth, Reth};
-use sequence::Psn;
 
 // The longest message.
 pub const MESSAGE_LIMIT: usize = 1048576;
@@ -35,11 +34,4 @@ pub enum Request {
     Read(Reth),
     CmpSwap(AtomicEth),
     FetchAdd(Target, u64),
-}
-
-// The PSN of the message after this one, or the number of the refusal.
-#[derive(Clone, Copy)]
-pub enum Following {
-    Next(Psn),
-    Refused(u8),
 }

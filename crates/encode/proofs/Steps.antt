@@ -5,6 +5,7 @@ use mathlib.Core.Bool.{Bool, true, false, not}
 use mathlib.Core.List.{List, ◌++◌}
 use native.Mathlib.Omega.{arith}
 use lib.ListN.{length, length-append}
+use Rattle.std.specs.Prelude.{Ok, Err}
 use Rattle.lemmas.proofs.Tests.{not-true, not-false}
 use Rattle.opcode.specs.Opcode.{class_of}
 use Rattle.opcode.specs.declared.OpcodeClass.{OpcodeClass}
@@ -13,13 +14,13 @@ use Rattle.memory.proofs.Overwrite.{length-store, store-twice}
 use Rattle.header.specs.Write.{header_fits, header_length, bth_bytes, extension_bytes, written, written_out}
 use Rattle.header.specs.declared.Header.{Header}
 use Rattle.header.specs.declared.Extension.{Extension}
-use Rattle.header.specs.declared.Answer.TheVariants.{Done, Refused}
+use Rattle.header.specs.declared.Refusal.TheVariants.{OutputShort, BadNumber}
 use Rattle.header.proofs.Lengths.{length-is}
 use Rattle.header.proofs.Writes.{refused, short, done, two-parts}
 
 -- no such header
 pub by-fields : (h : Header) (out : List ℕ) (u : Bool) → u ≡ not (header_fits h) → u ≡ true
-    → (Refused 39 ≡ written h (length out)) × (out ≡ written_out h out)
+    → (Err BadNumber ≡ written h (length out)) × (out ≡ written_out h out)
 by-fields h out u e t =
     let R = refused h out (not-true (header_fits h) u e t) in
     (sym R.0, sym R.1)
@@ -35,7 +36,7 @@ module _ (h : Header) (out : List ℕ) (u : Bool) (e : u ≡ not (header_fits h)
   good = not-false (header_fits h) u e f
 
   -- a refusal by the output's length
-  pub by_length : length out < k.length → (Refused 35 ≡ written h (length out)) × (out ≡ written_out h out)
+  pub by_length : length out < k.length → (Err OutputShort ≡ written h (length out)) × (out ≡ written_out h out)
   by_length l =
       let R = short h out good (subst (λ n. length out < n) size l) in
       (sym R.0, sym R.1)
@@ -51,11 +52,11 @@ module _ (h : Header) (out : List ℕ) (u : Bool) (e : u ≡ not (header_fits h)
   -- the header written: the BTH's bytes b first, the other headers into what that left
   pub whole : (b m w : List ℕ) → k.length ≤ length out → b ≡ bth_bytes h.bth → m ≡ store out 0 b
       → w ≡ store m 12 (extension_bytes h.extension)
-      → (Done k.length ≡ written h (length out)) × (w ≡ written_out h out)
+      → (Ok k.length ≡ written h (length out)) × (w ≡ written_out h out)
   whole b m w l p q r =
       let n : header_length h ≤ length out = subst (λ s. s ≤ length out) size l in
       let D = done h out good n in (
-        ap Done size ∙ sym D.0,
+        ap Ok size ∙ sym D.0,
         r ∙ (ap (λ z. store z 12 (extension_bytes h.extension)) (q ∙ ap (store out 0) p) ∙ (two-parts h out good n ∙ sym D.1)),
       )
 

@@ -5,7 +5,7 @@ ghost use Rattle.std.specs.Prelude.{◌≡◌, not, ◌+◌, ◌≤◌, length};
 ghost use Rattle.memory.specs.Memory.{store};
 ghost use Rattle.header.specs.Write.{bth_fits, follows_by, widths_fit, extension_fits, header_fits, extension_bytes, write_answer, written, answer_number, written_out};
 
-use header::{Answer, Bth, Extension, Header};
+use header::{Bth, Extension, Header, Refusal};
 use sequence::{Msn, Psn};
 
 // A field over its width, a TVer or a service that no header here has. What a field's own type bounds
@@ -92,23 +92,23 @@ fn write_extension(out: &mut [u8], e: Extension)
 }
 
 // Writes the header at the start of the output.
-pub fn write(h: Header, out: &mut [u8]) -> Answer
+pub fn write(h: Header, out: &mut [u8]) -> Result<usize, Refusal>
     ensures value { result ≡ written h (length out.old) }
     ensures result_value { answer_number result ≡ write_answer h (length out.old) }
     ensures out_after { out.new ≡ written_out h out.old }
 {
     let none = unfit(h);
     if none {
-        return Answer::Refused(header::BAD_NUMBER);
+        return Err(Refusal::BadNumber);
     }
     let bth = h.bth;
     let class = opcode::class(bth.opcode);
     if out.len() < class.length {
-        return Answer::Refused(header::OUTPUT_SHORT);
+        return Err(Refusal::OutputShort);
     }
     let b = wire::bth_bytes(bth);
     memory::store(out, 0, &b);
     let extension = h.extension;
     write_extension(out, extension);
-    Answer::Done(class.length)
+    Ok(class.length)
 }

@@ -10,7 +10,7 @@ use lib.ListN.{length, get_or, drop}
 use borrow.Author.Tests.{ltb-true, ltb-false}
 use Rattle.opcode.specs.Opcode.{class_of}
 use Rattle.header.specs.Read.{bth_of, header_of}
-use Rattle.header.specs.Write.{header_fits, header_length, header_bytes, written, written_out, answer_number, done_bytes}
+use Rattle.header.specs.Write.{header_fits, header_length, header_bytes, written, written_out}
 use Rattle.header.specs.Layout.{whole_length, after_in}
 use Rattle.header.specs.Claims.{Reads, Writable, WritesBy, Writes}
 use Rattle.header.proofs.Lengths.{fits}
@@ -19,8 +19,9 @@ use Rattle.header.proofs.Widths.{known, bth-fits, bth-widths, widths-of, extensi
 use Rattle.header.proofs.Table.{headers-by-opcode}
 use Rattle.header.proofs.Writes as Written
 use Rattle.header.specs.declared.Header.{Header}
-use Rattle.header.specs.declared.Answer.{Answer}
-use Rattle.header.specs.declared.Answer.TheVariants.{Done, Refused}
+use Rattle.header.specs.declared.Refusal.{Refusal}
+use Rattle.header.specs.declared.Refusal.TheVariants.{OutputShort, BadNumber}
+use Rattle.std.specs.Prelude.{Result, Ok, Err}
 
 pub reads : Reads
 unfolding bth_of
@@ -53,22 +54,22 @@ module _ (h : Header) (out : List ℕ) where
   abbrev size : ℕ
   size = whole_length (after_in h.extension)
 
-  abbrev answer : Answer
+  abbrev answer : Result ℕ Refusal
   answer = written h (length out)
 
-  unfit : (Writable h → ⊥) → (answer ≡ Refused 39) × (written_out h out ≡ out)
+  unfit : (Writable h → ⊥) → (answer ≡ Err BadNumber) × (written_out h out ≡ out)
   unfit n = Written.refused h out (off (header_fits h) refl)
     where
       off : (b : Bool) → header_fits h ≡ b → header_fits h ≡ false
       off true e = absurd (n (fits-writable h e))
       off false e = e
 
-  short : Writable h → length out < size → (answer ≡ Refused 35) × (written_out h out ≡ out)
+  short : Writable h → length out < size → (answer ≡ Err OutputShort) × (written_out h out ≡ out)
   short W l = Written.short h out (writable-fits h W) (omega (arith, size_is h W, l))
 
-  done : Writable h → size ≤ length out → (answer ≡ Done size) × (written_out h out ≡ header_bytes h ++ drop size out)
+  done : Writable h → size ≤ length out → (answer ≡ Ok size) × (written_out h out ≡ header_bytes h ++ drop size out)
   done W l =
-      subst (λ n. (answer ≡ Done n) × (written_out h out ≡ header_bytes h ++ drop n out)) (size_is h W)
+      subst (λ n. (answer ≡ Ok n) × (written_out h out ≡ header_bytes h ++ drop n out)) (size_is h W)
       (Written.done h out (writable-fits h W) (omega (arith, size_is h W, l)))
 
   abbrev Three : Type 0
@@ -82,12 +83,7 @@ module _ (h : Header) (out : List ℕ) where
       go true true e f = inr (inl (fits-writable h e, ltb-true (length out) size f))
       go true false e f = inr (inr (fits-writable h e, ltb-false (length out) size f))
 
-  -- no two of the answers are the same
-  apart : (a b : ℕ) {x y : Answer} → answer_number x ≡ a → answer_number y ≡ b → (a ≡ b → ⊥) → answer ≡ x → answer ≡ y → ⊥
-  apart a b p q n e f = n (sym p ∙ (ap answer_number (sym e ∙ f) ∙ q))
-
   by_three : WritesBy h out size answer (written_out h out)
-  unfolding answer_number
   by_three =
       record {
         unfit = unfit;
@@ -99,22 +95,22 @@ module _ (h : Header) (out : List ℕ) where
         answers = which three;
       }
     where
-      was39 : answer ≡ Refused 39 → Three → Writable h → ⊥
+      was39 : answer ≡ Err BadNumber → Three → Writable h → ⊥
       was39 e (inl n) W = n W
-      was39 e (inr (inl c)) W = apart 39 35 refl refl (omega arith) e (short c.0 c.1).0
-      was39 e (inr (inr c)) W = apart 39 0 refl refl (omega arith) e (done c.0 c.1).0
+      was39 e (inr (inl c)) W = let f = (short c.0 c.1).0 in cc
+      was39 e (inr (inr c)) W = let f = (done c.0 c.1).0 in cc
 
-      was35 : answer ≡ Refused 35 → Three → Writable h × (length out < size)
-      was35 e (inl n) = absurd (apart 35 39 refl refl (omega arith) e (unfit n).0)
+      was35 : answer ≡ Err OutputShort → Three → Writable h × (length out < size)
+      was35 e (inl n) = let f = (unfit n).0 in absurd cc
       was35 e (inr (inl c)) = c
-      was35 e (inr (inr c)) = absurd (apart 35 0 refl refl (omega arith) e (done c.0 c.1).0)
+      was35 e (inr (inr c)) = let f = (done c.0 c.1).0 in absurd cc
 
-      was : (n : ℕ) → answer ≡ Done n → Three → Writable h × (size ≤ length out) × (n ≡ size)
-      was n e (inl f) = absurd (apart 0 39 refl refl (omega arith) e (unfit f).0)
-      was n e (inr (inl c)) = absurd (apart 0 35 refl refl (omega arith) e (short c.0 c.1).0)
-      was n e (inr (inr c)) = (c.0, c.1, ap done_bytes (sym e ∙ (done c.0 c.1).0))
+      was : (n : ℕ) → answer ≡ Ok n → Three → Writable h × (size ≤ length out) × (n ≡ size)
+      was n e (inl f) = let g = (unfit f).0 in absurd cc
+      was n e (inr (inl c)) = let f = (short c.0 c.1).0 in absurd cc
+      was n e (inr (inr c)) = let f = (done c.0 c.1).0 in (c.0, c.1, cc)
 
-      which : Three → (answer ≡ Refused 39) ⊎ ((answer ≡ Refused 35) ⊎ (answer ≡ Done size))
+      which : Three → (answer ≡ Err BadNumber) ⊎ ((answer ≡ Err OutputShort) ⊎ (answer ≡ Ok size))
       which (inl n) = inl (unfit n).0
       which (inr (inl c)) = inr (inl (short c.0 c.1).0)
       which (inr (inr c)) = inr (inr (done c.0 c.1).0)

@@ -19,7 +19,7 @@ use Rattle.header.proofs.Reasons.{Read, accepted}
 use Rattle.header.proofs.Drops.{was_read}
 use Rattle.header.proofs.Widths.{below_64, bth-fits, extension-fits}
 use Rattle.header.proofs.Writes.{both-fit, done}
-use Rattle.header.specs.declared.Answer.TheVariants.{Done}
+use Rattle.std.specs.Prelude.{Ok}
 
 -- the flags' byte, from its fields
 flags-forth : (x : ℕ) → x < 256
@@ -206,7 +206,7 @@ write-back p B h e out room =
     let A = accepted p h e in
     let R = (was_read p A.0).1 in
     subst
-    (λ z. header_length z ≤ length out → (written z (length out) ≡ Done (header_length z)) × (written_out z out ≡ take (header_length z) p ++ drop (header_length z) out))
+    (λ z. header_length z ≤ length out → (written z (length out) ≡ Ok (header_length z)) × (written_out z out ≡ take (header_length z) p ++ drop (header_length z) out))
     A.1
     (λ r. let D = done (header_of p) out (header-fits p B R) r in
     (D.0, D.1 ∙ ap (λ x. x ++ drop (header_length (header_of p)) out) (header-bytes p B R)))

@@ -1,21 +1,22 @@
 -- What writing answers and leaves, by what it tests.
-use Prim.Native.Nat.{ℕ, zero, suc, ◌+◌, ◌≤◌, ◌<◌}
+use Prim.Native.Nat.{ℕ, ◌+◌, ◌≤◌, ◌<◌}
 use mathlib.Core.Path.{◌≡◌, refl, sym, ap, subst, ◌∙◌}
-use mathlib.Core.Bool.{Bool, true, false, cond}
+use mathlib.Core.Bool.{Bool, true, false}
 use mathlib.Core.List.{List, ◌++◌}
 use native.Mathlib.Omega.{arith}
-use lib.Dec.{ltb, eqb}
+use lib.Dec.{ltb}
 use lib.ListN.{length, drop}
-use borrow.Author.Tests.{lt-ltb, le-ltb, ltb-true, ltb-false, ne_eqb, eqb-true}
+use borrow.Author.Tests.{lt-ltb, le-ltb, ltb-true, ltb-false}
+use Rattle.std.specs.Prelude.{Result, Ok, Err, IsErrAnd}
 use Rattle.opcode.specs.Opcode.{class_of}
 use Rattle.memory.specs.Memory.{store}
 use Rattle.memory.proofs.Overwrite.{store-overwrite, store-twice, overwrite-start}
-use Rattle.header.specs.Write.{bth_bytes, extension_bytes, header_bytes, bth_fits, extension_fits, header_fits, header_length, write_answer, answer_by, written, answer_number, written_out}
-use Rattle.header.specs.Claims.{WriteNumbers}
+use Rattle.header.specs.Write.{bth_bytes, extension_bytes, header_bytes, bth_fits, extension_fits, header_fits, header_length, written, answer_number, write_answer, written_out}
+use Rattle.header.specs.Claims.{RefusalNumbers, WriteNumbers}
 use Rattle.header.proofs.Lengths.{length-bth, length-is, length-header}
 use Rattle.header.specs.declared.Header.{Header}
-use Rattle.header.specs.declared.Answer.{Answer}
-use Rattle.header.specs.declared.Answer.TheVariants.{Done, Refused}
+use Rattle.header.specs.declared.Refusal.{Refusal}
+use Rattle.header.specs.declared.Refusal.TheVariants.{OutputShort, BadNumber}
 
 pub bth-off : (h : Header) → bth_fits h.bth ≡ false → header_fits h ≡ false
 unfolding header_fits
@@ -31,42 +32,25 @@ pub both-fit : (h : Header) → bth_fits h.bth ≡ true
 unfolding header_fits
 both-fit h e f = rw (e, f)
 
--- the answer's number, and what it makes of the answer and the output
-over : (h : Header) (n : ℕ) → header_fits h ≡ false → write_answer h n ≡ 39
-unfolding write_answer
-over h n e = rw e
-
-lacking : (h : Header) (n : ℕ) → header_fits h ≡ true → n < header_length h → write_answer h n ≡ 35
-unfolding write_answer
-lacking h n e l = rw (e, lt-ltb n (header_length h) l)
-
-pub fine : (h : Header) (n : ℕ) → header_fits h ≡ true → header_length h ≤ n → write_answer h n ≡ 0
-unfolding write_answer
-fine h n e l = rw (e, le-ltb n (header_length h) l)
-
-no : (h : Header) (out : List ℕ) (r : ℕ) → write_answer h (length out) ≡ suc r
-    → (written h (length out) ≡ Refused (suc r)) × (written_out h out ≡ out)
-unfolding written answer_by written_out
-no h out r e =
-    let other : suc r ≡ 0 → ⊥ = λ z. omega arith in
-    (rw (e, ne_eqb (suc r) 0 other), rw (e, ne_eqb (suc r) 0 other))
-
+-- the answer and the output
 pub refused : (h : Header) (out : List ℕ) → header_fits h ≡ false
-    → (written h (length out) ≡ Refused 39) × (written_out h out ≡ out)
-refused h out e = no h out 38 (over h (length out) e)
+    → (written h (length out) ≡ Err BadNumber) × (written_out h out ≡ out)
+unfolding written written_out
+refused h out e = (rw e, rw e)
 
 pub short : (h : Header) (out : List ℕ) → header_fits h ≡ true → length out < header_length h
-    → (written h (length out) ≡ Refused 35) × (written_out h out ≡ out)
-short h out e l = no h out 34 (lacking h (length out) e l)
-
-pub answered : (h : Header) (n : ℕ) → header_fits h ≡ true → header_length h ≤ n → written h n ≡ Done (header_length h)
-unfolding written answer_by
-answered h n e l = rw (fine h n e l)
+    → (written h (length out) ≡ Err OutputShort) × (written_out h out ≡ out)
+unfolding written written_out
+short h out e l =
+    let few = lt-ltb (length out) (header_length h) l in
+    (rw (e, few), rw (e, few))
 
 pub done : (h : Header) (out : List ℕ) → header_fits h ≡ true → header_length h ≤ length out
-    → (written h (length out) ≡ Done (header_length h)) × (written_out h out ≡ header_bytes h ++ drop (header_length h) out)
-unfolding written_out
-done h out e l = (answered h (length out) e l, rw (fine h (length out) e l))
+    → (written h (length out) ≡ Ok (header_length h)) × (written_out h out ≡ header_bytes h ++ drop (header_length h) out)
+unfolding written written_out
+done h out e l =
+    let enough = le-ltb (length out) (header_length h) l in
+    (rw (e, enough), rw (e, enough))
 
 -- the BTH written, and then the headers after it
 pub two-parts : (h : Header) (out : List ℕ) → header_fits h ≡ true → header_length h ≤ length out
@@ -90,49 +74,38 @@ pub record Written (h : Header) (out : List ℕ) (n : ℕ) : Type 0 where
   pub size : n ≡ header_length h
   pub room : header_length h ≤ length out
 
-no-done : (r n : ℕ) → Refused r ≡ Done n → ⊥
-no-done r n e = let z : ◌≡◌ {A = ℕ} 0 1 = cc in omega arith
-
-same-done : (m n : ℕ) → Done m ≡ Done n → n ≡ m
-same-done m n e = cc
-
--- a number that is not 0 is a refusal
-pub refused-by : (a n k : ℕ) → a ≡ k → (k ≡ 0 → ⊥) → answer_by a n ≡ Refused k
-unfolding answer_by
-refused-by a n k e z = rw (e, ne_eqb k 0 z)
-
--- an answer of how many: nothing was refused
-pub was-done : (a m n : ℕ) → answer_by a m ≡ Done n → (a ≡ 0) × (n ≡ m)
-unfolding answer_by
-was-done a m n e = go (eqb a 0) refl e
-  where
-    go : (b : Bool) → eqb a 0 ≡ b → cond b (Done m) (Refused a) ≡ Done n → (a ≡ 0) × (n ≡ m)
-    go true q f = (eqb-true a 0 q, same-done m n f)
-    go false q f = absurd (no-done a n f)
-
-pub was-written : (h : Header) (out : List ℕ) (n : ℕ) → written h (length out) ≡ Done n → Written h out n
+pub was-written : (h : Header) (out : List ℕ) (n : ℕ) → written h (length out) ≡ Ok n → Written h out n
 was-written h out n e = go (header_fits h) (ltb (length out) (header_length h)) refl refl
   where
     go : (g s : Bool) → header_fits h ≡ g → ltb (length out) (header_length h) ≡ s → Written h out n
-    go false s p q = absurd (no-done 39 n (sym (refused h out p).0 ∙ e))
-    go true true p q = absurd (no-done 35 n (sym (short h out p (ltb-true (length out) (header_length h) q)).0 ∙ e))
+    go false s p q = let no : Err BadNumber ≡ Ok n = sym (refused h out p).0 ∙ e in absurd cc
+    go true true p q =
+        let no : Err OutputShort ≡ Ok n = sym (short h out p (ltb-true (length out) (header_length h) q)).0 ∙ e in
+        absurd cc
     go true false p q =
         let room : header_length h ≤ length out = ltb-false (length out) (header_length h) q in
-        record { good = p; size = same-done (header_length h) n (sym (done h out p room).0 ∙ e); room = room }
+        let same : Ok (header_length h) ≡ Ok n = sym (done h out p room).0 ∙ e in
+        record { good = p; size = cc; room = room }
 
--- the number of an answer
-pub number_by : (a n : ℕ) → answer_number (answer_by a n) ≡ a
-unfolding answer_by answer_number
-number_by zero n = refl
-number_by (suc a) n = rw (ne_eqb (suc a) 0 (λ z. omega arith))
+-- the numbers
+pub refusal-numbers : RefusalNumbers
+refusal-numbers = (refl, refl, refl)
 
 pub write-numbers : WriteNumbers
-unfolding written
-write-numbers h n = number_by (write_answer h n) (header_length h)
+unfolding write_answer
+write-numbers h n = refl
 
--- an answer r that is a has the number k of a; and what else is promised with it
-pub told : {A : Type 0} (number : A → ℕ) (r a : A) (k : ℕ) → number a ≡ k → r ≡ a → (r ≡ a) × (number r ≡ k)
-told number r a k n e = (e, ap number e ∙ n)
+-- an answer r that is a has the number k of a
+pub told : {A : Type 0} (r a : Result A Refusal) (k : ℕ) → answer_number a ≡ k → r ≡ a → (r ≡ a) × (answer_number r ≡ k)
+told r a k n e = (e, ap answer_number e ∙ n)
 
-pub numbered : {B : Type 0} (r a : Answer) (k : ℕ) → answer_number a ≡ k → (r ≡ a) × B → (r ≡ a) × ((answer_number r ≡ k) × B)
-numbered r a k n e = (e.0, (ap answer_number e.0 ∙ n, e.1))
+-- what a `?` hands on is the refusal that it met
+pub handed-on : {A : Type 0} (answer : Result A Refusal) (refusal : Refusal) → IsErrAnd answer (λ r. r ≡ refusal) → answer ≡ Err refusal
+handed-on (Ok x) refusal h = absurd h
+handed-on (Err r) refusal h = ap Err h
+
+-- an answer whose number is not 0 is a refusal
+pub refused-by : {A : Type 0} (answer : Result A Refusal) → (answer_number answer ≡ 0 → ⊥) → (refusal : Refusal) × (answer ≡ Err refusal)
+unfolding answer_number
+refused-by (Ok x) n = absurd (n refl)
+refused-by (Err refusal) n = (refusal, refl)

@@ -1,5 +1,5 @@
 -- What is proved of reading and writing, each statement by a name; the proofs stand in proofs/.
-use Rattle.std.specs.Prelude.{ℕ, ◌+◌, ◌%◌, ◌^◌, ◌≤◌, ◌<◌, Bool, true, cond, ◌≡◌, List, ◌++◌, ◌⊎◌, Result, Ok, eqb, length, get_or, take, drop}
+use Rattle.std.specs.Prelude.{ℕ, ◌+◌, ◌%◌, ◌^◌, ◌≤◌, ◌<◌, Bool, true, cond, ◌≡◌, List, ◌++◌, ◌⊎◌, Result, Ok, eqb, length, get_or, take, drop, Err}
 use Rattle.opcode.specs.Opcode.{class_of, service_of, low_of}
 use Rattle.header.specs.Bytes.{Bytes}
 use Rattle.header.specs.Read.{header_of, read_by, read_number, read_check, read_header}
@@ -13,13 +13,14 @@ use Rattle.header.specs.declared.Extension.{Extension}
 use Rattle.header.specs.declared.Extension.TheVariants.{Bare, Remote, RemoteImmediate, Immediate, Atomic, Acknowledge, AtomicAcknowledge}
 use Rattle.header.specs.declared.Header.{Header}
 use Rattle.header.specs.declared.Reason.{Reason}
-use Rattle.header.specs.declared.Answer.{Answer}
-use Rattle.header.specs.declared.Answer.TheVariants.{Done, Refused}
+use Rattle.header.specs.Refusal.{refusal_number}
+use Rattle.header.specs.declared.Refusal.{Refusal}
+use Rattle.header.specs.declared.Refusal.TheVariants.{OutOfRange, OutputShort, BadNumber}
 
 -- What writing makes of a header, in any output, reading turns into that header again.
 abbrev pub ReadBack : Type 0
 ReadBack =
-    (h : Header) (out : List ℕ) (n : ℕ) → written h (length out) ≡ Done n
+    (h : Header) (out : List ℕ) (n : ℕ) → written h (length out) ≡ Ok n
     → read_header (take n (written_out h out)) ≡ Ok h
 
 -- So it is with a payload behind it, up to the longest packet.
@@ -34,7 +35,7 @@ abbrev pub WriteBack : Type 0
 WriteBack =
     (p : List ℕ) → Bytes p → (h : Header) → read_header p ≡ Ok h
     → (out : List ℕ) → header_length h ≤ length out
-    → (written h (length out) ≡ Done (header_length h))
+    → (written h (length out) ≡ Ok (header_length h))
     × (written_out h out ≡ take (header_length h) p ++ drop (header_length h) out)
 
 -- The two are about something. A packet is read if its length is good, its TVer is 0, its service is RC or UC and
@@ -80,14 +81,14 @@ pub record Writable (h : Header) : Type 0 where
 -- The answer and the output. A header that cannot be written is 39, whatever the output is; then an output too short for
 -- it is 35; both leave the output. Else the header stands at its start, and the bytes behind it stay. And back: each
 -- answer says what held, and no other comes.
-pub record WritesBy (h : Header) (out : List ℕ) (size : ℕ) (answer : Answer) (new : List ℕ) : Type 0 where
-  pub unfit : (Writable h → ⊥) → (answer ≡ Refused 39) × (new ≡ out)
-  pub short : Writable h → length out < size → (answer ≡ Refused 35) × (new ≡ out)
-  pub done : Writable h → size ≤ length out → (answer ≡ Done size) × (new ≡ header_bytes h ++ drop size out)
-  pub only39 : answer ≡ Refused 39 → Writable h → ⊥
-  pub only35 : answer ≡ Refused 35 → Writable h × (length out < size)
-  pub only : (n : ℕ) → answer ≡ Done n → Writable h × (size ≤ length out) × (n ≡ size)
-  pub answers : (answer ≡ Refused 39) ⊎ ((answer ≡ Refused 35) ⊎ (answer ≡ Done size))
+pub record WritesBy (h : Header) (out : List ℕ) (size : ℕ) (answer : Result ℕ Refusal) (new : List ℕ) : Type 0 where
+  pub unfit : (Writable h → ⊥) → (answer ≡ Err BadNumber) × (new ≡ out)
+  pub short : Writable h → length out < size → (answer ≡ Err OutputShort) × (new ≡ out)
+  pub done : Writable h → size ≤ length out → (answer ≡ Ok size) × (new ≡ header_bytes h ++ drop size out)
+  pub only39 : answer ≡ Err BadNumber → Writable h → ⊥
+  pub only35 : answer ≡ Err OutputShort → Writable h × (length out < size)
+  pub only : (n : ℕ) → answer ≡ Ok n → Writable h × (size ≤ length out) × (n ≡ size)
+  pub answers : (answer ≡ Err BadNumber) ⊎ ((answer ≡ Err OutputShort) ⊎ (answer ≡ Ok size))
 
 abbrev pub Writes : Type 0
 Writes =
@@ -106,6 +107,10 @@ abbrev pub ReadNumbers : Type 0
 ReadNumbers =
     (found : Result (Unit {0}) Reason) (p : List ℕ)
     → (read_number (read_by found p) ≡ cond (eqb (read_check found) 0) 0 5) × (read_check (read_by found p) ≡ read_check found)
+
+-- Each refusal has the number of the rules.
+abbrev pub RefusalNumbers : Type 0
+RefusalNumbers = (refusal_number OutOfRange ≡ 34) × (refusal_number OutputShort ≡ 35) × (refusal_number BadNumber ≡ 39)
 
 abbrev pub WriteNumbers : Type 0
 WriteNumbers = (h : Header) (n : ℕ) → answer_number (written h n) ≡ write_answer h n

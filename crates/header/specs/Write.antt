@@ -1,9 +1,10 @@
 -- Writing a header.
-use Rattle.std.specs.Prelude.{ℕ, ◌+◌, ◌*◌, ◌%◌, ◌^◌, Bool, true, cond, not, ◌&&◌, List, [], ◌∷◌, ◌++◌, ltb, eqb, length, drop}
+use Rattle.std.specs.Prelude.{ℕ, ◌+◌, ◌*◌, ◌%◌, ◌^◌, Bool, true, cond, not, ◌&&◌, List, [], ◌∷◌, ◌++◌, Result, Ok, Err, is_ok, ltb, eqb, length, drop}
 use Rattle.sequence.specs.Sequence.{space, msn_space}
 use Rattle.opcode.specs.Opcode.{class_of, service_of}
 use Rattle.opcode.specs.Follows as Follows
-use Rattle.header.specs.Refusal as Refusal
+use Rattle.std.specs.Result.{result_unwrap_or}
+use Rattle.header.specs.Refusal.{refusal_number}
 use Rattle.header.specs.Bytes.{two, three, four, eight, bit}
 use Rattle.header.specs.Read.{other_service}
 use Rattle.header.specs.declared.Bth.{Bth}
@@ -13,8 +14,8 @@ use Rattle.header.specs.declared.Aeth.{Aeth}
 use Rattle.header.specs.declared.Extension.{Extension}
 use Rattle.header.specs.declared.Extension.TheVariants.{Bare, Remote, RemoteImmediate, Immediate, Atomic, Acknowledge, AtomicAcknowledge}
 use Rattle.header.specs.declared.Header.{Header}
-use Rattle.header.specs.declared.Answer.{Answer}
-use Rattle.header.specs.declared.Answer.TheVariants.{Done, Refused}
+use Rattle.header.specs.declared.Refusal.{Refusal}
+use Rattle.header.specs.declared.Refusal.TheVariants.{OutputShort, BadNumber}
 
 -- the bytes of each header, its fields in wire order
 abbrev pub flags_byte : Bth → ℕ
@@ -113,27 +114,22 @@ header_fits h = bth_fits h.bth && extension_fits (class_of h.bth.opcode).follows
 unfoldable pub header_length : Header → ℕ
 header_length h = (class_of h.bth.opcode).length
 
--- the answer's number: the refusal, or 0
+-- the answer: how many bytes are written, or why none are
+unfoldable pub written : Header → ℕ → Result ℕ Refusal
+written h n = cond (header_fits h) (cond (ltb n (header_length h)) (Err OutputShort) (Ok (header_length h))) (Err BadNumber)
+
+-- the number of an answer: its refusal's, or 0
+unfoldable pub answer_number : {A : Type 0} → Result A Refusal → ℕ
+answer_number (Ok x) = 0
+answer_number (Err refusal) = refusal_number refusal
+
 unfoldable pub write_answer : Header → ℕ → ℕ
-write_answer h n = cond (header_fits h) (cond (ltb n (header_length h)) Refusal.output_short 0) Refusal.bad_number
+write_answer h n = answer_number (written h n)
 
--- the answer: with 0 the bytes written
-unfoldable pub answer_by : ℕ → ℕ → Answer
-answer_by answer size = cond (eqb answer 0) (Done size) (Refused answer)
-
-unfoldable pub written : Header → ℕ → Answer
-written h n = answer_by (write_answer h n) (header_length h)
-
--- and back: the number of an answer
-unfoldable pub answer_number : Answer → ℕ
-answer_number (Done size) = 0
-answer_number (Refused answer) = answer
-
--- how many bytes it counts, 0 where it is refused
-abbrev pub done_bytes : Answer → ℕ
-done_bytes (Done n) = n
-done_bytes (Refused n) = 0
+-- how many bytes an answer counts, 0 where it is refused
+abbrev pub done_bytes : Result ℕ Refusal → ℕ
+done_bytes answer = result_unwrap_or answer 0
 
 -- the output: the header's bytes and what stood behind them, or, refused, as it was
 unfoldable pub written_out : Header → List ℕ → List ℕ
-written_out h out = cond (eqb (write_answer h (length out)) 0) (header_bytes h ++ drop (header_length h) out) out
+written_out h out = cond (is_ok (written h (length out))) (header_bytes h ++ drop (header_length h) out) out

@@ -5,6 +5,7 @@
 ghost use Rattle.std.specs.Prelude.{◌≡◌};
 ghost use Rattle.header.specs.Read.{other_service, check_number};
 ghost use Rattle.header.specs.Check.{pkeys_match};
+ghost use Rattle.header.specs.Refusal.{refusal_number};
 
 use sequence::{Msn, Psn};
 
@@ -20,7 +21,7 @@ pub const PACKET_LIMIT: usize = 4128;
 // The answer to a packet whose header does not read: a quiet drop.
 pub const QUIET_DROP: u8 = 5;
 
-// Refusals of calls that write or count.
+// The numbers of the refusals.
 pub const OUT_OF_RANGE: u8 = 34;
 
 pub const OUTPUT_SHORT: u8 = 35;
@@ -118,12 +119,25 @@ impl From<Reason> for u8 {
     }
 }
 
-// What a call answers that writes or counts: how many bytes or packets, or the number of its refusal.
-// A header is refused with BAD_NUMBER where there is no such header, OUTPUT_SHORT where the output is too short for it.
-#[derive(Clone, Copy)]
-pub enum Answer {
-    Done(usize),
-    Refused(u8),
+// Why a call that writes or counts is refused. A header is a BadNumber where there is no such header, OutputShort where
+// the output is too short for it.
+#[derive(Clone, Copy, Debug, PartialEq, Eq)]
+pub enum Refusal {
+    OutOfRange,
+    OutputShort,
+    BadNumber,
+}
+
+impl From<Refusal> for u8 {
+    ghost from_gives = { λ refusal number. number ≡ refusal_number refusal };
+
+    fn from(refusal: Refusal) -> u8 {
+        match refusal {
+            Refusal::OutOfRange => OUT_OF_RANGE,
+            Refusal::OutputShort => OUTPUT_SHORT,
+            Refusal::BadNumber => BAD_NUMBER,
+        }
+    }
 }
 
 // Whether service bits are neither RC's nor UC's.

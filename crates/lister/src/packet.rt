@@ -1,7 +1,7 @@
 // One packet: its header's fields and what writing the header gives back, or why it is dropped.
 use crate::fields;
 use crate::words::{self, Size};
-use header::{Answer, Extension, Header, Reason};
+use header::{Extension, Header, Reason};
 use std::io::{self, Write};
 
 fn list_extension<W: Write>(out: &mut W, e: &Extension) -> io::Result<()> {
@@ -46,8 +46,8 @@ fn write_back<W: Write>(out: &mut W, h: Header, headers: usize, p: &[u8]) -> io:
     write!(out, "  written back  ")?;
     let mut written = [0u8; 40];
     match encode::write(h, &mut written) {
-        Answer::Done(n) => list_written(out, &written[..n], headers, p),
-        Answer::Refused(code) => writeln!(out, "refused {code}"),
+        Ok(n) => list_written(out, &written[..n], headers, p),
+        Err(refusal) => writeln!(out, "refused {}", u8::from(refusal)),
     }
 }
 

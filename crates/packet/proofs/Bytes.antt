@@ -1,22 +1,22 @@
 -- What writing a packet answers and leaves.
 use Prim.Native.Nat.{ℕ, ◌+◌, ◌≤◌}
-use mathlib.Core.Path.{refl, ◌≡◌, sym, ap, subst, ◌∙◌}
+use mathlib.Core.Path.{◌≡◌, sym, ap, subst, ◌∙◌}
 use mathlib.Core.Bool.{Bool, true, not}
 use mathlib.Core.List.{List, ◌++◌, append_assoc}
 use native.Mathlib.Omega.{arith}
 use lib.ListN.{length, take, drop, replicate, length-append, length-replicate}
-use borrow.Author.Tests.{ne_eqb}
+use Rattle.std.specs.Prelude.{Result, Ok, Err}
 use Rattle.lemmas.proofs.Tests.{not-false}
 use Rattle.memory.specs.Memory.{overwrite, store}
 use Rattle.memory.proofs.Overwrite.{store-past, store-overwrite, store-twice, overwrite-start}
 use Rattle.opcode.specs.Opcode.{class_of}
 use Rattle.opcode.specs.declared.OpcodeClass.{OpcodeClass}
-use Rattle.header.specs.Write.{header_bytes, header_fits, header_length, answer_by, written_out}
+use Rattle.header.specs.Write.{header_bytes, header_fits, header_length, written, written_out}
 use Rattle.header.specs.declared.Header.{Header}
-use Rattle.header.specs.declared.Answer.TheVariants.{Done, Refused}
+use Rattle.header.specs.declared.Refusal.{Refusal}
 use Rattle.header.proofs.Lengths.{length-header}
 use Rattle.header.proofs.Writes.{done}
-use Rattle.packet.specs.Packet.{pad_of, payload_out, packet_bytes, packet_length, refusal_by, packet_answer, packet_written, packet_out}
+use Rattle.packet.specs.Packet.{pad_of, payload_out, packet_bytes, packet_length, checked_size, packet_written, packet_out}
 use Rattle.packet.specs.Claims.{PayloadWritten, PayloadLeftOut}
 use Rattle.packet.proofs.Passes.{Passed, passed}
 
@@ -74,45 +74,51 @@ three-parts h d out good room =
     ∙ (ap (λ n. ((b ++ d) ++ z) ++ drop n out) l
     ∙ ap (λ w. w ++ drop (header_length h + (length d + pad_of (length d))) out) (append_assoc b d z)))))
 
--- the answer and the output, by the answer's number
-pub no : (h : Header) (d out : List ℕ) (r : ℕ) → r ≡ packet_answer h (length d) (length out) → (r ≡ 0 → ⊥)
-    → (Refused r ≡ packet_written h (length d) (length out)) × (out ≡ packet_out h d out)
-unfolding packet_written packet_out answer_by
-no h d out r e n = simp (← e, ne_eqb r 0 n) (refl, refl)
+-- the output, by the answer
+pub no : (h : Header) (d out : List ℕ) (r : Refusal) → packet_written h (length d) (length out) ≡ Err r → packet_out h d out ≡ out
+unfolding packet_out
+no h d out r e = rw e
 
-pub yes : (h : Header) (d out : List ℕ) → packet_answer h (length d) (length out) ≡ 0
-    → (packet_written h (length d) (length out) ≡ Done (packet_length h (length d)))
-    × (packet_out h d out ≡ packet_bytes h d ++ drop (packet_length h (length d)) out)
-unfolding packet_written packet_out answer_by
-yes h d out e = (rw e, rw e)
+pub yes : (h : Header) (d out : List ℕ) (n : ℕ) → packet_written h (length d) (length out) ≡ Ok n
+    → packet_out h d out ≡ packet_bytes h d ++ drop (packet_length h (length d)) out
+unfolding packet_out
+yes h d out n e = rw e
 
--- what the code knows: u says whether there is no such header, k is the class of the opcode, r the refusal
+-- what the code knows: u says whether there is no such header, k is the class of the opcode, r the size or the refusal
 module _ (h : Header) (d out : List ℕ) (u : Bool) (e : u ≡ not (header_fits h)) (k : OpcodeClass)
-    (is : k ≡ class_of h.bth.opcode) (r : ℕ) (q : r ≡ refusal_by u h.bth.pad k.length (length d) (length out)) where
-  number : r ≡ packet_answer h (length d) (length out)
-  unfolding packet_answer header_length
-  number = simp (q, e, is)
+    (is : k ≡ class_of h.bth.opcode) (r : Result ℕ Refusal)
+    (q : r ≡ checked_size u h.bth.pad k.length (length d) (length out)) where
+  answer : r ≡ packet_written h (length d) (length out)
+  unfolding packet_written header_length
+  answer = simp (q, e, is)
 
   size : k.length ≡ header_length h
   unfolding header_length
   size = ap (λ z. z.length) is
 
-  pub refused : (r ≡ 0 → ⊥) → (Refused r ≡ packet_written h (length d) (length out)) × (out ≡ packet_out h d out)
-  refused n = no h d out r number n
+  pub refused : (x : Refusal) → r ≡ Err x → (Err x ≡ packet_written h (length d) (length out)) × (out ≡ packet_out h d out)
+  refused x z =
+      let a = sym z ∙ answer in
+      (a, sym (no h d out x (sym a)))
 
-  pub through : r ≡ 0 → Passed u h.bth.pad k.length (length d) (length out)
-  through z = passed u h.bth.pad k.length (length d) (length out) (sym q ∙ z)
+  pub through : (n : ℕ) → r ≡ Ok n → Passed u h.bth.pad k.length (length d) (length out)
+  through n z = (passed u h.bth.pad k.length (length d) (length out) n (sym q ∙ z)).0
 
-  pub whole : r ≡ 0 → (a c : List ℕ) → a ≡ written_out h out → c ≡ payload_out a k.length d
-      → (Done (k.length + length d + h.bth.pad) ≡ packet_written h (length d) (length out)) × (c ≡ packet_out h d out)
+  -- the header is written, and how many bytes that are
+  pub headers : (n : ℕ) → r ≡ Ok n → written h (length out) ≡ Ok (header_length h)
+  headers n z =
+      let P = through n z in
+      let room : header_length h ≤ length out = omega (arith, P.room, size) in
+      (done h out (not-false (header_fits h) u e P.good) room).0
+
+  pub whole : (n : ℕ) → r ≡ Ok n → (m : ℕ) → m ≡ header_length h → (a c : List ℕ) → a ≡ written_out h out → c ≡ payload_out a m d
+      → (Ok n ≡ packet_written h (length d) (length out)) × (c ≡ packet_out h d out)
   unfolding packet_length payload_out
-  whole z a c x w =
-      let P = through z in
+  whole n z m i a c x w =
+      let P = through n z in
       let good : header_fits h ≡ true = not-false (header_fits h) u e P.good in
-      let pad : h.bth.pad ≡ pad_of (length d) = P.pad in
       let room : header_length h + (length d + pad_of (length d)) ≤ length out = subst (λ n. n + (length d + pad_of (length d)) ≤ length out) size P.room in
-      let s : k.length + length d + h.bth.pad ≡ header_length h + (length d + pad_of (length d)) = omega (arith, size) in
-      let Y = yes h d out (sym number ∙ z) in (
-        ap Done s ∙ sym Y.0,
-        simp (w, x, size) (three-parts h d out good room) ∙ sym Y.1,
+      let y = sym z ∙ answer in (
+        y,
+        simp (w, x, i) (three-parts h d out good room) ∙ sym (yes h d out n (sym y)),
       )

@@ -6,6 +6,7 @@ use mathlib.Core.List.{List, ◌++◌, append_assoc}
 use native.Mathlib.Omega.{arith}
 use lib.ListN.{length, take, drop, replicate, length-append, length-replicate}
 use lib.Seq.{take_at, drop_at}
+use Rattle.std.specs.Prelude.{Ok}
 use Rattle.lemmas.proofs.Tests.{not-false}
 use Rattle.header.specs.Read.{header_of, read_header}
 use Rattle.header.specs.Write.{header_bytes, header_fits, header_length}
@@ -14,8 +15,7 @@ use Rattle.std.specs.Prelude.{Ok}
 use Rattle.header.proofs.Lengths.{length-header}
 use Rattle.header.proofs.ReadBack.{read-packet}
 use Rattle.header.proofs.Reasons.{accepted}
-use Rattle.header.proofs.Writes.{was-done}
-use Rattle.packet.specs.Packet.{pad_of, packet_bytes, packet_length, packet_answer, packet_written, packet_out, payload_of}
+use Rattle.packet.specs.Packet.{pad_of, packet_bytes, packet_length, packet_written, packet_out, payload_of}
 use Rattle.packet.specs.Claims.{Found, ReadBack, Writes}
 use Rattle.packet.proofs.Pads.{pad-fills}
 use Rattle.packet.proofs.Passes.{passed, passes}
@@ -70,20 +70,22 @@ found h d good pad short =
 
 -- such a packet is written
 pub none : (h : Header) (n room : ℕ) → header_fits h ≡ true → h.bth.pad ≡ pad_of n → packet_length h n ≤ 4128
-    → packet_length h n ≤ room → packet_answer h n room ≡ 0
-unfolding packet_answer packet_length
+    → packet_length h n ≤ room → packet_written h n room ≡ Ok (packet_length h n)
+unfolding packet_written packet_length
 none h n room good pad short enough =
     passes (not (header_fits h)) h.bth.pad (header_length h) n room
     (record { good = ap not good; pad = pad; short = short; room = enough })
 
 pub writes : Writes
-writes h d out good pad short room = yes h d out (none h (length d) (length out) good pad short room)
+writes h d out good pad short room =
+    let e = none h (length d) (length out) good pad short room in
+    (e, yes h d out _ e)
 
 pub read_back : ReadBack
-unfolding packet_written packet_answer packet_length
+unfolding packet_written packet_length
 read_back h d out n e =
-    let D = was-done (packet_answer h (length d) (length out)) (packet_length h (length d)) n e in
-    let P = passed (not (header_fits h)) h.bth.pad (header_length h) (length d) (length out) D.0 in
+    let D = passed (not (header_fits h)) h.bth.pad (header_length h) (length d) (length out) n e in
+    let P = D.0 in
     let good = not-false (header_fits h) (not (header_fits h)) refl P.good in
     let W = writes h d out good P.pad P.short P.room in
     let same : take n (packet_out h d out) ≡ packet_bytes h d =

@@ -4,9 +4,9 @@
 ghost use Rattle.std.specs.Prelude.{◌≡◌, ◌≤◌, length, replicate};
 ghost use Rattle.memory.specs.Memory.{store};
 ghost use Rattle.header.specs.Write.{answer_number};
-ghost use Rattle.packet.specs.Packet.{pad_of, payload_out, refusal_by, packet_answer, packet_written, packet_out};
+ghost use Rattle.packet.specs.Packet.{pad_of, payload_out, checked_size, packet_answer, packet_written, packet_out};
 
-use header::{Answer, Header};
+use header::{Header, Refusal};
 
 // How many pad bytes stand behind a payload of n bytes.
 pub fn pad(n: usize) -> u8
@@ -15,31 +15,37 @@ pub fn pad(n: usize) -> u8
     ((4 - n % 4) % 4) as u8
 }
 
-// Which refusal a packet gets, by its numbers, or 0. Each test comes before the sum that it keeps small.
-fn refusal(unfit: bool, padcnt: u8, headers: usize, n: usize, room: usize) -> u8
-    ensures { result ≡ refusal_by unfit padcnt headers n room }
+// How many bytes a packet has, by its numbers, or why it is refused. Each test comes before the sum that it keeps small.
+fn checked_size(
+    unfit: bool,
+    padcnt: u8,
+    headers: usize,
+    n: usize,
+    room: usize,
+) -> Result<usize, Refusal>
+    ensures { result ≡ checked_size unfit padcnt headers n room }
 {
     if unfit {
-        return header::BAD_NUMBER;
+        return Err(Refusal::BadNumber);
     }
     let own = pad(n);
     if padcnt != own {
-        return header::BAD_NUMBER;
+        return Err(Refusal::BadNumber);
     }
     if header::PACKET_LIMIT < headers {
-        return header::OUT_OF_RANGE;
+        return Err(Refusal::OutOfRange);
     }
     if header::PACKET_LIMIT < n {
-        return header::OUT_OF_RANGE;
+        return Err(Refusal::OutOfRange);
     }
     let size = headers + (n + own as usize);
     if header::PACKET_LIMIT < size {
-        return header::OUT_OF_RANGE;
+        return Err(Refusal::OutOfRange);
     }
     if room < size {
-        return header::OUTPUT_SHORT;
+        return Err(Refusal::OutputShort);
     }
-    0
+    Ok(size)
 }
 
 // Zero bytes behind the payload.
@@ -69,7 +75,7 @@ pub fn write_payload(out: &mut [u8], at: usize, payload: &[u8])
 }
 
 // Writes the packet of a header and a payload at the start of the output.
-pub fn write(h: Header, payload: &[u8], out: &mut [u8]) -> Answer
+pub fn write(h: Header, payload: &[u8], out: &mut [u8]) -> Result<usize, Refusal>
     ensures value { result ≡ packet_written h (length payload.now) (length out.old) }
     ensures result_value { answer_number result ≡ packet_answer h (length payload.now) (length out.old) }
     ensures out_after { out.new ≡ packet_out h payload.now out.old }
@@ -77,11 +83,8 @@ pub fn write(h: Header, payload: &[u8], out: &mut [u8]) -> Answer
     let none = encode::unfit(h);
     let bth = h.bth;
     let class = opcode::class(bth.opcode);
-    let code = refusal(none, bth.pad, class.length, payload.len(), out.len());
-    if code != 0 {
-        return Answer::Refused(code);
-    }
-    encode::write(h, out);
-    write_payload(out, class.length, payload);
-    Answer::Done(class.length + payload.len() + bth.pad as usize)
+    let size = checked_size(none, bth.pad, class.length, payload.len(), out.len())?;
+    let headers = encode::write(h, out).unwrap();
+    write_payload(out, headers, payload);
+    Ok(size)
 }

@@ -1,11 +1,10 @@
 // Headers read and written, as words.
 ghost use Rattle.std.specs.Prelude.{◌≡◌};
-ghost use Rattle.header.specs.Write.{answer_number};
-ghost use Rattle.header.specs.Write.{done_bytes};
+ghost use Rattle.header.specs.Write.{answer_number, done_bytes};
 ghost use Rattle.abi_spec.specs.Fields.{bth_words, extension_words};
 ghost use Rattle.udalopek_spec.specs.Headers.{read_header_number, read_report, read_bth, read_extension, own_words, write_number, write_output, write_report};
 
-use header::{Answer, Header};
+use header::{Header, Refusal};
 
 // Reads a header.
 #[unsafe(no_mangle)]
@@ -52,21 +51,20 @@ fn own_words(bth: &[u64; 11], extension: &[u64; 10]) -> bool
         && *extension == abi::extension_words(abi::extension_from(extension))
 }
 
-pub(crate) fn bytes_written(answer: Answer) -> u64
+// How many bytes an answer counts; none if it is a refusal.
+pub(crate) fn bytes_written(answer: Result<usize, Refusal>) -> u64
     ensures { result ≡ done_bytes answer }
 {
-    match answer {
-        Answer::Done(n) => n as u64,
-        Answer::Refused(_) => 0,
-    }
+    answer.unwrap_or(0) as u64
 }
 
-pub(crate) fn refusal_number(answer: Answer) -> u8
+// The number that C is given for an answer.
+pub(crate) fn refusal_number(answer: Result<usize, Refusal>) -> u8
     ensures { result ≡ answer_number answer }
 {
     match answer {
-        Answer::Done(_) => 0,
-        Answer::Refused(number) => number,
+        Ok(_) => 0,
+        Err(refusal) => u8::from(refusal),
     }
 }
 

@@ -6,8 +6,8 @@ ghost use Rattle.udalopek_spec.specs.RequestKind.{fetch_add};
 ghost use Rattle.udalopek_spec.specs.Cutting.{request_of, following_psn, cut_report, cut_number, cut_output, cut_words};
 
 use crate::headers::{bytes_written, refusal_number};
-use cut_spec::{Connection, Following, Request, Target};
-use header::{AtomicEth, Reth};
+use cut_spec::{Connection, Request, Target};
+use header::{AtomicEth, Refusal, Reth};
 use sequence::Psn;
 
 // The kinds of request that a caller names.
@@ -61,12 +61,12 @@ fn request_of(
     Some(request)
 }
 
-fn following_psn(f: Following) -> u64
-    ensures { result ≡ following_psn f }
+fn following_psn(next: Result<Psn, Refusal>) -> u64
+    ensures { result ≡ following_psn next }
 {
-    match f {
-        Following::Next(psn) => u64::from(psn.0),
-        Following::Refused(_) => 0,
+    match next {
+        Ok(psn) => u64::from(psn.0),
+        Err(_) => 0,
     }
 }
 

@@ -3,29 +3,25 @@ use Prim.Native.Nat.{ℕ}
 use mathlib.Core.Path.{◌≡◌, refl, sym, ap, ◌∙◌}
 use mathlib.Core.Bool.{Bool, true, false, cond}
 use mathlib.Core.List.{List, [], ◌∷◌}
-use native.Mathlib.Omega.{arith}
-use lib.Dec.{eqb, ltb, leb}
+use lib.Dec.{ltb}
 use lib.ListN.{length}
-use borrow.Author.Tests.{eqb-true, ltb-false, lt-ltb, ne_eqb}
+use borrow.Author.Tests.{lt-ltb}
+use Rattle.std.specs.Prelude.{Result, Ok, Err, ⊤}
+use Rattle.std.specs.Result.{result_and}
 use Rattle.sequence.specs.declared.Psn.{Psn}
 use Rattle.header.specs.Read.{read_reason, read_number, read_check}
 use Rattle.header.proofs.Drops.{read-dropped-by}
-use Rattle.header.specs.Write.{write_answer, header_length, written, written_out, answer_number, done_bytes}
+use Rattle.header.specs.Write.{written, written_out, answer_number, done_bytes}
 use Rattle.header.specs.declared.Header.{Header}
-use Rattle.header.specs.declared.Answer.TheVariants.{Done}
-use Rattle.header.specs.declared.Answer.{Answer}
-use Rattle.header.proofs.Writes.{was-done, refused-by, write-numbers}
-use Rattle.cut_spec.specs.Cut.{cut_unfit, cut_refusal, cut_answer, cut_written, cut_out}
-use Rattle.cut_spec.specs.Message.{carries, message_length, message_limit, packets_of}
+use Rattle.header.specs.declared.Refusal.{Refusal}
+use Rattle.header.proofs.Writes.{refused-by}
+use Rattle.cut_spec.specs.Cut.{cut_written, cut_out}
 use Rattle.cut_spec.specs.Next.{next_answer, next_psn}
-use Rattle.cut_spec.specs.Claims.{Fit, InLimit}
 use Rattle.cut_spec.specs.declared.Connection.{Connection}
 use Rattle.cut_spec.specs.declared.Request.{Request}
-use Rattle.cut_spec.specs.declared.Following.TheVariants.{Next}
 use Rattle.cut_spec.proofs.Answers.{follows}
-use Rattle.cut_spec.proofs.Fitting.{fit}
+use Rattle.cut_spec.proofs.Fitting.{passed}
 use Rattle.cut_spec.proofs.Shapes.{limit-in}
-use Rattle.cut_spec.proofs.Whole.{cut-numbers}
 use Rattle.abi_spec.specs.Words.{eq_words}
 use Rattle.abi_spec.specs.Fields.{bth_from, bth_words, extension_from, extension_words}
 use Rattle.abi_spec.specs.Claims.{BthFields, ExtensionFields}
@@ -38,34 +34,20 @@ use Rattle.udalopek_spec.specs.Claims.{CutIs, ReadIs, WriteIs, WriteBad, ReadKee
 use Rattle.udalopek_spec.proofs.Claims.{cut-reports}
 use Rattle.udalopek_spec.proofs.Steps.{first as firstly, second}
 
+-- what a check let through passed it
+let-through : {A : Type 0} (check : Result ⊤ Refusal) (answer : Result A Refusal) (x : A) → result_and check answer ≡ Ok x → check ≡ Ok tt
+let-through (Ok y) answer x e = refl
+let-through (Err r) answer x e = absurd cc
+
 -- a cut that is not refused has a next message
 module _ (c : Connection) (r : Request) (d : List ℕ) (first : Psn) (i room : ℕ) where
-  passed : cut_refusal c r (length d) first.0 i ≡ 0 → Fit c r first.0 × InLimit r (length d)
-  unfolding cut_refusal
-  passed = go (cut_unfit c (carries r) first.0) (ltb message_limit (message_length r (length d))) refl refl
-    where
-      go : (u o : Bool) → cut_unfit c (carries r) first.0 ≡ u → ltb message_limit (message_length r (length d)) ≡ o
-          → ◌≡◌ {A = ℕ} (cond u 39 (cond o 34 (cond (leb (packets_of r (length d) c.pmtu) i) 34 0))) 0
-          → Fit c r first.0 × InLimit r (length d)
-      go true o p q z = absurd (omega arith)
-      go false true p q z = absurd (omega arith)
-      go false false p q z = (fit c r first.0 p, limit-in r (length d) (ltb-false message_limit (message_length r (length d)) q))
-
-  not-refused : cut_answer c r d first i room ≡ 0 → cut_refusal c r (length d) first.0 i ≡ 0
-  unfolding cut_answer
-  not-refused = go (cut_refusal c r (length d) first.0 i) _ (eqb (cut_refusal c r (length d) first.0 i) 0) refl
-    where
-      go : (k n : ℕ) (b : Bool) → eqb k 0 ≡ b → cond b n k ≡ 0 → k ≡ 0
-      go k n true e z = eqb-true k 0 e
-      go k n false e z = z
-
-  goes_on_lem : (n : ℕ) → cut_written c r d first i room ≡ Done n → next_answer r (length d) c.pmtu first ≡ Next (next_psn r (length d) c.pmtu first)
+  goes_on_lem : (n : ℕ) → cut_written c r d first i room ≡ Ok n → next_answer r (length d) c.pmtu first ≡ Ok (next_psn r (length d) c.pmtu first)
   unfolding cut_written
   goes_on_lem n e =
-      let p = passed (not-refused (was-done _ _ n e).0) in
-      (follows r (length d) c.pmtu first).next p.0.pmtu p.0.first p.1
+      let p = passed c r (length d) first.0 i (let-through _ _ n e) in
+      (follows r (length d) c.pmtu first).next p.0.pmtu p.0.first (limit-in r (length d) p.1)
 
-  told : (n : ℕ) → cut_written c r d first i room ≡ Done n
+  told : (n : ℕ) → cut_written c r d first i room ≡ Ok n
       → cut_report (answer_number (cut_written c r d first i room)) (done_bytes (cut_written c r d first i room)) (following_psn (next_answer r (length d) c.pmtu first))
       ≡ n ∷ (next_psn r (length d) c.pmtu first).0 ∷ []
   unfolding cut_report answer_number following_psn
@@ -128,7 +110,7 @@ read_keeps p b e n =
     (rw a, rw a (ap (λ k. k ∷ []) drop.1), rw a, rw a)
 
 pub write_keeps : WriteKeeps
-unfolding write_number write_output write_report written written_out
+unfolding write_number write_output write_report written_out
 write_keeps b e out = go (own_words b e)
   where
     h : Header
@@ -136,16 +118,14 @@ write_keeps b e out = go (own_words b e)
 
     go : (o : Bool) → (cond o (answer_number (written h (length out))) 39 ≡ 0 → ⊥)
         → (cond o (written_out h out) out ≡ out) × (cond o (done_bytes (written h (length out)) ∷ []) (0 ∷ []) ≡ 0 ∷ [])
-    go true n =
-        let z : write_answer h (length out) ≡ 0 → ⊥ = λ e. n (write-numbers h (length out) ∙ e) in
-        (sym (second _ _ out (ne_eqb _ 0 z)), ap (λ a. done_bytes a ∷ []) (refused-by _ (header_length h) _ refl z))
+    go true n = let refused = (refused-by (written h (length out)) n).1 in (rw refused, rw refused)
     go false n = (refl, refl)
 
 pub cut_keeps : CutKeeps
 unfolding cut_number cut_output cut_words cut_out
 cut_keeps kind c r d first i out = go (ltb 6 kind)
   where
-    a : Answer
+    a : Result ℕ Refusal
     a = cut_written c r d first i (length out)
 
     psn : ℕ
@@ -155,6 +135,6 @@ cut_keeps kind c r d first i out = go (ltb 6 kind)
         → (cond o out (cut_out c r d first i out) ≡ out) × (cond o (0 ∷ 0 ∷ []) (cut_report (answer_number a) (done_bytes a) psn) ≡ 0 ∷ 0 ∷ [])
     go true n = (refl, refl)
     go false n = (
-      sym (second _ _ out (ne_eqb _ 0 (λ e. n (cut-numbers c r d first i (length out) ∙ e)))),
+      rw (refused-by (cut_written c r d first i (length out)) n).1,
       (cut-reports (done_bytes a) psn).1 (answer_number a) n,
     )

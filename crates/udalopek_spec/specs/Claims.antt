@@ -5,7 +5,6 @@ use Rattle.header.specs.Bytes.{Bytes}
 use Rattle.header.specs.Read.{read_reason, read_header}
 use Rattle.header.specs.Write.{written, written_out, answer_number, done_bytes}
 use Rattle.header.specs.declared.Header.{Header}
-use Rattle.header.specs.declared.Answer.TheVariants.{Done}
 use Rattle.table.specs.declared.Region.{Region}
 use Rattle.table.specs.declared.Entry.{Entry}
 use Rattle.pair.specs.declared.Setup.{Setup}
@@ -206,7 +205,7 @@ RemoveIs =
 pub record CutAs (kind : ℕ) (c : Connection) (asked r : Request) (d : List ℕ) (first : Psn) (i : ℕ) (out : List ℕ) : Type 0 where
   pub number : cut_number kind c asked d first i out ≡ answer_number (cut_written c r d first i (length out))
   pub output : cut_output kind c asked d first i out ≡ cut_out c r d first i out
-  pub told : (n : ℕ) → cut_written c r d first i (length out) ≡ Done n
+  pub told : (n : ℕ) → cut_written c r d first i (length out) ≡ Ok n
       → cut_words kind c asked d first i out ≡ n ∷ (next_psn r (length d) c.pmtu first).0 ∷ []
 
 -- So it is of each kind, the request written out; a kind past the last is 39.

@@ -1,16 +1,14 @@
 -- A cut by numbers.
-use Rattle.std.specs.Prelude.{ℕ, cond, List, [], ◌∷◌, eqb, ltb, length}
+use Rattle.std.specs.Prelude.{ℕ, cond, List, [], ◌∷◌, Result, Ok, Err, eqb, ltb, length}
 use Rattle.sequence.specs.declared.Psn.{Psn}
 use Rattle.header.specs.Refusal as Refusal
-use Rattle.header.specs.Write.{answer_number}
+use Rattle.header.specs.Write.{answer_number, done_bytes}
+use Rattle.header.specs.declared.Refusal.{Refusal}
 use Rattle.cut_spec.specs.declared.Connection.{Connection}
 use Rattle.cut_spec.specs.declared.Request.{Request}
 use Rattle.cut_spec.specs.declared.Request.TheVariants.{Send, SendImmediate, Write, WriteImmediate, Read, CmpSwap, FetchAdd}
-use Rattle.cut_spec.specs.declared.Following.{Following}
-use Rattle.cut_spec.specs.declared.Following.TheVariants.{Next, Refused}
 use Rattle.cut_spec.specs.Cut.{cut_written, cut_out}
 use Rattle.cut_spec.specs.Next.{next_answer}
-use Rattle.header.specs.Write.{done_bytes}
 use Rattle.udalopek_spec.specs.RequestKind as RequestKind
 
 -- the request of a kind, from the numbers that it has
@@ -24,9 +22,9 @@ request_of kind address key length swap compare immediate =
     (cond (eqb kind RequestKind.cmp_swap) (CmpSwap (record { address = address; key = key; swap = swap; compare = compare }))
     (FetchAdd (record { address = address; key = key }) swap))))))
 
-unfoldable pub following_psn : Following → ℕ
-following_psn (Next psn) = psn.0
-following_psn (Refused number) = 0
+unfoldable pub following_psn : Result Psn Refusal → ℕ
+following_psn (Ok psn) = psn.0
+following_psn (Err refusal) = 0
 
 -- the report: the bytes written, and the PSN of the message after this one; of a refused cut nothing
 unfoldable pub cut_report : ℕ → ℕ → ℕ → List ℕ

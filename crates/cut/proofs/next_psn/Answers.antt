@@ -1,29 +1,23 @@
-use Rattle.header.proofs.Writes.{told}
+use borrow.Author.Tests.{le-leb, lt-leb}
+use Rattle.header.proofs.Writes.{told, handed-on}
+use Rattle.cut_spec.specs.Next.{next_answer, check_next, next_psn, psns_of}
 use Rattle.cut_spec.proofs.Answers.{next-numbers}
-use borrow.Author.Tests.{eq-eqb, le-leb, lt-leb, ne_eqb}
-use Rattle.cut_spec.specs.Next.{next_answer, next_refusal, following_by, following_number, next_psn, psns_of}
 use Rattle.cut.proofs.next_psn.Goals as goal
 
 pub returns-then-first-ge-SPACE : goal.returns-then-first-ge-SPACE
-unfolding next_answer next_refusal following_by next_psn psns_of
+unfolding next_answer check_next
 returns-then-first-ge-SPACE c =
-    let A = c.args in
-    let all = told following_number _ _ _ (next-numbers A.request A.n A.pmtu A.first)
-    (simp (le-leb _ _ c.if-first-ge-SPACE.true)) in
+    let all = told _ _ _ (next-numbers _ _ _ _) (simp (le-leb _ _ c.if-first-ge-SPACE.true)) in
     record { value = all.0; result_value = all.1 }
 
-pub returns-then-code-ne0 : goal.returns-then-code-ne0
-unfolding next_answer next_refusal following_by next_psn psns_of
-returns-then-code-ne0 c =
-    let A = c.args in
-    let all = told following_number _ _ _ (next-numbers A.request A.n A.pmtu A.first)
-    (simp (lt-leb _ _ c.if-first-ge-SPACE.false, ← c.message_length-whole.ensures, ← c.length_refusal-code.ensures, ne_eqb _ _ c.if-code-ne0.true)) in
+pub returns-in_err-check_length : goal.returns-in_err-check_length
+unfolding next_answer check_next
+returns-in_err-check_length c =
+    let all = told _ _ _ (next-numbers _ _ _ _) (handed-on _ _ c.from_residual.ensures.1 ∙ simp (lt-leb _ _ c.if-first-ge-SPACE.false, ← c.message_length-whole.ensures, ← c.check_length.ensures, c.in_err-check_length.was)) in
     record { value = all.0; result_value = all.1 }
 
 pub returns : goal.returns
-unfolding next_answer next_refusal following_by next_psn psns_of
+unfolding next_answer check_next next_psn psns_of
 returns c =
-    let A = c.args in
-    let all = told following_number _ _ _ (next-numbers A.request A.n A.pmtu A.first)
-    (simp (lt-leb _ _ c.if-first-ge-SPACE.false, ← c.message_length-whole.ensures, ← c.length_refusal-code.ensures, eq-eqb _ _ c.if-code-ne0.false, ← c.count-count.ensures, ← c.after-next.ensures)) in
+    let all = told _ _ _ (next-numbers _ _ _ _) (simp (lt-leb _ _ c.if-first-ge-SPACE.false, ← c.message_length-whole.ensures, ← c.check_length.ensures, c.in_ok-check_length.was, ← c.count-count.ensures, ← c.after.ensures)) in
     record { value = all.0; result_value = all.1 }

@@ -1,10 +1,10 @@
 use Rattle.header.specs.Write.{answer_number}
 use Rattle.udalopek.proofs.headers.refusal_number.Goals as goal
 
-pub returns-in-Done : goal.returns-in-Done
+pub returns-in-Ok : goal.returns-in-Ok
 unfolding answer_number
-returns-in-Done c = simp c.in-Done.is
+returns-in-Ok c = simp c.in-Ok.is
 
-pub returns-in-Refused : goal.returns-in-Refused
+pub returns-in-Err : goal.returns-in-Err
 unfolding answer_number
-returns-in-Refused c = simp c.in-Refused.is
+returns-in-Err c = simp (c.in-Err.is, ← c.from.ensures)

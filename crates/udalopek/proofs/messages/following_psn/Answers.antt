@@ -1,10 +1,10 @@
 use Rattle.udalopek_spec.specs.Cutting.{following_psn}
 use Rattle.udalopek.proofs.messages.following_psn.Goals as goal
 
-pub returns-in-Next : goal.returns-in-Next
+pub returns-in-Ok : goal.returns-in-Ok
 unfolding following_psn
-returns-in-Next c = simp (c.in-Next.is, ← c.from.ensures)
+returns-in-Ok c = simp (c.in-Ok.is, ← c.from.ensures)
 
-pub returns-in-Refused : goal.returns-in-Refused
+pub returns-in-Err : goal.returns-in-Err
 unfolding following_psn
-returns-in-Refused c = simp c.in-Refused.is
+returns-in-Err c = simp c.in-Err.is

@@ -1,15 +1,15 @@
 use borrow.Author.Tests.{le-ltb, lt-ltb}
-use Rattle.cut_spec.specs.Message.{length_refusal}
-use Rattle.cut.proofs.length_refusal.Goals as goal
+use Rattle.cut_spec.specs.Message.{check_length}
+use Rattle.cut.proofs.check_length.Goals as goal
 
 pub returns-then-unfit : goal.returns-then-unfit
-unfolding length_refusal
+unfolding check_length
 returns-then-unfit c = simp (← c.pmtu_unfit-unfit.ensures, c.if-unfit.true)
 
 pub returns-then-n-gt-MESSAGE_LIMIT : goal.returns-then-n-gt-MESSAGE_LIMIT
-unfolding length_refusal
+unfolding check_length
 returns-then-n-gt-MESSAGE_LIMIT c = simp (← c.pmtu_unfit-unfit.ensures, c.if-unfit.false, lt-ltb _ _ c.if-n-gt-MESSAGE_LIMIT.true)
 
 pub returns : goal.returns
-unfolding length_refusal
+unfolding check_length
 returns c = simp (← c.pmtu_unfit-unfit.ensures, c.if-unfit.false, le-ltb _ _ c.if-n-gt-MESSAGE_LIMIT.false)
