@@ -46,7 +46,7 @@ msn-counts zero = refl
 msn-counts (suc n) = one_more_lem (msn_of n) n (msn-counts n)
 
 -- a remainder is its own remainder
-again : (n : ℕ) → n % 16777216 % 16777216 ≡ n % 16777216
+again : (n : ℕ) → n % space % space ≡ n % space
 again n = omega arith
 
 -- the distance between two positions of a stream: the first ahead, or behind
