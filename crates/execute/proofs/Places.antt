@@ -1,14 +1,14 @@
 -- What a packet that passed the checks says of the sums made for it.
 use Prim.Native.Nat.{ℕ, ◌+◌, ◌^◌, ◌≤◌, ◌<◌}
-use mathlib.Core.Path.{◌≡◌, refl, sym, ap, ◌∙◌}
-use mathlib.Core.Bool.{Bool, true, false, cond, not, ◌||◌, true≢false}
+use mathlib.Core.Path.{◌≡◌, refl, ap}
+use mathlib.Core.Bool.{Bool, true, false, cond}
 use mathlib.Core.List.{List}
 use native.Mathlib.Omega.{arith}
-use lib.Dec.{eqb, ltb, leb}
+use lib.Dec.{eqb}
 use lib.ListN.{get_or}
-use borrow.Author.Tests.{eqb-true, eq-eqb, ne_eqb, ltb-false, leb-false}
-use Rattle.lemmas.proofs.Tests.{or_left, or_right}
-use Rattle.table.specs.Table.{outside, past_top, addresses, memory_offset}
+use borrow.Author.Tests.{eqb-true, eq-eqb, ne_eqb}
+use Rattle.std.proofs.lemmas.Bool.Decides.{nat_tests}
+use Rattle.table.specs.Table.{past_top, addresses, memory_offset}
 use Rattle.pair.specs.Sound.{timer_limit}
 use Rattle.pair.specs.declared.OpenMessage.{OpenMessage}
 use Rattle.pair.specs.declared.Setup.{Setup}
@@ -23,42 +23,21 @@ use Rattle.execute.specs.Fits.{OffsetFits, TargetFits, Storable, Executable, unf
 -- bytes that a region holds end below 2^64
 held_below : (region : List ℕ) (right memory address n : ℕ) → lacks region right memory address n ≡ false → address + n < addresses
 unfolding lacks past_top
-held_below region right memory address n h =
-    let a = or_right (eqb right 0) _ h in
-    let b = or_right (outside (get_or region 3 0) (get_or region 2 0) memory) _ a in
-    let t = leb-false addresses (get_or region 1 0 + get_or region 2 0) (or_left (leb addresses (get_or region 1 0 + get_or region 2 0)) _ b) in
-    let c = or_right (leb addresses (get_or region 1 0 + get_or region 2 0)) _ b in
-    let d = or_right (ltb address (get_or region 1 0)) _ c in
-    omega (arith, t, ltb-false (get_or region 1 0 + get_or region 2 0) (address + n) d)
+held_below region right memory address n h = grind (arith, nat_tests)
 
 key_below : (memory kind : ℕ) (m : OpenMessage) (region : List ℕ) → (kind ≡ 0 → ⊥) → 0 < bytes_to_come m.length m.stored
     → key_fails memory kind m region ≡ false → m.address + m.stored < 2 ^ 64
 unfolding key_fails key_lacking
-key_below memory kind m region k some h =
-    let z : eqb (bytes_to_come m.length m.stored) 0 ≡ false = ne_eqb (bytes_to_come m.length m.stored) 0 (λ x. omega arith) in
-    omega (arith, held_below region _ memory (m.address + m.stored) (bytes_to_come m.length m.stored) (rw (ne_eqb kind 0 k, z) at h))
+key_below memory kind m region k some h = grind (arith, nat_tests, held_below)
 
 -- of the kinds that carry no bytes the single ones are enabled
 served : (s : Setup) (kind : ℕ) → not_enabled s kind ≡ false → carrying kind ≡ false → single kind ≡ true
 unfolding not_enabled single carrying
-served s kind h c = go (eqb kind 0) (eqb kind 6) (eqb kind 12) (eqb kind 19) (eqb kind 20) refl refl h
-  where
-    high : 12 ≤ kind
-    high = ltb-false kind 12 c
-
-    go : (a b r x f : Bool) → eqb kind 0 ≡ a → eqb kind 6 ≡ b
-        → cond a (not s.send) (cond b (not s.write) (cond r (not s.read) (cond x (not s.atomic) (cond f (not s.atomic) true)))) ≡ false
-        → (r || (x || f)) ≡ true
-    go true b r x f v w t = absurd (omega (arith, high, eqb-true kind 0 v))
-    go false true r x f v w t = absurd (omega (arith, high, eqb-true kind 6 w))
-    go false false true x f v w t = refl
-    go false false false true f v w t = refl
-    go false false false false true v w t = refl
-    go false false false false false v w t = absurd (true≢false t)
+served s kind h c = grind (arith, nat_tests)
 
 bare-kind : (kind : ℕ) → carrying kind ≡ false → eqb kind 0 ≡ false
 unfolding carrying
-bare-kind kind c = ne_eqb kind 0 (λ e. omega (arith, ltb-false kind 12 c))
+bare-kind kind c = grind (arith, nat_tests)
 
 module _ (s : Setup) (opened : OpenMessage) (p : Packet) (entry region : List ℕ) (P : Passed s opened p entry region)
     (memory : s.memory < 2 ^ 64) (stored : (current opened p).stored < 2 ^ 64) (length : (current opened p).length < 2 ^ 64) where
@@ -102,8 +81,8 @@ module _ (s : Setup) (opened : OpenMessage) (p : Packet) (entry region : List �
 -- a packet and a pair that are formed: no fragment, and a timer code within the limit
 pub whole : (p : Packet) (timer : ℕ) (t : Bool) → t ≡ unformed p timer → t ≡ false → fragment p ≡ false
 unfolding unformed
-whole p timer t e f = or_left (fragment p) _ (sym e ∙ f)
+whole p timer t e f = grind (arith, nat_tests)
 
 pub timed : (p : Packet) (timer : ℕ) (t : Bool) → t ≡ unformed p timer → t ≡ false → timer ≤ timer_limit
 unfolding unformed
-timed p timer t e f = ltb-false timer_limit timer (or_right (fragment p) _ (sym e ∙ f))
+timed p timer t e f = grind (arith, nat_tests)

@@ -129,7 +129,8 @@ fn request_check(
     bytes_check(p, m, s, region, entry[table::ENTRY_LENGTH])
 }
 
-// The request checks, for a packet of the message m: on Err the first that fails.
+// The request checks, for a packet of the message m: on Err the first that fails. Two rows and a count stay arguments:
+// only one call has them, and a struct of them would be made there and taken apart here.
 pub fn expected_check(
     s: Setup,
     opened: u8,

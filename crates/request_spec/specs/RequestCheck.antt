@@ -32,7 +32,7 @@ lengths = 7
 abbrev pub entry_outside : ℕ
 entry_outside = 8
 
--- the number of a check
+-- the number of a check, by which the laws speak of it
 abbrev pub check_number : RequestCheck → ℕ
 check_number check.Sequence = sequence
 check_number check.Function = function
