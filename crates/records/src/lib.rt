@@ -1,10 +1,10 @@
 // Records in a stream: a length of 2 bytes, big-endian, and a packet of that many bytes.
 #![tactic(auto)]
 
-ghost use Rattle.std.specs.Prelude.{◌≡◌, ◌^◌, ◌<◌, ◌≤◌, length, take, IfOk};
+ghost use Rattle.std.specs.Prelude.{◌≡◌, ◌^◌, ◌<◌, ◌≤◌, length, take, IfOk, OnErr};
 ghost use Rattle.std.specs.Int.{w16, to_be_bytes, from_be_bytes};
 ghost use Rattle.std.specs.Io.KnownBytes.{Consumes, IsAtEnd};
-ghost use Rattle.records.specs.Next.{ReadsNext};
+ghost use Rattle.records.specs.Next.{ReadsNext, TakesSome};
 
 use std::io::{self, Read};
 
@@ -24,6 +24,7 @@ fn fill<R: Read>(input: &mut R, buf: &mut [u8]) -> io::Result<usize>
     ensures count { IfOk result (λ n. n ≤ length buf.new) }
     ensures bytes { IfOk result (λ n. Consumes (R.remaining input.old) (R.remaining input.new) (take n buf.new)) }
     ensures end { IfOk result (λ n. n < length buf.new → IsAtEnd (R.remaining input.new)) }
+    ensures err { OnErr result (TakesSome (R.remaining input.old) (R.remaining input.new)) }
 {
     let mut done = 0;
     while done < buf.len() {
@@ -47,7 +48,8 @@ fn length_of(two: [u8; 2]) -> usize
 
 // Reads the next record, its packet to the start of buf.
 pub fn next<'a, R: Read>(input: &mut R, buf: &'a mut [u8]) -> io::Result<Record<'a>>
-    ensures { IfOk result (ReadsNext (R.remaining input.old) (R.remaining input.new) (length buf.old)) }
+    ensures ok { IfOk result (ReadsNext (R.remaining input.old) (R.remaining input.new) (length buf.old)) }
+    ensures err { OnErr result (TakesSome (R.remaining input.old) (R.remaining input.new)) }
 {
     let mut two = [0; 2];
     match fill(input, &mut two)? {
