@@ -4,7 +4,6 @@ ghost use Rattle.table.specs.declared.Region.{Region};
 ghost use Rattle.table.specs.declared.Entry.{Entry};
 ghost use Rattle.pair.specs.declared.Setup.{Setup};
 ghost use Rattle.pair.specs.Answer.{status_number, executed};
-ghost use Rattle.abi_spec.specs.Words.{overwrite_words};
 ghost use Rattle.abi_spec.specs.Pair.{pair_words};
 ghost use Rattle.udalopek_spec.specs.Host.{set_up_number, set_up_words, set_up_table, reset_number, reset_words, reset_table, ready_number, ready_words, add_number, add_table, remove_number, remove_table, post_number, post_words, post_table};
 
@@ -17,11 +16,11 @@ use table::{Entry, Region};
 // Writes the pair of a call that is done over its words, and answers the call's number.
 fn leave(words: &mut [u64; abi::PAIR], left: HostOutcome) -> u8
     ensures value { result ≡ status_number left.status }
-    ensures words_after { words.new ≡ cond (executed left.status) (overwrite_words words.old (pair_words left.pair)) words.old }
+    ensures words_after { words.new ≡ cond (executed left.status) (pair_words left.pair) words.old }
 {
     let number = left.status.number();
     if number == 0 {
-        abi::overwrite_words(words, &abi::pair_words(left.pair));
+        *words = abi::pair_words(left.pair);
     }
     number
 }
