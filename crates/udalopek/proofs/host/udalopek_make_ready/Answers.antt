@@ -2,16 +2,10 @@ use Rattle.std.proofs.Common.{ap, ◌∙◌, cond}
 use Rattle.pair.specs.Answer.{status_number, executed}
 use Rattle.pair.specs.Host.{made_ready}
 use Rattle.abi_spec.specs.Pair.{pair_of, pair_words}
-use Rattle.udalopek_spec.proofs.Steps.{second, first, many, few, few-stray}
+use Rattle.udalopek_spec.proofs.Steps.{second, many}
 use Rattle.udalopek_spec.proofs.Done.{ready_words_lem}
-use Rattle.udalopek_spec.specs.Host.{ready_number, ready_words}
+use Rattle.udalopek_spec.specs.Host.{ready_number}
 use Rattle.udalopek.proofs.host.udalopek_make_ready.Goals as goal
-
-pub returns-in_default : goal.returns-in_default
-unfolding ready_number ready_words
-returns-in_default c =
-    let f = few _ c.in_default.ensures.cases in
-    record { value = first _ 34 _ f; pair_after = first _ _ _ (few-stray _ f) }
 
 pub returns : goal.returns
 unfolding ready_number made_ready

@@ -2,16 +2,10 @@ use Rattle.std.proofs.Common.{ap, ◌∙◌, cond}
 use Rattle.pair.specs.Answer.{status_number, executed}
 use Rattle.pair.specs.Host.{reset_to, reset_regions}
 use Rattle.abi_spec.specs.Pair.{pair_of, pair_words}
-use Rattle.udalopek_spec.proofs.Steps.{second, first, many, few, few-stray}
+use Rattle.udalopek_spec.proofs.Steps.{second, many}
 use Rattle.udalopek_spec.proofs.Done.{reset-words}
-use Rattle.udalopek_spec.specs.Host.{reset_number, reset_words, reset_table}
+use Rattle.udalopek_spec.specs.Host.{reset_number, reset_table}
 use Rattle.udalopek.proofs.host.udalopek_reset.Goals as goal
-
-pub returns-in_default : goal.returns-in_default
-unfolding reset_number reset_words reset_table
-returns-in_default c =
-    let f = few _ c.in_default.ensures.cases in
-    record { value = first _ 34 _ f; pair_after = first _ _ _ (few-stray _ f); regions_after = first _ _ _ f }
 
 pub returns : goal.returns
 unfolding reset_number reset_table reset_to

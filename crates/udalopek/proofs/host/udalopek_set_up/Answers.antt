@@ -1,14 +1,10 @@
 use Rattle.std.proofs.Common.{ap, ◌∙◌, cond}
 use Rattle.pair.specs.Answer.{status_number, executed}
 use Rattle.abi_spec.specs.Pair.{pair_words}
-use Rattle.udalopek_spec.proofs.Steps.{second, first, many, few}
+use Rattle.udalopek_spec.proofs.Steps.{second, many}
 use Rattle.udalopek_spec.proofs.Done.{set-up-left}
-use Rattle.udalopek_spec.specs.Host.{set_up_number, set_up_words, set_up_table}
+use Rattle.udalopek_spec.specs.Host.{set_up_number, set_up_table}
 use Rattle.udalopek.proofs.host.udalopek_set_up.Goals as goal
-
-pub returns-in_default : goal.returns-in_default
-unfolding set_up_number set_up_words set_up_table
-returns-in_default c = let f = few _ c.in_default.ensures.cases in (first _ 34 _ f, first _ _ _ f, first _ _ _ f)
 
 pub returns : goal.returns
 unfolding set_up_number set_up_table
