@@ -4,7 +4,6 @@ ghost use Rattle.table.specs.declared.Region.{Region};
 ghost use Rattle.table.specs.declared.Entry.{Entry};
 ghost use Rattle.pair.specs.declared.Setup.{Setup};
 ghost use Rattle.pair.specs.Answer.{status_number, executed};
-ghost use Rattle.abi_spec.specs.Words.{overwrite_words};
 ghost use Rattle.abi_spec.specs.Pair.{pair_words};
 ghost use Rattle.udalopek_spec.specs.Host.{set_up_number, set_up_words, set_up_table, reset_number, reset_words, reset_table, ready_number, ready_words, add_number, add_table, remove_number, remove_table, post_number, post_words, post_table};
 
@@ -15,18 +14,20 @@ use sequence::Psn;
 use table::{Entry, Region};
 
 // Writes the pair of a call that is done over its words, and answers the call's number.
+#[tactic(auto, unfolding(pair::specs::Answer::executed))]
 fn leave(words: &mut [u64; abi::PAIR], left: HostOutcome) -> u8
     ensures value { result ≡ status_number left.status }
-    ensures words_after { words.new ≡ cond (executed left.status) (overwrite_words words.old (pair_words left.pair)) words.old }
+    ensures words_after { words.new ≡ cond (executed left.status) (pair_words left.pair) words.old }
 {
     let number = u8::from(left.status);
     if number == 0 {
-        abi::overwrite_words(words, &abi::pair_words(left.pair));
+        *words = abi::pair_words(left.pair);
     }
     number
 }
 
 // Takes the numbers of a new pair, whatever the words and the table had.
+#[tactic(auto, unfolding(udalopek_spec::specs::Host::set_up_number, udalopek_spec::specs::Host::set_up_words, udalopek_spec::specs::Host::set_up_table, abi_spec::specs::Pair::other_length))]
 #[unsafe(no_mangle)]
 pub extern "C" fn udalopek_set_up(
     pair: &mut [u64],
@@ -67,6 +68,7 @@ pub extern "C" fn udalopek_set_up(
 }
 
 // Starts afresh with the numbers of the set-up.
+#[tactic(auto, unfolding(udalopek_spec::specs::Host::reset_number, udalopek_spec::specs::Host::reset_words, udalopek_spec::specs::Host::reset_table, abi_spec::specs::Pair::strays, abi_spec::specs::Pair::other_length))]
 #[unsafe(no_mangle)]
 pub extern "C" fn udalopek_reset(pair: &mut [u64], regions: &mut [[u64; 7]; table::REGIONS]) -> u8
     ensures value { result ≡ reset_number pair.old }
@@ -80,6 +82,7 @@ pub extern "C" fn udalopek_reset(pair: &mut [u64], regions: &mut [[u64; 7]; tabl
 }
 
 // The pair takes packets from now on.
+#[tactic(auto, unfolding(udalopek_spec::specs::Host::ready_number, udalopek_spec::specs::Host::ready_words, abi_spec::specs::Pair::strays, abi_spec::specs::Pair::other_length))]
 #[unsafe(no_mangle)]
 pub extern "C" fn udalopek_make_ready(pair: &mut [u64]) -> u8
     ensures value { result ≡ ready_number pair.old }
@@ -92,6 +95,7 @@ pub extern "C" fn udalopek_make_ready(pair: &mut [u64]) -> u8
 }
 
 // Lets peers name a part of memory by a key.
+#[tactic(auto, unfolding(udalopek_spec::specs::Host::add_number, udalopek_spec::specs::Host::add_table, abi_spec::specs::Pair::other_length))]
 #[unsafe(no_mangle)]
 pub extern "C" fn udalopek_add_region(
     pair: &[u64],
@@ -122,6 +126,7 @@ pub extern "C" fn udalopek_add_region(
 }
 
 // Takes a key back.
+#[tactic(auto, unfolding(udalopek_spec::specs::Host::remove_number, udalopek_spec::specs::Host::remove_table, abi_spec::specs::Pair::other_length))]
 #[unsafe(no_mangle)]
 pub extern "C" fn udalopek_remove_region(
     pair: &[u64],
@@ -138,6 +143,7 @@ pub extern "C" fn udalopek_remove_region(
 }
 
 // Gives memory for a message that a peer will send.
+#[tactic(auto, unfolding(udalopek_spec::specs::Host::post_number, udalopek_spec::specs::Host::post_words, udalopek_spec::specs::Host::post_table, abi_spec::specs::Pair::strays, abi_spec::specs::Pair::other_length))]
 #[unsafe(no_mangle)]
 pub extern "C" fn udalopek_post_entry(
     pair: &mut [u64],

@@ -20,6 +20,7 @@ fn report_words(outgoing: usize, c: Completion) -> [u64; 6]
 
 // Takes a packet: as responder::inbound, but that what is left goes into the words, in place. Everything that takes the
 // pair is inlined here; a call with the pair would write it to memory for every packet.
+#[tactic(auto, unfolding(udalopek_spec::specs::Packets::inbound_returned, abi_spec::specs::Pair::other_length))]
 #[unsafe(no_mangle)]
 pub extern "C" fn udalopek_inbound(
     pair: &mut [u64],
@@ -55,6 +56,7 @@ pub extern "C" fn udalopek_inbound(
 }
 
 // Writes the next response of a READ.
+#[tactic(auto, unfolding(udalopek_spec::specs::Packets::next_number, udalopek_spec::specs::Packets::next_words, udalopek_spec::specs::Packets::next_output, udalopek_spec::specs::Packets::next_report, abi_spec::specs::Pair::strays, abi_spec::specs::Pair::other_length))]
 #[unsafe(no_mangle)]
 pub extern "C" fn udalopek_next_response(
     pair: &mut [u64],

@@ -23,8 +23,7 @@ use Rattle.pair.specs.declared.Status.TheVariants as status
 use Rattle.responder_spec.specs.Apply.{with}
 use Rattle.responder_spec.specs.Response.{one_fewer, next_status, next_response}
 use Rattle.abi_spec.specs.Pair.{other_length, strays, pair_of, pair_words}
-use Rattle.abi_spec.specs.Words.{overwrite_words}
-use Rattle.abi_spec.proofs.Laws.{sound-words, set-up-words, overwrite-many}
+use Rattle.abi_spec.proofs.Laws.{sound-words, set-up-words}
 use Rattle.udalopek_spec.specs.Packets.{next_words}
 use Rattle.udalopek_spec.specs.Host.{set_up_words, ready_words, reset_words, post_words}
 use Rattle.udalopek_spec.specs.Left.{entries_put, read_put}
@@ -96,12 +95,12 @@ module _ (w : List ℕ) (l : other_length w ≡ false) where
   unposted-words e x = left-as-they-were w _ (ap (λ b. cond b (moved (pair_of w) (pair_of w).state (one_more (pair_of w).entries)) (pair_of w)) x)
 
   -- of a call whose status says whether it is done: its pair over the words, or the words as they were
-  left_by_lem : (s : Status) (q : Pair) → cond (executed s) (overwrite_words w (pair_words (cond (executed s) q (pair_of w)))) w
+  left_by_lem : (s : Status) (q : Pair) → cond (executed s) (pair_words (cond (executed s) q (pair_of w))) w
       ≡ cond (executed s) (pair_words q) w
   left_by_lem s q = go (executed s)
     where
-      go : (b : Bool) → cond b (overwrite_words w (pair_words (cond b q (pair_of w)))) w ≡ cond b (pair_words q) w
-      go true = overwrite-many w q (counted w l)
+      go : (b : Bool) → cond b (pair_words (cond b q (pair_of w))) w ≡ cond b (pair_words q) w
+      go true = refl
       go false = refl
 
   both_ways : (s : Status) (q : Pair) → (executed s ≡ true → strays w ≡ false) → cond (executed s) (pair_words q) w ≡ cond (strays w) w (pair_words (cond (executed s) q (pair_of w)))
@@ -111,17 +110,17 @@ module _ (w : List ℕ) (l : other_length w ≡ false) where
       go true f = second (strays w) w _ (f refl)
       go false f = left-as-they-were w (pair_of w) refl
 
-  pub set-up-left : (s : Setup) → cond (executed (set_up s).status) (overwrite_words w (pair_words (set_up s).pair)) w ≡ set_up_words w s
+  pub set-up-left : (s : Setup) → cond (executed (set_up s).status) (pair_words (set_up s).pair) w ≡ set_up_words w s
   unfolding set_up_words
-  set-up-left s = ap (λ v. cond (executed (set_up s).status) v w) (overwrite-many w (set_up s).pair (counted w l)) ∙ second (other_length w) w _ l
+  set-up-left s = second (other_length w) w _ l
 
-  pub ready_words_lem : cond (executed (ready_status (pair_of w))) (overwrite_words w (pair_words (made_ready (pair_of w)).pair)) w ≡ ready_words w
+  pub ready_words_lem : cond (executed (ready_status (pair_of w))) (pair_words (made_ready (pair_of w)).pair) w ≡ ready_words w
   unfolding ready_words made_ready ready_status
   ready_words_lem =
       left_by_lem (ready_status (pair_of w)) _
       ∙ both_ways (ready_status (pair_of w)) _ (λ x. sound-words w (counted w l) (early (eqb (pair_of w).state 0) (pair_unsound (pair_of w)) x))
 
-  pub reset-words : cond (executed (reset_status (pair_of w))) (overwrite_words w (pair_words (reset_to (pair_of w)).pair)) w ≡ reset_words w
+  pub reset-words : cond (executed (reset_status (pair_of w))) (pair_words (reset_to (pair_of w)).pair) w ≡ reset_words w
   unfolding reset_words reset_to reset_status
   reset-words =
       left_by_lem (reset_status (pair_of w)) _

@@ -3,13 +3,9 @@ use Rattle.table.specs.declared.Region.{Region}
 use Rattle.pair.specs.Answer.{status_number}
 use Rattle.pair.specs.Host.{add_status, add_regions}
 use Rattle.abi_spec.specs.Pair.{pair_of}
-use Rattle.udalopek_spec.proofs.Steps.{second, first, many, few}
+use Rattle.udalopek_spec.proofs.Steps.{second, many}
 use Rattle.udalopek_spec.specs.Host.{add_number, add_table}
 use Rattle.udalopek.proofs.host.udalopek_add_region.Goals as goal
-
-pub returns-in_default : goal.returns-in_default
-unfolding add_number add_table
-returns-in_default c = let f = few _ c.in_default.ensures.cases in (first _ 34 _ f, first _ _ _ f)
 
 pub returns : goal.returns
 unfolding add_number add_table

@@ -3,15 +3,11 @@ use Rattle.table.specs.declared.Entry.{Entry}
 use Rattle.pair.specs.Answer.{status_number}
 use Rattle.pair.specs.Host.{posted, post_entries}
 use Rattle.abi_spec.specs.Pair.{pair_of}
-use Rattle.udalopek_spec.proofs.Steps.{second, first, many, few, few-stray}
+use Rattle.udalopek_spec.proofs.Steps.{second, many}
 use Rattle.udalopek_spec.proofs.Done.{done, undone, posted-words, unposted-words}
 use Rattle.udalopek_spec.specs.Left.{entries_put}
-use Rattle.udalopek_spec.specs.Host.{post_number, post_words, post_table}
+use Rattle.udalopek_spec.specs.Host.{post_number, post_table}
 use Rattle.udalopek.proofs.host.udalopek_post_entry.Goals as goal
-
-pub returns-in_default : goal.returns-in_default
-unfolding post_number post_words post_table
-returns-in_default c = let f = few _ c.in_default.ensures.cases in (first _ 34 _ f, first _ _ _ (few-stray _ f), first _ _ _ f)
 
 pub returns-else-number-eq0 : goal.returns-else-number-eq0
 unfolding post_number post_table posted

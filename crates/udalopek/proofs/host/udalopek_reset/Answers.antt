@@ -1,18 +1,11 @@
 use Rattle.std.proofs.Common.{ap, ◌∙◌, cond}
 use Rattle.pair.specs.Answer.{status_number, executed}
 use Rattle.pair.specs.Host.{reset_to, reset_regions}
-use Rattle.abi_spec.specs.Words.{overwrite_words}
 use Rattle.abi_spec.specs.Pair.{pair_of, pair_words}
-use Rattle.udalopek_spec.proofs.Steps.{second, first, many, few, few-stray}
+use Rattle.udalopek_spec.proofs.Steps.{second, many}
 use Rattle.udalopek_spec.proofs.Done.{reset-words}
-use Rattle.udalopek_spec.specs.Host.{reset_number, reset_words, reset_table}
+use Rattle.udalopek_spec.specs.Host.{reset_number, reset_table}
 use Rattle.udalopek.proofs.host.udalopek_reset.Goals as goal
-
-pub returns-in_default : goal.returns-in_default
-unfolding reset_number reset_words reset_table
-returns-in_default c =
-    let f = few _ c.in_default.ensures.cases in
-    record { value = first _ 34 _ f; pair_after = first _ _ _ (few-stray _ f); regions_after = first _ _ _ f }
 
 pub returns : goal.returns
 unfolding reset_number reset_table reset_to
@@ -26,7 +19,7 @@ returns c =
       value = c.leave.ensures.value ∙ ap (λ o. status_number o.status) e ∙ second _ 34 _ l;
       pair_after =
           c.leave.ensures.words_after
-          ∙ (λ i. cond (executed (e i).status) (overwrite_words (w.same i) (pair_words (e i).pair)) (w.same i))
+          ∙ (λ i. cond (executed (e i).status) (pair_words (e i).pair) (w.same i))
           ∙ reset-words A.pair.now l;
       regions_after = c.reset.ensures.regions_after ∙ ap (λ x. reset_regions x A.regions.now) q ∙ second _ _ _ l;
     }

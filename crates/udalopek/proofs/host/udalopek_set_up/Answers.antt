@@ -1,15 +1,10 @@
 use Rattle.std.proofs.Common.{ap, ◌∙◌, cond}
 use Rattle.pair.specs.Answer.{status_number, executed}
-use Rattle.abi_spec.specs.Words.{overwrite_words}
 use Rattle.abi_spec.specs.Pair.{pair_words}
-use Rattle.udalopek_spec.proofs.Steps.{second, first, many, few}
+use Rattle.udalopek_spec.proofs.Steps.{second, many}
 use Rattle.udalopek_spec.proofs.Done.{set-up-left}
-use Rattle.udalopek_spec.specs.Host.{set_up_number, set_up_words, set_up_table}
+use Rattle.udalopek_spec.specs.Host.{set_up_number, set_up_table}
 use Rattle.udalopek.proofs.host.udalopek_set_up.Goals as goal
-
-pub returns-in_default : goal.returns-in_default
-unfolding set_up_number set_up_words set_up_table
-returns-in_default c = let f = few _ c.in_default.ensures.cases in (first _ 34 _ f, first _ _ _ f, first _ _ _ f)
 
 pub returns : goal.returns
 unfolding set_up_number set_up_table
@@ -20,7 +15,7 @@ returns c =
     let e = c.set_up.ensures.value in (
       c.leave.ensures.value ∙ ap (λ o. status_number o.status) e ∙ second _ 34 _ l,
       c.leave.ensures.words_after
-          ∙ (λ i. cond (executed (e i).status) (overwrite_words (w.same i) (pair_words (e i).pair)) (w.same i))
+          ∙ (λ i. cond (executed (e i).status) (pair_words (e i).pair) (w.same i))
           ∙ set-up-left A.pair.now l _,
       c.set_up.ensures.regions_after ∙ second _ _ _ l,
     )

@@ -4,15 +4,11 @@ use Rattle.responder_spec.specs.Inbound.{inbound}
 use Rattle.responder.specs.Unchanged.{outcome_with}
 use Rattle.responder.proofs.Steps.{whole}
 use Rattle.abi_spec.specs.Pair.{pair_of}
-use Rattle.udalopek_spec.proofs.Steps.{second, first, many, few}
+use Rattle.udalopek_spec.proofs.Steps.{second, many}
 use Rattle.udalopek_spec.proofs.Left.{left-words}
 use Rattle.udalopek_spec.specs.Left.{put_by_number}
 use Rattle.udalopek_spec.specs.Packets.{lent, arrival_with, returned, refused_with, returning, words_left, inbound_of, inbound_returned, report_words}
 use Rattle.udalopek.proofs.packets.udalopek_inbound.Goals as goal
-
-pub returns-in_default : goal.returns-in_default
-unfolding inbound_returned
-returns-in_default c = first _ _ _ (few _ c.in_default.ensures.cases)
 
 pub returns : goal.returns
 unfolding inbound_returned

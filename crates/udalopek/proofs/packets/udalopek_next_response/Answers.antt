@@ -2,22 +2,11 @@ use Rattle.std.proofs.Common.{[], ◌∷◌, ap, ◌∙◌}
 use Rattle.pair.specs.Answer.{status_number}
 use Rattle.responder_spec.specs.Response.{next_response, next_out}
 use Rattle.abi_spec.specs.Pair.{pair_of}
-use Rattle.udalopek_spec.proofs.Steps.{second, first, many, few, few-stray}
+use Rattle.udalopek_spec.proofs.Steps.{second, many}
 use Rattle.udalopek_spec.proofs.Done.{done, undone, drained-words, undrained-words}
 use Rattle.udalopek_spec.specs.Left.{read_put}
-use Rattle.udalopek_spec.specs.Packets.{next_number, next_words, next_output, next_report}
+use Rattle.udalopek_spec.specs.Packets.{next_number, next_output, next_report}
 use Rattle.udalopek.proofs.packets.udalopek_next_response.Goals as goal
-
-pub returns-in_default : goal.returns-in_default
-unfolding next_number next_words next_output next_report
-returns-in_default c =
-    let f = few _ c.in_default.ensures.cases in
-    record {
-      value = first _ 34 _ f;
-      pair_after = first _ _ _ (few-stray _ f);
-      out_after = first _ _ _ f;
-      report_after = first _ _ _ f;
-    }
 
 pub returns-else-number-eq0 : goal.returns-else-number-eq0
 unfolding next_number next_output next_report next_response
