@@ -3,7 +3,7 @@ use header::Reason;
 use opcode::OpcodeClass;
 use std::fmt;
 
-// No packet that reads has another service.
+// The services, kinds and places are numbers, as `opcode` has them. No packet that reads has another service.
 fn service(n: u8) -> &'static str {
     match n {
         opcode::RC => "RC",

@@ -46,7 +46,8 @@ fn length_of(two: [u8; 2]) -> usize
     usize::from(u16::from_be_bytes(two))
 }
 
-// Reads the next record, its packet to the start of buf.
+// Reads the next record, its packet to the start of buf. The loop over records is each program's own: here it would take
+// a closure, and so a `requires` that it may be called.
 pub fn next<'a, R: Read>(input: &mut R, buf: &'a mut [u8]) -> io::Result<Record<'a>>
     ensures ok { IfOk result (ReadsNext (R.remaining input.old) (R.remaining input.new) (length buf.old)) }
     ensures err { OnErr result (TakesSome (R.remaining input.old) (R.remaining input.new)) }

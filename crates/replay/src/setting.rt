@@ -61,6 +61,7 @@ fn pair(
     host_calls::make_ready(posted).pair
 }
 
+// The tables are rows of numbers, as `responder::inbound` takes them.
 #[derive(Drop)]
 pub(crate) struct Setting {
     pub(crate) pair: Pair,
