@@ -5,8 +5,8 @@ use Rattle.opcode.specs.Opcode as opcode
 use Rattle.opcode.specs.Opcode.{kind_of, place_in, send_write_follows, follows_of, length_of, low_class, class_of}
 use Rattle.header.specs.Read as read
 use Rattle.header.specs.Read.{bth_of, extension_of, header_of, bad_length, other_service}
-use Rattle.header.specs.Write.{bth_bytes, aeth_bytes, extension_bytes, header_bytes, header_length, answer_by}
-use Rattle.header.specs.Check.{full_member, pkeys_match, wrong_service, is_response, beyond_service, header_checks, admitted, header_reason}
+use Rattle.header.specs.Write.{bth_bytes, aeth_bytes, extension_bytes, header_bytes, header_length}
+use Rattle.header.specs.Check.{full_member, pkeys_match, wrong_service, is_response, beyond_service, header_checks, admitted}
 use Rattle.memory.specs.Memory.{overwrite, store}
 use Rattle.memory.specs.Word.{low_bytes, low_number, word_at, store_word, fetch_added}
 use Rattle.packet.specs.Packet.{pad_of, packet_bytes}

@@ -1,3 +1,4 @@
+use mathlib.Core.Path.{◌∙◌}
 use borrow.Author.Tests.{le-leb, lt-leb}
 use Rattle.header.proofs.Writes.{told, handed-on}
 use Rattle.cut_spec.specs.Next.{next_answer, check_next, next_psn, psns_of}
