@@ -203,7 +203,5 @@ pub fn cut(
     let h = header_at(connection, request, message.len(), first, index);
     let carried = carried_length(request, message.len());
     let part = pmtu::part(carried, connection.pmtu, index);
-    let start = part.start;
-    let end = part.end;
-    packet::write(h, &message[start..end], out)
+    packet::write(h, &message[part], out)
 }
