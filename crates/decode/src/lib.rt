@@ -110,6 +110,7 @@ fn read_extension(p: &[u8], follows: u8) -> Extension
     Extension::Bare
 }
 
+#[tactic(auto, unfolding(header::specs::Read::bad_length))]
 fn bad_length(n: usize) -> bool
     ensures { result ≡ bad_length n }
 {
@@ -122,6 +123,7 @@ fn bad_length(n: usize) -> bool
     n % 4 != 0
 }
 
+#[tactic(auto, unfolding(header::specs::Check::wrong_service))]
 fn wrong_service(theirs: u8, ours: u8) -> bool
     ensures { result ≡ wrong_service theirs ours }
 {
@@ -132,6 +134,7 @@ fn wrong_service(theirs: u8, ours: u8) -> bool
     theirs != ours
 }
 
+#[tactic(auto, unfolding(header::specs::Check::is_response))]
 fn is_response(low: u8) -> bool
     ensures { result ≡ is_response low }
 {
@@ -141,6 +144,7 @@ fn is_response(low: u8) -> bool
     low <= opcode::ATOMIC_ACKNOWLEDGE
 }
 
+#[tactic(auto, unfolding(header::specs::Check::beyond_service))]
 fn beyond_service(service: u8, low: u8) -> bool
     ensures { result ≡ beyond_service service low }
 {
@@ -153,6 +157,7 @@ fn beyond_service(service: u8, low: u8) -> bool
 
 // The check behind that of the length that fails first. It stands in a function of its own because the compiler
 // takes what comes after many early returns for rare, and does not inline it.
+#[tactic(auto, unfolding(crate::specs::Reason::bth_reason))]
 fn bth_reason(
     b: Bth,
     headers: usize,
