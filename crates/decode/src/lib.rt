@@ -18,6 +18,7 @@ use opcode::OpcodeClass;
 use request_spec::{Operands, Packet};
 use sequence::{Msn, Psn};
 
+#[tactic(auto, unfolding(header::specs::Read::bth_of))]
 fn read_bth(p: &[u8]) -> Bth
     requires { Length.bth ≤ length p.now }
     ensures { result ≡ bth_of p.now }
@@ -44,6 +45,7 @@ fn read_bth(p: &[u8]) -> Bth
     }
 }
 
+#[tactic(auto, unfolding(header::specs::Read::reth_of))]
 fn read_reth(p: &[u8]) -> Reth
     requires { Length.bth + Length.reth ≤ length p.now }
     ensures { result ≡ reth_of p.now }
@@ -55,6 +57,7 @@ fn read_reth(p: &[u8]) -> Reth
     }
 }
 
+#[tactic(auto, unfolding(header::specs::Read::atomic_of))]
 fn read_atomic(p: &[u8]) -> AtomicEth
     requires { Length.bth + Length.atomic_eth ≤ length p.now }
     ensures { result ≡ atomic_of p.now }
@@ -67,6 +70,7 @@ fn read_atomic(p: &[u8]) -> AtomicEth
     }
 }
 
+#[tactic(auto, unfolding(header::specs::Read::aeth_of))]
 fn read_aeth(p: &[u8]) -> Aeth
     requires { Length.bth + Length.aeth ≤ length p.now }
     ensures { result ≡ aeth_of p.now }
@@ -77,6 +81,7 @@ fn read_aeth(p: &[u8]) -> Aeth
 }
 
 // The headers after the BTH, of the opcode's class, for which the packet is long enough.
+#[tactic(auto, unfolding(header::specs::Read::extension_of, opcode::specs::Opcode::length_of))]
 fn read_extension(p: &[u8], follows: u8) -> Extension
     requires { length_of follows ≤ length p.now }
     ensures { result ≡ extension_of follows p.now }
