@@ -225,6 +225,7 @@ fn packet_of(b: Bth, class: OpcodeClass, operands: Operands, n: usize) -> Packet
 
 // The packet, if its header passes all header checks of a queue pair with these numbers, or the check that failed
 // first. No header is made: its fields go straight into the numbers of the packet.
+#[tactic(auto, using(crate::proofs::Room::rooms))]
 pub fn admit(p: &[u8], service: u8, ours: u32, pkey: u16, ready: bool) -> Result<Packet, Reason>
     ensures value { result ≡ admission (admitted service ours pkey ready p.now) (length p.now) }
     ensures result_value { admission_number result ≡ reason_number (header_reason service ours pkey ready p.now) }
@@ -242,6 +243,7 @@ pub fn admit(p: &[u8], service: u8, ours: u32, pkey: u16, ready: bool) -> Result
 
 // The header of a packet of any bytes, or the check that failed first: Length, Version, Service or Short, the four that
 // need no pair.
+#[tactic(auto, using(crate::proofs::Room::rooms))]
 pub fn read(p: &[u8]) -> Result<Header, Reason>
     ensures value { result ≡ read_header p.now }
     ensures result_value { read_number result ≡ reason_number (read_reason p.now) }
