@@ -15,10 +15,6 @@ use Rattle.header.proofs.Reasons.{held}
 use Rattle.std.specs.Prelude.{Ok}
 use Rattle.decode.specs.Reason.{bth_reason}
 
--- the class's headers, where the class is known
-pub room : (f g : ℕ) {n : ℕ} → f ≡ g → length_of f ≤ n → length_of g ≤ n
-room f g {n} e h = subst (λ x. length_of x ≤ n) e h
-
 -- the headers that follow, where the class's length is there
 pub room-of-class : (k : OpcodeClass) (opcode n : ℕ) → k ≡ class_of opcode → k.length ≤ n → length_of k.follows ≤ n
 room-of-class k opcode n e h =
@@ -45,3 +41,5 @@ room-left service ours pkey ready b headers n e =
     let r = (held (is_response (low_of b.opcode)) _ _ s).1 in
     let u = (held (beyond_service service (low_of b.opcode)) _ _ r).1 in
     ltb-false n headers (held (ltb n headers) _ _ u).0
+
+pub ruleset rooms = (whole, room-of-class, room-left)

@@ -18,6 +18,7 @@ use opcode::OpcodeClass;
 use request_spec::{Operands, Packet};
 use sequence::{Msn, Psn};
 
+#[tactic(auto, unfolding(header::specs::Read::bth_of))]
 fn read_bth(p: &[u8]) -> Bth
     requires { Length.bth ≤ length p.now }
     ensures { result ≡ bth_of p.now }
@@ -44,6 +45,7 @@ fn read_bth(p: &[u8]) -> Bth
     }
 }
 
+#[tactic(auto, unfolding(header::specs::Read::reth_of))]
 fn read_reth(p: &[u8]) -> Reth
     requires { Length.bth + Length.reth ≤ length p.now }
     ensures { result ≡ reth_of p.now }
@@ -55,6 +57,7 @@ fn read_reth(p: &[u8]) -> Reth
     }
 }
 
+#[tactic(auto, unfolding(header::specs::Read::atomic_of))]
 fn read_atomic(p: &[u8]) -> AtomicEth
     requires { Length.bth + Length.atomic_eth ≤ length p.now }
     ensures { result ≡ atomic_of p.now }
@@ -67,6 +70,7 @@ fn read_atomic(p: &[u8]) -> AtomicEth
     }
 }
 
+#[tactic(auto, unfolding(header::specs::Read::aeth_of))]
 fn read_aeth(p: &[u8]) -> Aeth
     requires { Length.bth + Length.aeth ≤ length p.now }
     ensures { result ≡ aeth_of p.now }
@@ -77,6 +81,7 @@ fn read_aeth(p: &[u8]) -> Aeth
 }
 
 // The headers after the BTH, of the opcode's class, for which the packet is long enough.
+#[tactic(auto, unfolding(header::specs::Read::extension_of, opcode::specs::Opcode::length_of))]
 fn read_extension(p: &[u8], follows: u8) -> Extension
     requires { length_of follows ≤ length p.now }
     ensures { result ≡ extension_of follows p.now }
@@ -110,6 +115,7 @@ fn read_extension(p: &[u8], follows: u8) -> Extension
     Extension::Bare
 }
 
+#[tactic(auto, unfolding(header::specs::Read::bad_length))]
 fn bad_length(n: usize) -> bool
     ensures { result ≡ bad_length n }
 {
@@ -122,6 +128,7 @@ fn bad_length(n: usize) -> bool
     n % 4 != 0
 }
 
+#[tactic(auto, unfolding(header::specs::Check::wrong_service))]
 fn wrong_service(theirs: u8, ours: u8) -> bool
     ensures { result ≡ wrong_service theirs ours }
 {
@@ -132,6 +139,7 @@ fn wrong_service(theirs: u8, ours: u8) -> bool
     theirs != ours
 }
 
+#[tactic(auto, unfolding(header::specs::Check::is_response))]
 fn is_response(low: u8) -> bool
     ensures { result ≡ is_response low }
 {
@@ -141,6 +149,7 @@ fn is_response(low: u8) -> bool
     low <= opcode::ATOMIC_ACKNOWLEDGE
 }
 
+#[tactic(auto, unfolding(header::specs::Check::beyond_service))]
 fn beyond_service(service: u8, low: u8) -> bool
     ensures { result ≡ beyond_service service low }
 {
@@ -153,6 +162,7 @@ fn beyond_service(service: u8, low: u8) -> bool
 
 // The check behind that of the length that fails first. It stands in a function of its own because the compiler
 // takes what comes after many early returns for rare, and does not inline it.
+#[tactic(auto, unfolding(crate::specs::Reason::bth_reason))]
 fn bth_reason(
     b: Bth,
     headers: usize,
@@ -215,6 +225,7 @@ fn packet_of(b: Bth, class: OpcodeClass, operands: Operands, n: usize) -> Packet
 
 // The packet, if its header passes all header checks of a queue pair with these numbers, or the check that failed
 // first. No header is made: its fields go straight into the numbers of the packet.
+#[tactic(auto, using(crate::proofs::Room::rooms))]
 pub fn admit(p: &[u8], service: u8, ours: u32, pkey: u16, ready: bool) -> Result<Packet, Reason>
     ensures value { result ≡ admission (admitted service ours pkey ready p.now) (length p.now) }
     ensures result_value { admission_number result ≡ reason_number (header_reason service ours pkey ready p.now) }
@@ -232,6 +243,7 @@ pub fn admit(p: &[u8], service: u8, ours: u32, pkey: u16, ready: bool) -> Result
 
 // The header of a packet of any bytes, or the check that failed first: Length, Version, Service or Short, the four that
 // need no pair.
+#[tactic(auto, using(crate::proofs::Room::rooms))]
 pub fn read(p: &[u8]) -> Result<Header, Reason>
     ensures value { result ≡ read_header p.now }
     ensures result_value { read_number result ≡ reason_number (read_reason p.now) }

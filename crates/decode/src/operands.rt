@@ -53,6 +53,7 @@ fn exchanging(a: AtomicEth) -> Operands
 }
 
 // The operands of headers of the opcode's class, for which the packet is long enough; a response's say nothing.
+#[tactic(auto, unfolding(request_spec::specs::Packet::operands_of, header::specs::Read::extension_of, opcode::specs::Opcode::length_of))]
 pub(crate) fn operands_of(p: &[u8], follows: u8) -> Operands
     requires { length_of follows ≤ length p.now }
     ensures { result ≡ operands_of (extension_of follows p.now) }

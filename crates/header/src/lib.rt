@@ -141,6 +141,7 @@ impl From<Refusal> for u8 {
 }
 
 // Whether service bits are neither RC's nor UC's.
+#[tactic(auto, unfolding(crate::specs::Read::other_service))]
 pub fn other_service(service: u8) -> bool
     ensures { result ≡ other_service service }
 {
@@ -148,6 +149,7 @@ pub fn other_service(service: u8) -> bool
 }
 
 // Whether two P_Keys match, so that their owners may talk.
+#[tactic(auto, unfolding(crate::specs::Check::pkeys_match, crate::specs::Check::full_member))]
 pub fn pkeys_match(theirs: u16, ours: u16) -> bool
     ensures { result ≡ pkeys_match theirs ours }
 {
