@@ -12,14 +12,15 @@ use request_spec::Packet;
 use responder_spec::Decision;
 use sequence::Psn;
 
+#[tactic(auto, unfolding(responder_spec::specs::Decide::psn_before))]
 fn psn_before(psn: Psn) -> Psn
     ensures { result ≡ psn_before psn }
 {
-    let last = Psn::LAST;
-    psn.after(last.0)
+    psn.after(Psn::LAST.0)
 }
 
 // Whether a duplicate READ is not answered.
+#[tactic(auto, unfolding(responder_spec::specs::Decide::duplicate_read_fails))]
 fn duplicate_read_fails(
     p: Packet,
     s: Setup,
@@ -29,58 +30,37 @@ fn duplicate_read_fails(
 ) -> bool
     ensures { result ≡ duplicate_read_fails p s m expected region }
 {
-    let off = request_checks::not_enabled(s, opcode::READ);
-    if off {
-        return true;
-    }
-    let long = request_checks::over_limit(m.length);
-    if long {
-        return true;
-    }
-    if p.body != 0 {
-        return true;
-    }
-    if p.pad != 0 {
-        return true;
-    }
-    let lacking = request_checks::key_fails(s.memory, opcode::READ, m, region);
-    if lacking {
-        return true;
-    }
-    let behind = expected.distance(p.psn);
-    let count = pmtu::count(m.length, s.pmtu);
-    number::u32_to_usize(behind) < count
+    request_checks::not_enabled(s, opcode::READ)
+        || request_checks::over_limit(m.length)
+        || p.body != 0
+        || p.pad != 0
+        || request_checks::key_fails(s.memory, opcode::READ, m, region)
+        || number::u32_to_usize(expected.distance(p.psn)) < pmtu::count(m.length, s.pmtu)
 }
 
 fn duplicate_read(p: Packet, s: Setup, m: OpenMessage, expected: Psn, region: [u64; 7]) -> Decision
     requires { m.stored ≡ 0 }
     ensures { result ≡ duplicate_read p s m expected region }
 {
-    let fails = duplicate_read_fails(p, s, m, expected, region);
-    if fails {
-        let status = Status::Dropped;
-        return reply::no_reply(status);
+    if duplicate_read_fails(p, s, m, expected, region) {
+        return reply::no_reply(Status::Dropped);
     }
     let at = table::memory_offset(region, m.address, m.length);
     let count = pmtu::count(m.length, s.pmtu);
-    let status = Status::DuplicateAnswered;
     let responses = reply::read_begun(at, m.length, count, p.psn);
-    reply::reply_only(status, responses)
+    reply::reply_only(Status::DuplicateAnswered, responses)
 }
 
+#[tactic(auto, unfolding(responder_spec::specs::Decide::no_reply))]
 fn duplicate_atomic(saved: Option<u64>, psn: Psn) -> Decision
     ensures { result ≡ duplicate_atomic saved psn }
 {
     match saved {
         Some(v) => {
-            let status = Status::DuplicateAnswered;
             let answer = reply::sending(opcode::ATOMIC_ACKNOWLEDGE, psn, reply::ACK, v);
-            reply::reply_only(status, answer)
+            reply::reply_only(Status::DuplicateAnswered, answer)
         }
-        None => {
-            let status = Status::Dropped;
-            reply::no_reply(status)
-        }
+        None => reply::no_reply(Status::Dropped),
     }
 }
 
@@ -97,15 +77,14 @@ fn read(p: Packet, pair: Pair, regions: &[[u64; 7]; table::REGIONS]) -> Decision
     requires kind_value { p.kind ≡ Kind.read }
     ensures { result ≡ duplicate_read p pair.setup (current pair.message p) pair.expected (region_for p.kind (current pair.message p).key regions.now) }
 {
-    let opened = pair.message;
-    let m = request_checks::current(opened, p);
+    let m = request_checks::current(pair.message, p);
     let region = table::region_of(regions, m.key);
-    let setup = pair.setup;
-    duplicate_read(p, setup, m, pair.expected, region)
+    duplicate_read(p, pair.setup, m, pair.expected, region)
 }
 
 // By the kind of the duplicate. Only a READ's key is looked up, and only an atomic's value. What no header says is the
 // caller's mistake.
+#[tactic(auto, unfolding(responder_spec::specs::Decide::duplicate_decision))]
 pub fn answer(
     pair: Pair,
     regions: &[[u64; 7]; table::REGIONS],
@@ -114,26 +93,18 @@ pub fn answer(
 ) -> Decision
     ensures { result ≡ cond (fragment p) (no_reply Status.OutOfRange) (duplicate_decision p pair.setup pair.expected (current pair.message p) (region_for p.kind (current pair.message p).key regions.now) (newest_saved p.psn.0 saved.now pair.saved)) }
 {
-    let part = request_checks::fragment(p);
-    if part {
-        let status = Status::OutOfRange;
-        return reply::no_reply(status);
+    if request_checks::fragment(p) {
+        return reply::no_reply(Status::OutOfRange);
     }
-    let carries = request_checks::carrying(p.kind);
-    if carries {
-        let status = Status::DuplicateAnswered;
+    if request_checks::carrying(p.kind) {
         let psn = psn_before(pair.expected);
-        return reply::acknowledging(status, psn, reply::ACK);
+        return reply::acknowledging(Status::DuplicateAnswered, psn, reply::ACK);
     }
     if p.kind == opcode::READ {
         return read(p, pair, regions);
     }
-    let atomic = is_atomic(p.kind);
-    if atomic {
-        let ring = pair.saved;
-        let value = table::newest(saved, ring, p.psn);
-        return duplicate_atomic(value, p.psn);
+    if is_atomic(p.kind) {
+        return duplicate_atomic(table::newest(saved, pair.saved, p.psn), p.psn);
     }
-    let status = Status::Dropped;
-    reply::no_reply(status)
+    reply::no_reply(Status::Dropped)
 }
