@@ -24,6 +24,7 @@ fn store_part(mem: &mut [u8], at: usize, packet: &[u8], start: usize, size: usiz
 }
 
 // Changes memory, and answers the value that is sent: the word that an atomic finds, else the one given.
+#[tactic(auto, unfolding(responder_spec::specs::Apply::memory_by, responder_spec::specs::Apply::acts_atomic, responder_spec::specs::Apply::value_by))]
 pub fn change(mem: &mut [u8], packet: &[u8], c: Change, value: u64) -> u64
     ensures value { result ≡ value_by c value mem.old }
     ensures mem_after { mem.new ≡ memory_by c mem.old packet.now }
@@ -53,8 +54,7 @@ pub fn acts_atomic(act: u8) -> bool
 pub fn keep(saved: &mut [[u64; 2]; table::SAVED], ring: Ring, act: u8, psn: Psn, value: u64)
     ensures { saved.new ≡ cond (acts_atomic act) (saved_rows saved.old ring psn.0 value) saved.old }
 {
-    let atomic = acts_atomic(act);
-    if atomic {
+    if acts_atomic(act) {
         table::save(saved, ring, psn, value);
     }
 }

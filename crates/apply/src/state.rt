@@ -9,6 +9,7 @@ use sequence::Msn;
 use table::Ring;
 
 // The ring without its first entry, where a message completes.
+#[tactic(auto, unfolding(responder_spec::specs::Apply::entries_by, responder_spec::specs::Apply::ring_taken))]
 fn entries_by(completes: bool, ring: Ring) -> Ring
     ensures { result ≡ entries_by completes ring }
 {
@@ -20,16 +21,17 @@ fn entries_by(completes: bool, ring: Ring) -> Ring
     ring
 }
 
+#[tactic(auto, unfolding(responder_spec::specs::Apply::saved_ring_by))]
 fn saved_ring_by(ring: Ring, act: u8) -> Ring
     ensures { result ≡ saved_ring_by ring act }
 {
-    let atomic = acts_atomic(act);
-    if atomic {
+    if acts_atomic(act) {
         return table::saved_ring(ring);
     }
     ring
 }
 
+#[tactic(auto, unfolding(responder_spec::specs::Apply::msn_by))]
 fn msn_by(ends: bool, msn: Msn) -> Msn
     ensures { result ≡ msn_by ends msn }
 {
@@ -40,46 +42,38 @@ fn msn_by(ends: bool, msn: Msn) -> Msn
 }
 
 // The READ that is being answered afterwards.
+#[tactic(auto, unfolding(responder_spec::specs::Apply::read_answer_by))]
 fn read_answer_by(reply: Reply, old: ReadAnswer, msn: Msn) -> ReadAnswer
     ensures { result ≡ read_answer_by reply old msn }
 {
     if reply.remaining == 0 {
         return old;
     }
-    let psn = reply.psn;
     ReadAnswer {
         remaining: reply.remaining,
         offset: reply.offset,
         length: reply.length,
-        psn,
+        psn: reply.psn,
         msn,
     }
 }
 
+#[tactic(auto, unfolding(responder_spec::specs::Apply::executed_pair))]
 fn executed_pair(pair: Pair, d: Decision) -> Pair
     ensures { result ≡ executed_pair pair d }
 {
     let progress = d.progress;
-    let awaited = pair.expected;
-    let expected = awaited.after(progress.psns);
     let msn = msn_by(progress.ends, pair.msn);
-    let held = pair.entries;
-    let entries = entries_by(progress.completion.some, held);
-    let old = pair.read;
-    let reply = d.reply;
-    let read = read_answer_by(reply, old, msn);
-    let kept = pair.saved;
-    let saved = saved_ring_by(kept, d.change.act);
-    let message = progress.message;
-    let mut next = pair;
-    next.expected = expected;
-    next.msn = msn;
-    next.nakmark = false;
-    next.message = message;
-    next.entries = entries;
-    next.read = read;
-    next.saved = saved;
-    next
+    Pair {
+        message: progress.message,
+        entries: entries_by(progress.completion.some, pair.entries),
+        read: read_answer_by(d.reply, pair.read, msn),
+        saved: saved_ring_by(pair.saved, d.change.act),
+        expected: pair.expected.after(progress.psns),
+        msn,
+        nakmark: false,
+        ..pair
+    }
 }
 
 // The same pair with no message open. It is built anew: with an assignment to the message alone the compiled code keeps

@@ -55,19 +55,16 @@ fn duplicate_read(p: Packet, s: Setup, m: OpenMessage, expected: Psn, region: [u
     )
 }
 
+#[tactic(auto, unfolding(responder_spec::specs::Decide::no_reply))]
 fn duplicate_atomic(saved: Option<u64>, psn: Psn) -> Decision
     ensures { result ≡ duplicate_atomic saved psn }
 {
     match saved {
         Some(v) => {
-            let status = Status::DuplicateAnswered;
             let answer = reply::sending(opcode::ATOMIC_ACKNOWLEDGE, psn, reply::ACK, v);
-            reply::reply_only(status, answer)
+            reply::reply_only(Status::DuplicateAnswered, answer)
         }
-        None => {
-            let status = Status::Dropped;
-            reply::no_reply(status)
-        }
+        None => reply::no_reply(Status::Dropped),
     }
 }
 

@@ -13,6 +13,7 @@ use sound::{setup_unfit, setup_unsound, unsound};
 use table::{Entry, Region, Ring};
 
 // A pair as set-up and reset leave it.
+#[tactic(auto, unfolding(pair::specs::Pair::fresh_pair))]
 fn fresh(setup: Setup) -> Pair
     ensures { result ≡ fresh_pair setup }
 {
@@ -66,6 +67,7 @@ fn outcome(status: Status, pair: Pair) -> HostOutcome
 }
 
 // Takes the numbers of a new pair, and empties its tables.
+#[tactic(auto, unfolding(pair::specs::Host::set_up, pair::specs::Host::set_up_regions, pair::specs::Host::set_up_status, pair::specs::Answer::executed, pair::specs::Answer::status_number))]
 pub fn set_up(setup: Setup, regions: &mut [[u64; 7]; table::REGIONS]) -> HostOutcome
     ensures value { result ≡ set_up setup }
     ensures regions_after { regions.new ≡ set_up_regions setup regions.old }
@@ -82,6 +84,7 @@ pub fn set_up(setup: Setup, regions: &mut [[u64; 7]; table::REGIONS]) -> HostOut
 }
 
 // Starts afresh with the numbers of the set-up and empty tables.
+#[tactic(auto, unfolding(pair::specs::Host::reset_to, pair::specs::Host::reset_regions, pair::specs::Host::reset_status, pair::specs::Answer::executed, pair::specs::Answer::status_number))]
 pub fn reset(pair: Pair, regions: &mut [[u64; 7]; table::REGIONS]) -> HostOutcome
     ensures value { result ≡ reset_to pair }
     ensures regions_after { regions.new ≡ reset_regions pair regions.old }
@@ -96,6 +99,7 @@ pub fn reset(pair: Pair, regions: &mut [[u64; 7]; table::REGIONS]) -> HostOutcom
 }
 
 // The pair takes packets from now on.
+#[tactic(auto, unfolding(pair::specs::Host::made_ready, pair::specs::Host::ready_status, pair::specs::Answer::executed, pair::specs::Answer::status_number))]
 pub fn make_ready(pair: Pair) -> HostOutcome
     ensures { result ≡ made_ready pair }
 {
@@ -157,6 +161,7 @@ pub fn remove_region(regions: &mut [[u64; 7]; table::REGIONS], key: u32) -> Stat
 }
 
 // Gives memory for a message that a peer will send.
+#[tactic(auto, using(crate::proofs::Halves::halves), unfolding(pair::specs::Host::posted, pair::specs::Host::post_entries, pair::specs::Host::post_status, pair::specs::Answer::executed, pair::specs::Answer::status_number))]
 pub fn post_entry(pair: Pair, entries: &mut [[u64; 3]; table::ENTRIES], entry: Entry) -> HostOutcome
     ensures value { result ≡ posted pair entry }
     ensures entries_after { entries.new ≡ post_entries pair entries.old entry }

@@ -14,6 +14,7 @@ fn outside(offset: usize, length: usize, memory: usize) -> bool
 }
 
 // Whether a number of the set-up is bad.
+#[tactic(auto, unfolding(pair::specs::Sound::setup_unfit))]
 pub fn setup_unfit(setup: Setup) -> bool
     ensures { result ≡ setup_unfit setup }
 {
@@ -41,6 +42,7 @@ pub fn setup_unfit(setup: Setup) -> bool
 }
 
 // Whether no set-up accepts these numbers.
+#[tactic(auto, unfolding(pair::specs::Sound::setup_unsound))]
 pub fn setup_unsound(setup: Setup) -> bool
     ensures { result ≡ setup_unsound setup }
 {
@@ -52,6 +54,7 @@ pub fn setup_unsound(setup: Setup) -> bool
 }
 
 // A ring has no more rows than its table.
+#[tactic(auto, unfolding(pair::specs::Sound::ring_unsound))]
 fn ring_unsound(capacity: usize, head: usize, count: usize) -> bool
     ensures { result ≡ ring_unsound capacity head count }
 {
@@ -62,6 +65,7 @@ fn ring_unsound(capacity: usize, head: usize, count: usize) -> bool
 }
 
 // An open SEND holds an entry, and has stored no more than memory can have.
+#[tactic(auto, unfolding(pair::specs::Sound::send_unsound, pair::specs::Sound::no_entry))]
 fn send_unsound(stored: usize, entries: usize) -> bool
     ensures { result ≡ send_unsound stored entries }
 {
@@ -72,6 +76,7 @@ fn send_unsound(stored: usize, entries: usize) -> bool
 }
 
 // An open WRITE has bytes to come, within the limit, and its next byte has an address.
+#[tactic(auto, unfolding(pair::specs::Sound::message_unsound, pair::specs::Sound::write_unsound))]
 fn message_unsound(kind: u8, stored: usize, address: u64, length: usize, entries: usize) -> bool
     ensures { result ≡ message_unsound kind stored address length entries }
 {
@@ -94,6 +99,7 @@ fn message_unsound(kind: u8, stored: usize, address: u64, length: usize, entries
 }
 
 // A read answer has no more responses to send than there are, lies in memory, and has numbers of 24 bits.
+#[tactic(auto, unfolding(pair::specs::Sound::read_unsound))]
 fn read_unsound(
     remaining: usize,
     offset: usize,
@@ -122,6 +128,7 @@ fn read_unsound(
 }
 
 // The state is one of three, PSN and MSN have 24 bits.
+#[tactic(auto, unfolding(pair::specs::Sound::counters_unsound))]
 fn counters_unsound(state: u8, expected: Psn, msn: Msn) -> bool
     ensures { result ≡ counters_unsound state expected.0 msn.0 }
 {
@@ -137,6 +144,7 @@ fn counters_unsound(state: u8, expected: Psn, msn: Msn) -> bool
 // Whether a number that a pair always has is out of its range: of its set-up, state, counters and rings. The calls for
 // each packet make these tests and the next by two calls: as one function they are too long to be inlined, and the
 // pair would go through memory for every packet.
+#[tactic(auto, unfolding(crate::specs::Halves::numbers_unsound))]
 pub fn numbers_unsound(pair: Pair) -> bool
     ensures { result ≡ numbers_unsound pair }
 {
@@ -157,6 +165,7 @@ pub fn numbers_unsound(pair: Pair) -> bool
 }
 
 // Whether some number is, given whether one of those is: one of the open message or of the READ being answered.
+#[tactic(auto, unfolding(crate::specs::Halves::work_unsound))]
 pub fn work_unsound(numbers: bool, pair: Pair) -> bool
     ensures { result ≡ (numbers || work_unsound pair) }
 {
@@ -185,6 +194,7 @@ pub fn work_unsound(numbers: bool, pair: Pair) -> bool
 }
 
 // Whether some number of the pair is out of its range.
+#[tactic(auto, using(crate::proofs::Halves::halves))]
 pub fn unsound(pair: Pair) -> bool
     ensures { result ≡ pair_unsound pair }
 {

@@ -10,7 +10,8 @@ ghost use Rattle.pair.specs.Pair.{no_message};
 use sequence::{Msn, Psn};
 use table::Ring;
 
-// States of a pair.
+// States of a pair. Numbers and no enum, as the kinds and services below: calls take a pair with any numbers and refuse
+// those that no call makes (pair_unsound).
 pub const INIT: u8 = 0;
 
 pub const READY: u8 = 1;
@@ -106,7 +107,8 @@ pub enum Status {
     BadNumber,
 }
 
-// What a host call leaves: its answer, and the pair to go on with.
+// What a host call leaves: its answer, and the pair to go on with. No Result: a refusal hands the pair back too
+// (set_up, reset_to, made_ready, posted).
 #[derive(Clone, Copy)]
 pub struct HostOutcome {
     pub status: Status,

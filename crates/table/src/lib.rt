@@ -14,7 +14,7 @@ pub const ENTRIES: usize = 16;
 
 pub const SAVED: usize = 16;
 
-// Columns of a region's row; a right is 1 or 0.
+// Columns of a region's row; a right is 1 or 0. Rows are arrays of numbers and no structs: the C interface lends them.
 pub const REGION_KEY: usize = 0;
 
 pub const REGION_ADDRESS: usize = 1;
@@ -70,7 +70,8 @@ pub struct Tables<'a> {
     pub saved: &'a [[u64; 2]; SAVED],
 }
 
-// Which rows are in use: count of them, from row head on, after the last the first.
+// Which rows are in use: count of them, from row head on, after the last the first. Indices and no slices, since the
+// table is the host's (the C interface, fixed memory).
 #[derive(Clone, Copy)]
 pub struct Ring {
     pub head: usize,
@@ -95,6 +96,7 @@ pub fn past_top(address: u64, length: u64) -> bool
 }
 
 // Whether there can be no such region.
+#[tactic(auto, unfolding(crate::specs::Table::region_outside))]
 pub fn region_outside(address: u64, length: u64, offset: u64, memory: u64) -> bool
     ensures { result ≡ region_outside address length offset memory }
 {
@@ -108,6 +110,7 @@ pub fn region_outside(address: u64, length: u64, offset: u64, memory: u64) -> bo
     past_top(address, length)
 }
 
+// A region's row, and an entry's. No From: into() would not say at the call that an array of numbers is a row.
 #[tactic(auto, unfolding(crate::specs::Table::region_row))]
 pub fn region_row(r: Region) -> [u64; 7]
     ensures { result ≡ region_row r }
@@ -119,6 +122,7 @@ pub fn region_row(r: Region) -> [u64; 7]
     [k, r.address, r.length, r.offset, w, d, a]
 }
 
+#[tactic(auto, unfolding(crate::specs::Table::entry_row))]
 pub fn entry_row(e: Entry) -> [u64; 3]
     ensures { result ≡ entry_row e }
 {
@@ -153,6 +157,7 @@ pub fn region_of(regions: &[[u64; 7]; REGIONS], key: u32) -> [u64; 7]
 
 // Where in memory the bytes at an address of a region lie, for as many as are needed; by its remainder, so that nothing
 // is asked of the row. Bytes that a region holds lie below 2^64.
+#[tactic(auto, unfolding(crate::specs::Table::memory_offset))]
 pub fn memory_offset(region: [u64; 7], address: u64, needed: usize) -> usize
     ensures { result ≡ memory_offset region address needed % 2 ^ 64 }
 {
@@ -181,7 +186,8 @@ fn slot<const N: usize>(head: usize, i: usize) -> usize
     (head % N + i % N) % N
 }
 
-// The row of position i among the entries.
+// The row of position i among the entries. The slot of any N asks what no public function may (0 < N).
+#[tactic(auto, unfolding(crate::specs::Table::entry_slot))]
 pub fn entry_slot(head: usize, i: usize) -> usize
     ensures value { result ≡ entry_slot head i }
     ensures upper_bound { result < entry_capacity }
@@ -190,6 +196,7 @@ pub fn entry_slot(head: usize, i: usize) -> usize
 }
 
 // The ring with one atomic more: the seventeenth replaces the oldest.
+#[tactic(auto, unfolding(crate::specs::View::saved_ring, crate::specs::Table::saved_slot))]
 pub fn saved_ring(ring: Ring) -> Ring
     ensures { result ≡ saved_ring ring }
 {
@@ -205,6 +212,7 @@ pub fn saved_ring(ring: Ring) -> Ring
 }
 
 // Saves the value that an atomic answered, behind those that the ring has; saved_ring gives the ring to go on with.
+#[tactic(auto, unfolding(crate::specs::View::saved_rows, crate::specs::Table::saved_slot))]
 pub fn save(saved: &mut [[u64; 2]; SAVED], ring: Ring, psn: Psn, value: u64)
     ensures { saved.new ≡ saved_rows saved.old ring psn.0 value }
 {
@@ -214,6 +222,7 @@ pub fn save(saved: &mut [[u64; 2]; SAVED], ring: Ring, psn: Psn, value: u64)
 }
 
 // What the atomic saved last under this PSN answered.
+#[tactic(auto, unfolding(crate::specs::View::newest_saved))]
 pub fn newest(saved: &[[u64; 2]; SAVED], ring: Ring, psn: Psn) -> Option<u64>
     ensures { result ≡ newest_saved psn.0 saved.now ring }
 {
