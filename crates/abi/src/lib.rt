@@ -83,8 +83,8 @@ fn fields_stray(pkey: u64, timer: u64, kind: u64, key: u64, psn: u64, msn: u64, 
         || BYTE <= state
 }
 
-// Whether words are out of range. The functions above take numbers that are read already: the compiler makes one OR of
-// each range of them, as no read depends on a test.
+// Whether words are out of range. Each function above takes numbers that are read already: the compiler makes one OR of
+// each range of them, as no read of these depends on a test.
 #[tactic(auto, unfolding(abi_spec::specs::Pair::strays, abi_spec::specs::Pair::other_length))]
 pub fn strays(w: &[u64]) -> bool
     ensures { result ≡ strays w.now }
@@ -92,11 +92,10 @@ pub fn strays(w: &[u64]) -> bool
     let Some(w) = w.as_array::<PAIR>() else {
         return true;
     };
-    let numbers = numbers_stray(w[2], w[3], w[4], w[26], w[27]);
-    let flags = flags_stray(w[6], w[8], w[9], w[10], w[11], w[29]);
-    let heads = heads_stray(w[17], w[24]);
-    let fields = fields_stray(w[5], w[7], w[12], w[15], w[22], w[23], w[28]);
-    numbers || flags || heads || fields
+    numbers_stray(w[2], w[3], w[4], w[26], w[27])
+        || flags_stray(w[6], w[8], w[9], w[10], w[11], w[29])
+        || heads_stray(w[17], w[24])
+        || fields_stray(w[5], w[7], w[12], w[15], w[22], w[23], w[28])
 }
 
 // The timer code; words out of range have none that a set-up accepts.
