@@ -1,4 +1,5 @@
-// A header as words: 11 of its BTH, and 10 of the headers that follow it.
+// A header as words: 11 of its BTH, and 10 of the headers that follow it. Functions and no From: the trait and the types
+// are of other crates.
 ghost use Rattle.std.specs.Prelude.{◌≡◌};
 ghost use Rattle.abi_spec.specs.Fields.{bth_from, bth_words, reth_from, atomic_from, aeth_from, extension_from, remote_words, atomic_words, aeth_words, immediate_words, extension_words};
 

@@ -4,7 +4,6 @@
 mod fields;
 
 ghost use Rattle.std.specs.Prelude.{◌≡◌};
-ghost use Rattle.abi_spec.specs.Words.{overwrite_words};
 ghost use Rattle.abi_spec.specs.Pair.{numbers_stray, flags_stray, heads_stray, fields_stray, strays, timer_said, setup_said, message_of, read_of, said_by, pair_words};
 
 pub use fields::{bth_from, bth_words, extension_from, extension_words};
@@ -34,16 +33,6 @@ const TIMERS: u64 = TIMER_LIMIT + 1;
 
 // A timer code that no set-up accepts.
 const NO_TIMER: u8 = 255;
-
-// Writes new over words of the same length; else nothing changes.
-#[tactic(auto, unfolding(abi_spec::specs::Words::overwrite_words))]
-pub fn overwrite_words(words: &mut [u64], new: &[u64])
-    ensures { words.new ≡ overwrite_words words.old new.now }
-{
-    if words.len() == new.len() {
-        words.copy_from_slice(new);
-    }
-}
 
 // Whether a number of 24 bits is over its range.
 #[tactic(auto, unfolding(abi_spec::specs::Pair::numbers_stray))]

@@ -16,7 +16,7 @@ use Rattle.pair.specs.Pair.{blank_pair}
 use Rattle.pair.specs.Sound.{pair_unsound}
 use Rattle.pair.specs.declared.Pair.{Pair}
 use Rattle.pair.proofs.Tests.{tested}
-use Rattle.abi_spec.specs.Words.{word, eq_words, overwrite_words, flag}
+use Rattle.abi_spec.specs.Words.{word, eq_words, flag}
 use Rattle.abi_spec.specs.Pair.{other_length, numbers_stray, flags_stray, heads_stray, fields_stray, strays, timer_said, setup_said, message_of, read_of, narrowed, said_by, pair_of, pair_words}
 use Rattle.abi_spec.specs.Claims.{SameIs, InRange, RangesTested, WordsSaid, StrayUnsound, SetupFields, PairFields, PairBack, SaidFits, SoundFits}
 
@@ -246,10 +246,6 @@ stray-tested w h e = go (pair_unsound (pair_of w)) refl
     go : (b : Bool) → pair_unsound (pair_of w) ≡ b → pair_unsound (pair_of w) ≡ true
     go true f = f
     go false f = absurd (true≢false (sym e ∙ sound-words w h f))
-
-pub overwrite-many : (w : List ℕ) (q : Pair) → length w ≡ 30 → overwrite_words w (pair_words q) ≡ pair_words q
-unfolding overwrite_words pair_words
-overwrite-many w q e = ap (λ b. cond b (pair_words q) w) (eq-eqb (length w) 30 e)
 
 -- the words of a pair
 words-in-range : (q : Pair) → PairFields q → InRange (pair_words q)

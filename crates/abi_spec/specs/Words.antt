@@ -1,5 +1,5 @@
 -- Lists of words.
-use Rattle.std.specs.Prelude.{ℕ, ◌%◌, ◌^◌, Bool, true, false, cond, not, List, [], ◌∷◌, eqb, length, get_or}
+use Rattle.std.specs.Prelude.{ℕ, ◌%◌, ◌^◌, Bool, true, false, cond, not, List, [], ◌∷◌, eqb, get_or}
 
 -- word i, and its low bits
 abbrev pub word : List ℕ → ℕ → ℕ
@@ -18,7 +18,3 @@ eq_words [] [] = true
 eq_words [] (y ∷ ys) = false
 eq_words (x ∷ xs) [] = false
 eq_words (x ∷ xs) (y ∷ ys) = cond (eqb x y) (eq_words xs ys) false
-
--- new words over as many old ones
-unfoldable pub overwrite_words : List ℕ → List ℕ → List ℕ
-overwrite_words old new = cond (eqb (length old) (length new)) new old

@@ -10,7 +10,7 @@ use cut_spec::{Connection, Request, Target};
 use header::{AtomicEth, Refusal, Reth};
 use sequence::Psn;
 
-// The kinds of request that a caller names.
+// The kinds of request that a caller names: numbers, as C names them.
 const SEND: u8 = 0;
 
 const SEND_IMMEDIATE: u8 = 1;
