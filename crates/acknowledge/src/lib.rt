@@ -65,10 +65,7 @@ pub(crate) fn write_bth_aeth(out: &mut [u8], bth: Bth, r: Reply)
 fn acknowledges(kind: u8) -> bool
     ensures { result ≡ (eqb kind Kind.acknowledge || eqb kind Kind.atomic_acknowledge) }
 {
-    if kind == opcode::ACKNOWLEDGE {
-        return true;
-    }
-    kind == opcode::ATOMIC_ACKNOWLEDGE
+    kind == opcode::ACKNOWLEDGE || kind == opcode::ATOMIC_ACKNOWLEDGE
 }
 
 // The value of an Atomic Acknowledge, behind its AETH; answers how long the packet is.
@@ -94,8 +91,7 @@ pub fn write_ack(out: &mut [u8], s: Setup, r: Reply) -> usize
     if out.len() < opcode::WITH_AETH_ATOMIC_ACK {
         return 0;
     }
-    let some = acknowledges(r.kind);
-    if some {
+    if acknowledges(r.kind) {
         let bth = reply_bth(s, r.kind, 0, r.psn);
         write_bth_aeth(out, bth, r);
         return write_value(out, r.kind, r.value);

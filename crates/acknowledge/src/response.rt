@@ -12,28 +12,17 @@ use responder_spec::Reply;
 pub fn no_room(room: usize, pmtu: usize) -> bool
     ensures { result ≡ ltb room (ack_length + pmtu) }
 {
-    if room < opcode::WITH_AETH {
-        return true;
-    }
-    room - opcode::WITH_AETH < pmtu
+    room < opcode::WITH_AETH || room - opcode::WITH_AETH < pmtu
 }
 
 // Whether there is no such response, or no room for it.
 fn unsendable_response(s: Setup, r: Reply, memory: usize, room: usize) -> bool
     ensures { result ≡ unsendable_response s r memory room }
 {
-    let none = pmtu::pmtu_unfit(s.pmtu);
-    if none {
-        return true;
-    }
-    let short = no_room(room, s.pmtu);
-    if short {
-        return true;
-    }
-    if memory < r.offset {
-        return true;
-    }
-    memory - r.offset < r.length
+    pmtu::pmtu_unfit(s.pmtu)
+        || no_room(room, s.pmtu)
+        || memory < r.offset
+        || memory - r.offset < r.length
 }
 
 // Which response is next.
@@ -81,8 +70,7 @@ pub(crate) fn write(out: &mut [u8], s: Setup, r: Reply, mem: &[u8]) -> usize
     ensures value { result ≡ cond (unsendable_response s r (length mem.now) (length out.old)) 0 (length (response_bytes s r mem.now (index_of r s.pmtu))) }
     ensures out_after { out.new ≡ cond (unsendable_response s r (length mem.now) (length out.old)) out.old (over (response_bytes s r mem.now (index_of r s.pmtu)) out.old) }
 {
-    let none = unsendable_response(s, r, mem.len(), out.len());
-    if none {
+    if unsendable_response(s, r, mem.len(), out.len()) {
         return 0;
     }
     let i = index_of(r, s.pmtu);

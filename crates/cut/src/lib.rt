@@ -18,13 +18,11 @@ fn carries(request: Request) -> bool
     ensures { result ≡ carries request }
 {
     match request {
-        Request::Send => true,
-        Request::SendImmediate(_) => true,
-        Request::Write(_) => true,
-        Request::WriteImmediate(_, _) => true,
-        Request::Read(_) => false,
-        Request::CmpSwap(_) => false,
-        Request::FetchAdd(_, _) => false,
+        Request::Send
+        | Request::SendImmediate(_)
+        | Request::Write(_)
+        | Request::WriteImmediate(_, _) => true,
+        Request::Read(_) | Request::CmpSwap(_) | Request::FetchAdd(_, _) => false,
     }
 }
 
@@ -32,11 +30,7 @@ fn carries(request: Request) -> bool
 fn carried_length(request: Request, n: usize) -> usize
     ensures { result ≡ carried_length request n }
 {
-    let carrying = carries(request);
-    if carrying {
-        return n;
-    }
-    0
+    if carries(request) { n } else { 0 }
 }
 
 // The length of the message whose bytes are n, if it has bytes.
@@ -44,13 +38,12 @@ fn message_length(request: Request, n: usize) -> usize
     ensures { result ≡ message_length request n }
 {
     match request {
-        Request::Send => n,
-        Request::SendImmediate(_) => n,
-        Request::Write(_) => n,
-        Request::WriteImmediate(_, _) => n,
+        Request::Send
+        | Request::SendImmediate(_)
+        | Request::Write(_)
+        | Request::WriteImmediate(_, _) => n,
         Request::Read(a) => a.length as usize,
-        Request::CmpSwap(_) => 0,
-        Request::FetchAdd(_, _) => 0,
+        Request::CmpSwap(_) | Request::FetchAdd(_, _) => 0,
     }
 }
 
@@ -58,8 +51,7 @@ fn message_length(request: Request, n: usize) -> usize
 fn check_length(n: usize, pmtu: usize) -> Result<(), Refusal>
     ensures { result ≡ check_length n pmtu }
 {
-    let unfit = pmtu::pmtu_unfit(pmtu);
-    if unfit {
+    if pmtu::pmtu_unfit(pmtu) {
         return Err(Refusal::BadNumber);
     }
     if cut_spec::MESSAGE_LIMIT < n {
@@ -106,31 +98,18 @@ pub fn next_psn(request: Request, n: usize, pmtu: usize, first: Psn) -> Result<P
 fn unserved(carrying: bool, service: u8) -> bool
     ensures { result ≡ unserved carrying service }
 {
-    if carrying {
-        return false;
-    }
-    service == opcode::UC
+    !carrying && service == opcode::UC
 }
 
 // Whether there is no such PMTU or service, a number is over 24 bits, or the service lacks the request.
 fn unfit(connection: Connection, carrying: bool, first: Psn) -> bool
     ensures { result ≡ cut_unfit connection carrying first.0 }
 {
-    let uncut = pmtu::pmtu_unfit(connection.pmtu);
-    if uncut {
-        return true;
-    }
-    let other = header::other_service(connection.service);
-    if other {
-        return true;
-    }
-    if header::QPN_SPACE <= connection.dest {
-        return true;
-    }
-    if Psn::SPACE <= first.0 {
-        return true;
-    }
-    unserved(carrying, connection.service)
+    pmtu::pmtu_unfit(connection.pmtu)
+        || header::other_service(connection.service)
+        || header::QPN_SPACE <= connection.dest
+        || Psn::SPACE <= first.0
+        || unserved(carrying, connection.service)
 }
 
 // Which refusal the cut gets before its output is looked at, if any.
@@ -144,8 +123,7 @@ fn check_cut(
     ensures { result ≡ check_cut connection request n first.0 index }
 {
     let carrying = carries(request);
-    let bad = unfit(connection, carrying, first);
-    if bad {
+    if unfit(connection, carrying, first) {
         return Err(Refusal::BadNumber);
     }
     let whole = message_length(request, n);

@@ -57,8 +57,7 @@ fn send_extension(v: u32, place: u8) -> Extension
 fn write_extension(t: Target, n: u32, place: u8) -> Extension
     ensures { result ≡ write_extension (reth_for t n) place }
 {
-    let begins = opcode::starts(place);
-    if begins {
+    if opcode::starts(place) {
         let a = reth_for(t, n);
         return Extension::Remote(a);
     }

@@ -119,45 +119,28 @@ fn read_extension(p: &[u8], follows: u8) -> Extension
 fn bad_length(n: usize) -> bool
     ensures { result ≡ bad_length n }
 {
-    if n < opcode::BTH_LENGTH {
-        return true;
-    }
-    if header::PACKET_LIMIT < n {
-        return true;
-    }
-    n % 4 != 0
+    n < opcode::BTH_LENGTH || header::PACKET_LIMIT < n || n % 4 != 0
 }
 
 #[tactic(auto, unfolding(header::specs::Check::wrong_service))]
 fn wrong_service(theirs: u8, ours: u8) -> bool
     ensures { result ≡ wrong_service theirs ours }
 {
-    let other = header::other_service(theirs);
-    if other {
-        return true;
-    }
-    theirs != ours
+    header::other_service(theirs) || theirs != ours
 }
 
 #[tactic(auto, unfolding(header::specs::Check::is_response))]
 fn is_response(low: u8) -> bool
     ensures { result ≡ is_response low }
 {
-    if low < opcode::READ_RESPONSE {
-        return false;
-    }
-    low <= opcode::ATOMIC_ACKNOWLEDGE
+    opcode::READ_RESPONSE <= low && low <= opcode::ATOMIC_ACKNOWLEDGE
 }
 
 #[tactic(auto, unfolding(header::specs::Check::beyond_service))]
 fn beyond_service(service: u8, low: u8) -> bool
     ensures { result ≡ beyond_service service low }
 {
-    if service != opcode::UC {
-        return false;
-    }
-    let has = opcode::uc_has(low);
-    !has
+    service == opcode::UC && !opcode::uc_has(low)
 }
 
 // The check behind that of the length that fails first. It stands in a function of its own because the compiler
@@ -180,20 +163,16 @@ fn bth_reason(
     if b.dest != ours {
         return Err(Reason::Number);
     }
-    let matched = header::pkeys_match(b.pkey, pkey);
-    if !matched {
+    if !header::pkeys_match(b.pkey, pkey) {
         return Err(Reason::Key);
     }
-    let wrong = wrong_service(b.opcode / opcode::PER_SERVICE, service);
-    if wrong {
+    if wrong_service(b.opcode / opcode::PER_SERVICE, service) {
         return Err(Reason::Service);
     }
-    let response = is_response(b.opcode % opcode::PER_SERVICE);
-    if response {
+    if is_response(b.opcode % opcode::PER_SERVICE) {
         return Err(Reason::Response);
     }
-    let beyond = beyond_service(service, b.opcode % opcode::PER_SERVICE);
-    if beyond {
+    if beyond_service(service, b.opcode % opcode::PER_SERVICE) {
         return Err(Reason::Unserved);
     }
     if n < headers {
@@ -230,8 +209,7 @@ pub fn admit(p: &[u8], service: u8, ours: u32, pkey: u16, ready: bool) -> Result
     ensures value { result ≡ admission (admitted service ours pkey ready p.now) (length p.now) }
     ensures result_value { admission_number result ≡ reason_number (header_reason service ours pkey ready p.now) }
 {
-    let bad = bad_length(p.len());
-    if bad {
+    if bad_length(p.len()) {
         return Err(Reason::Length);
     }
     let b = read_bth(p);
@@ -249,16 +227,14 @@ pub fn read(p: &[u8]) -> Result<Header, Reason>
     ensures result_value { read_number result ≡ reason_number (read_reason p.now) }
     ensures result_value_2 { read_check result ≡ read_reason p.now }
 {
-    let bad = bad_length(p.len());
-    if bad {
+    if bad_length(p.len()) {
         return Err(Reason::Length);
     }
     let bth = read_bth(p);
     if bth.tver != 0 {
         return Err(Reason::Version);
     }
-    let other = header::other_service(bth.opcode / opcode::PER_SERVICE);
-    if other {
+    if header::other_service(bth.opcode / opcode::PER_SERVICE) {
         return Err(Reason::Service);
     }
     let class = opcode::class(bth.opcode);

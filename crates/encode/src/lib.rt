@@ -97,8 +97,7 @@ pub fn write(h: Header, out: &mut [u8]) -> Result<usize, Refusal>
     ensures result_value { answer_number result ≡ write_answer h (length out.old) }
     ensures out_after { out.new ≡ written_out h out.old }
 {
-    let none = unfit(h);
-    if none {
+    if unfit(h) {
         return Err(Refusal::BadNumber);
     }
     let bth = h.bth;

@@ -153,14 +153,7 @@ pub fn other_service(service: u8) -> bool
 pub fn pkeys_match(theirs: u16, ours: u16) -> bool
     ensures { result ≡ pkeys_match theirs ours }
 {
-    if theirs % PKEY_TOP != ours % PKEY_TOP {
-        return false;
-    }
-    if theirs % PKEY_TOP == 0 {
-        return false;
-    }
-    if PKEY_TOP <= theirs {
-        return true;
-    }
-    PKEY_TOP <= ours
+    theirs % PKEY_TOP == ours % PKEY_TOP
+        && theirs % PKEY_TOP != 0
+        && (PKEY_TOP <= theirs || PKEY_TOP <= ours)
 }

@@ -72,8 +72,7 @@ pub fn set_up(setup: Setup, regions: &mut [[u64; 7]; table::REGIONS]) -> HostOut
     ensures value { result ≡ set_up setup }
     ensures regions_after { regions.new ≡ set_up_regions setup regions.old }
 {
-    let unfit = setup_unfit(setup);
-    if unfit {
+    if setup_unfit(setup) {
         return outcome(Status::BadNumber, blank());
     }
     if pair::LIMIT < setup.memory {
@@ -90,8 +89,7 @@ pub fn reset(pair: Pair, regions: &mut [[u64; 7]; table::REGIONS]) -> HostOutcom
     ensures regions_after { regions.new ≡ reset_regions pair regions.old }
 {
     let setup = pair.setup;
-    let bad = setup_unsound(setup);
-    if bad {
+    if setup_unsound(setup) {
         return outcome(Status::OutOfRange, pair);
     }
     *regions = [[0; 7]; table::REGIONS];
@@ -106,8 +104,7 @@ pub fn make_ready(pair: Pair) -> HostOutcome
     if pair.state != pair::INIT {
         return outcome(Status::WrongState, pair);
     }
-    let bad = unsound(pair);
-    if bad {
+    if unsound(pair) {
         return outcome(Status::OutOfRange, pair);
     }
     let next = Pair {
@@ -125,8 +122,7 @@ pub fn add_region(pair: Pair, regions: &mut [[u64; 7]; table::REGIONS], region: 
     if pair.state == pair::ERROR {
         return Status::WrongState;
     }
-    let bad = unsound(pair);
-    if bad {
+    if unsound(pair) {
         return Status::OutOfRange;
     }
     let off = table::region_outside(
@@ -170,12 +166,10 @@ pub fn post_entry(pair: Pair, entries: &mut [[u64; 3]; table::ENTRIES], entry: E
         return outcome(Status::WrongState, pair);
     }
     let numbers = sound::numbers_unsound(pair);
-    let bad = sound::work_unsound(numbers, pair);
-    if bad {
+    if sound::work_unsound(numbers, pair) {
         return outcome(Status::OutOfRange, pair);
     }
-    let off = table::outside(entry.offset, entry.length, pair.setup.memory as u64);
-    if off {
+    if table::outside(entry.offset, entry.length, pair.setup.memory as u64) {
         return outcome(Status::OutOfRange, pair);
     }
     let head = pair.entries.head;

@@ -18,27 +18,13 @@ fn outside(offset: usize, length: usize, memory: usize) -> bool
 pub fn setup_unfit(setup: Setup) -> bool
     ensures { result ≡ setup_unfit setup }
 {
-    let pmtu = pmtu::pmtu_unfit(setup.pmtu);
-    if pmtu {
-        return true;
-    }
-    let service = header::other_service(setup.service);
-    if service {
-        return true;
-    }
-    if header::QPN_SPACE <= setup.ours {
-        return true;
-    }
-    if header::QPN_SPACE <= setup.theirs {
-        return true;
-    }
-    if Psn::SPACE <= setup.start.0 {
-        return true;
-    }
-    if setup.pkey % header::PKEY_TOP == 0 {
-        return true;
-    }
-    pair::TIMER_LIMIT < setup.timer
+    pmtu::pmtu_unfit(setup.pmtu)
+        || header::other_service(setup.service)
+        || header::QPN_SPACE <= setup.ours
+        || header::QPN_SPACE <= setup.theirs
+        || Psn::SPACE <= setup.start.0
+        || setup.pkey % header::PKEY_TOP == 0
+        || pair::TIMER_LIMIT < setup.timer
 }
 
 // Whether no set-up accepts these numbers.
@@ -46,11 +32,7 @@ pub fn setup_unfit(setup: Setup) -> bool
 pub fn setup_unsound(setup: Setup) -> bool
     ensures { result ≡ setup_unsound setup }
 {
-    let unfit = setup_unfit(setup);
-    if unfit {
-        return true;
-    }
-    pair::LIMIT < setup.memory
+    setup_unfit(setup) || pair::LIMIT < setup.memory
 }
 
 // A ring has no more rows than its table.
@@ -58,10 +40,7 @@ pub fn setup_unsound(setup: Setup) -> bool
 fn ring_unsound(capacity: usize, head: usize, count: usize) -> bool
     ensures { result ≡ ring_unsound capacity head count }
 {
-    if capacity <= head {
-        return true;
-    }
-    capacity < count
+    capacity <= head || capacity < count
 }
 
 // An open SEND holds an entry, and has stored no more than memory can have.
@@ -69,10 +48,7 @@ fn ring_unsound(capacity: usize, head: usize, count: usize) -> bool
 fn send_unsound(stored: usize, entries: usize) -> bool
     ensures { result ≡ send_unsound stored entries }
 {
-    if entries == 0 {
-        return true;
-    }
-    pair::LIMIT < stored
+    entries == 0 || pair::LIMIT < stored
 }
 
 // An open WRITE has bytes to come, within the limit, and its next byte has an address.
@@ -80,22 +56,14 @@ fn send_unsound(stored: usize, entries: usize) -> bool
 fn message_unsound(kind: u8, stored: usize, address: u64, length: usize, entries: usize) -> bool
     ensures { result ≡ message_unsound kind stored address length entries }
 {
-    if kind == pair::CLOSED {
-        return false;
+    match kind {
+        pair::CLOSED => false,
+        opcode::SEND => send_unsound(stored, entries),
+        opcode::WRITE => {
+            length <= stored || pair::LIMIT < length || table::past_top(address, stored as u64)
+        }
+        _ => true,
     }
-    if kind == opcode::SEND {
-        return send_unsound(stored, entries);
-    }
-    if kind != opcode::WRITE {
-        return true;
-    }
-    if length <= stored {
-        return true;
-    }
-    if pair::LIMIT < length {
-        return true;
-    }
-    table::past_top(address, stored as u64)
 }
 
 // A read answer has no more responses to send than there are, lies in memory, and has numbers of 24 bits.
@@ -111,20 +79,11 @@ fn read_unsound(
 ) -> bool
     ensures { result ≡ read_unsound remaining offset length psn.0 msn.0 pmtu memory }
 {
-    if remaining == 0 {
-        return false;
-    }
-    if pmtu::count(length, pmtu) < remaining {
-        return true;
-    }
-    let off = outside(offset, length, memory);
-    if off {
-        return true;
-    }
-    if Psn::SPACE <= psn.0 {
-        return true;
-    }
-    Msn::SPACE <= msn.0
+    remaining != 0
+        && (pmtu::count(length, pmtu) < remaining
+            || outside(offset, length, memory)
+            || Psn::SPACE <= psn.0
+            || Msn::SPACE <= msn.0)
 }
 
 // The state is one of three, PSN and MSN have 24 bits.
@@ -132,13 +91,7 @@ fn read_unsound(
 fn counters_unsound(state: u8, expected: Psn, msn: Msn) -> bool
     ensures { result ≡ counters_unsound state expected.0 msn.0 }
 {
-    if pair::ERROR < state {
-        return true;
-    }
-    if Psn::SPACE <= expected.0 {
-        return true;
-    }
-    Msn::SPACE <= msn.0
+    pair::ERROR < state || Psn::SPACE <= expected.0 || Msn::SPACE <= msn.0
 }
 
 // Whether a number that a pair always has is out of its range: of its set-up, state, counters and rings. The calls for
@@ -148,20 +101,10 @@ fn counters_unsound(state: u8, expected: Psn, msn: Msn) -> bool
 pub fn numbers_unsound(pair: Pair) -> bool
     ensures { result ≡ numbers_unsound pair }
 {
-    let setup = pair.setup;
-    let a = setup_unsound(setup);
-    if a {
-        return true;
-    }
-    let b = counters_unsound(pair.state, pair.expected, pair.msn);
-    if b {
-        return true;
-    }
-    let c = ring_unsound(table::ENTRIES, pair.entries.head, pair.entries.count);
-    if c {
-        return true;
-    }
-    ring_unsound(table::SAVED, pair.saved.head, pair.saved.count)
+    setup_unsound(pair.setup)
+        || counters_unsound(pair.state, pair.expected, pair.msn)
+        || ring_unsound(table::ENTRIES, pair.entries.head, pair.entries.count)
+        || ring_unsound(table::SAVED, pair.saved.head, pair.saved.count)
 }
 
 // Whether some number is, given whether one of those is: one of the open message or of the READ being answered.
@@ -169,28 +112,23 @@ pub fn numbers_unsound(pair: Pair) -> bool
 pub fn work_unsound(numbers: bool, pair: Pair) -> bool
     ensures { result ≡ (numbers || work_unsound pair) }
 {
-    if numbers {
-        return true;
-    }
-    let m = message_unsound(
-        pair.message.kind,
-        pair.message.stored,
-        pair.message.address,
-        pair.message.length,
-        pair.entries.count,
-    );
-    if m {
-        return true;
-    }
-    read_unsound(
-        pair.read.remaining,
-        pair.read.offset,
-        pair.read.length,
-        pair.read.psn,
-        pair.read.msn,
-        pair.setup.pmtu,
-        pair.setup.memory,
-    )
+    numbers
+        || message_unsound(
+            pair.message.kind,
+            pair.message.stored,
+            pair.message.address,
+            pair.message.length,
+            pair.entries.count,
+        )
+        || read_unsound(
+            pair.read.remaining,
+            pair.read.offset,
+            pair.read.length,
+            pair.read.psn,
+            pair.read.msn,
+            pair.setup.pmtu,
+            pair.setup.memory,
+        )
 }
 
 // Whether some number of the pair is out of its range.

@@ -185,10 +185,7 @@ fn place_of(low: u8) -> u8
 pub fn starts(place: u8) -> bool
     ensures { result ≡ starts place }
 {
-    if place == FIRST {
-        return true;
-    }
-    place == ONLY
+    place == FIRST || place == ONLY
 }
 
 // Whether it ends it.
@@ -386,8 +383,7 @@ pub fn class(opcode: u8) -> OpcodeClass
     ensures { result ≡ class_of opcode }
 {
     let low = opcode % PER_SERVICE;
-    let has = served(opcode / PER_SERVICE, low);
-    if has {
+    if served(opcode / PER_SERVICE, low) {
         return table_class(low);
     }
     reserved_class()

@@ -82,10 +82,7 @@ pub struct Ring {
 pub fn outside(offset: u64, length: u64, memory: u64) -> bool
     ensures { result ≡ outside offset length memory }
 {
-    if memory < offset {
-        return true;
-    }
-    memory - offset < length
+    memory < offset || memory - offset < length
 }
 
 // Whether address plus length is 2^64 or more.
@@ -100,14 +97,7 @@ pub fn past_top(address: u64, length: u64) -> bool
 pub fn region_outside(address: u64, length: u64, offset: u64, memory: u64) -> bool
     ensures { result ≡ region_outside address length offset memory }
 {
-    if length == 0 {
-        return true;
-    }
-    let off = outside(offset, length, memory);
-    if off {
-        return true;
-    }
-    past_top(address, length)
+    length == 0 || outside(offset, length, memory) || past_top(address, length)
 }
 
 // A region's row, and an entry's. No From: into() would not say at the call that an array of numbers is a row.

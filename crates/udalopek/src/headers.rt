@@ -80,8 +80,7 @@ pub extern "C" fn udalopek_write_header(
     ensures out_after { out.new ≡ write_output bth.now extension.now out.old }
     ensures report_after { report.new ≡ write_report bth.now extension.now out.old }
 {
-    let own = own_words(bth, extension);
-    if own {
+    if own_words(bth, extension) {
         let b = abi::bth_from(bth);
         let e = abi::extension_from(extension);
         let h = Header {

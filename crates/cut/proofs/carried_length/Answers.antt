@@ -1,10 +1,10 @@
 use Rattle.cut_spec.specs.Message.{carried_length}
 use Rattle.cut.proofs.carried_length.Goals as goal
 
-pub returns-then-carrying : goal.returns-then-carrying
+pub returns-then-carries : goal.returns-then-carries
 unfolding carried_length
-returns-then-carrying c = simp (← c.carries-carrying.ensures, c.if-carrying.true)
+returns-then-carries c = simp (← c.carries.ensures, c.if-carries.true)
 
 pub returns : goal.returns
 unfolding carried_length
-returns c = simp (← c.carries-carrying.ensures, c.if-carrying.false)
+returns c = simp (← c.carries.ensures, c.if-carries.false)

@@ -14,18 +14,18 @@ returns-then-pair-eq-ERROR c =
     let s : add_status A.pair A.regions.now A.region ≡ status.WrongState = simp (eq-eqb _ _ c.if-pair-eq-ERROR.true) in
     record { value = sym s; regions_after = simp s }
 
-pub returns-then-bad : goal.returns-then-bad
+pub returns-then-unsound : goal.returns-then-unsound
 unfolding add_status add_regions executed status_number
-returns-then-bad c =
+returns-then-unsound c =
     let A = c.args in
-    let s : add_status A.pair A.regions.now A.region ≡ status.OutOfRange = simp (ne_eqb _ _ c.if-pair-eq-ERROR.false, ← c.unsound-bad.ensures, c.if-bad.true) in
+    let s : add_status A.pair A.regions.now A.region ≡ status.OutOfRange = simp (ne_eqb _ _ c.if-pair-eq-ERROR.false, ← c.unsound.ensures, c.if-unsound.true) in
     record { value = sym s; regions_after = simp s }
 
 pub returns-then-off : goal.returns-then-off
 unfolding add_status add_regions executed status_number
 returns-then-off c =
     let A = c.args in
-    let s : add_status A.pair A.regions.now A.region ≡ status.OutOfRange = simp (ne_eqb _ _ c.if-pair-eq-ERROR.false, ← c.unsound-bad.ensures, c.if-bad.false, ← c.region_outside-off.ensures, c.if-off.true) in
+    let s : add_status A.pair A.regions.now A.region ≡ status.OutOfRange = simp (ne_eqb _ _ c.if-pair-eq-ERROR.false, ← c.unsound.ensures, c.if-unsound.false, ← c.region_outside-off.ensures, c.if-off.true) in
     record { value = sym s; regions_after = simp s }
 
 pub returns-then-is_some : goal.returns-then-is_some
@@ -33,7 +33,7 @@ unfolding add_status add_regions executed status_number
 returns-then-is_some c =
     let A = c.args in
     let used : ltb (key_row c.from.result A.regions.now) region_capacity ≡ true = sym (found-is _) ∙ ap is_some (sym c.key_row.ensures) ∙ sym c.is_some.ensures ∙ c.if-is_some.true in
-    let s : add_status A.pair A.regions.now A.region ≡ status.KeyInUse = simp (ne_eqb _ _ c.if-pair-eq-ERROR.false, ← c.unsound-bad.ensures, c.if-bad.false, ← c.region_outside-off.ensures, c.if-off.false, ← c.from.ensures, used) in
+    let s : add_status A.pair A.regions.now A.region ≡ status.KeyInUse = simp (ne_eqb _ _ c.if-pair-eq-ERROR.false, ← c.unsound.ensures, c.if-unsound.false, ← c.region_outside-off.ensures, c.if-off.false, ← c.from.ensures, used) in
     record { value = sym s; regions_after = simp s }
 
 pub returns-in_default : goal.returns-in_default
@@ -42,7 +42,7 @@ returns-in_default c =
     let A = c.args in
     let used : ltb (key_row c.from.result A.regions.now) region_capacity ≡ false = sym (found-is _) ∙ ap is_some (sym c.key_row.ensures) ∙ sym c.is_some.ensures ∙ c.if-is_some.false in
     let none = found-none (free_row A.regions.now) (sym c.in_default.is ∙ c.free_row.ensures) in
-    let s : add_status A.pair A.regions.now A.region ≡ status.TableFull = simp (ne_eqb _ _ c.if-pair-eq-ERROR.false, ← c.unsound-bad.ensures, c.if-bad.false, ← c.region_outside-off.ensures, c.if-off.false, ← c.from.ensures, used, le-leb _ _ none) in
+    let s : add_status A.pair A.regions.now A.region ≡ status.TableFull = simp (ne_eqb _ _ c.if-pair-eq-ERROR.false, ← c.unsound.ensures, c.if-unsound.false, ← c.region_outside-off.ensures, c.if-off.false, ← c.from.ensures, used, le-leb _ _ none) in
     record { value = sym s; regions_after = simp s }
 
 pub returns : goal.returns
@@ -51,5 +51,5 @@ returns c =
     let A = c.args in
     let used : ltb (key_row c.from.result A.regions.now) region_capacity ≡ false = sym (found-is _) ∙ ap is_some (sym c.key_row.ensures) ∙ sym c.is_some.ensures ∙ c.if-is_some.false in
     let some = found-some (free_row A.regions.now) c.in-Some.free (sym c.in-Some.is ∙ c.free_row.ensures) in
-    let s : add_status A.pair A.regions.now A.region ≡ status.Executed = simp (ne_eqb _ _ c.if-pair-eq-ERROR.false, ← c.unsound-bad.ensures, c.if-bad.false, ← c.region_outside-off.ensures, c.if-off.false, ← c.from.ensures, used, some.0, lt-leb _ _ some.1) in
+    let s : add_status A.pair A.regions.now A.region ≡ status.Executed = simp (ne_eqb _ _ c.if-pair-eq-ERROR.false, ← c.unsound.ensures, c.if-unsound.false, ← c.region_outside-off.ensures, c.if-off.false, ← c.from.ensures, used, some.0, lt-leb _ _ some.1) in
     record { value = sym s; regions_after = simp s (simp (some.0, ← c.region_row.ensures)) }

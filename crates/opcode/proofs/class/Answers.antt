@@ -12,12 +12,12 @@ once true b has x y = refl
 once false true has x y = refl
 once false false has x y = refl
 
-pub returns-then-has : goal.returns-then-has
+pub returns-then-served : goal.returns-then-served
 unfolding class_of
-returns-then-has c =
+returns-then-served c =
     let n = c.args.opcode in
     c.table_class.ensures
-    ∙ (ap (λ t. cond t (low_class (low_of n)) reserved_class) (sym (sym c.served-has.ensures ∙ c.if-has.true))
+    ∙ (ap (λ t. cond t (low_class (low_of n)) reserved_class) (sym (sym c.served.ensures ∙ c.if-served.true))
     ∙ once (eqb (service_of n) Service.rc) (eqb (service_of n) Service.uc) (uc_has (low_of n)) (low_class (low_of n)) reserved_class)
 
 pub returns : goal.returns
@@ -25,5 +25,5 @@ unfolding class_of
 returns c =
     let n = c.args.opcode in
     c.reserved_class.ensures
-    ∙ (ap (λ t. cond t (low_class (low_of n)) reserved_class) (sym (sym c.served-has.ensures ∙ c.if-has.false))
+    ∙ (ap (λ t. cond t (low_class (low_of n)) reserved_class) (sym (sym c.served.ensures ∙ c.if-served.false))
     ∙ once (eqb (service_of n) Service.rc) (eqb (service_of n) Service.uc) (uc_has (low_of n)) (low_class (low_of n)) reserved_class)
