@@ -16,6 +16,7 @@ pub fn no_room(room: usize, pmtu: usize) -> bool
 }
 
 // Whether there is no such response, or no room for it.
+#[tactic(auto, unfolding(crate::specs::Sendable::unsendable_response))]
 fn unsendable_response(s: Setup, r: Reply, memory: usize, room: usize) -> bool
     ensures { result ≡ unsendable_response s r memory room }
 {

@@ -14,6 +14,7 @@ use header::{Header, Refusal};
 use sequence::Psn;
 
 // Whether the packets carry the message's bytes.
+#[tactic(auto, unfolding(cut_spec::specs::Message::carries))]
 fn carries(request: Request) -> bool
     ensures { result ≡ carries request }
 {
@@ -95,6 +96,7 @@ pub fn next_psn(request: Request, n: usize, pmtu: usize, first: Psn) -> Result<P
 }
 
 // Whether the service lacks the request: UC has those alone that carry bytes.
+#[tactic(auto, unfolding(cut_spec::specs::Cut::unserved))]
 fn unserved(carrying: bool, service: u8) -> bool
     ensures { result ≡ unserved carrying service }
 {
@@ -102,6 +104,7 @@ fn unserved(carrying: bool, service: u8) -> bool
 }
 
 // Whether there is no such PMTU or service, a number is over 24 bits, or the service lacks the request.
+#[tactic(auto, unfolding(cut_spec::specs::Cut::cut_unfit))]
 fn unfit(connection: Connection, carrying: bool, first: Psn) -> bool
     ensures { result ≡ cut_unfit connection carrying first.0 }
 {

@@ -182,6 +182,7 @@ fn place_of(low: u8) -> u8
 }
 
 // Whether a packet at this place begins its message.
+#[tactic(auto, unfolding(crate::specs::Place::starts))]
 pub fn starts(place: u8) -> bool
     ensures { result ≡ starts place }
 {

@@ -79,6 +79,7 @@ pub struct Ring {
 }
 
 // Whether length bytes from offset on do not all lie in memory.
+#[tactic(auto, unfolding(crate::specs::Table::outside))]
 pub fn outside(offset: u64, length: u64, memory: u64) -> bool
     ensures { result ≡ outside offset length memory }
 {
