@@ -61,7 +61,8 @@ impl fmt::Display for Opcode {
     }
 }
 
-// Why reading dropped a packet. It makes no other checks.
+// Why reading dropped a packet. It makes no other checks. No Display of Reason: a pair's check of the service asks for
+// more than these words say.
 pub(crate) fn check_words(reason: Reason) -> &'static str {
     match reason {
         Reason::Length => "length, not 12 to 4,128 bytes or no multiple of 4",
