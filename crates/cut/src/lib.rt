@@ -28,6 +28,7 @@ fn carries(request: Request) -> bool
 }
 
 // How many of n lent bytes the packets carry.
+#[tactic(auto, unfolding(cut_spec::specs::Message::carried_length))]
 fn carried_length(request: Request, n: usize) -> usize
     ensures { result ≡ carried_length request n }
 {
@@ -35,6 +36,7 @@ fn carried_length(request: Request, n: usize) -> usize
 }
 
 // The length of the message whose bytes are n, if it has bytes.
+#[tactic(auto, unfolding(cut_spec::specs::Message::message_length))]
 fn message_length(request: Request, n: usize) -> usize
     ensures { result ≡ message_length request n }
 {
