@@ -4,10 +4,9 @@ use mathlib.Core.Path.{◌≡◌, refl, sym, ap, subst, ◌∙◌}
 use mathlib.Core.Bool.{Bool, true, false, cond, not}
 use mathlib.Core.List.{List, []}
 use native.Mathlib.Omega.{arith}
-use lib.Dec.{ltb}
 use lib.ListN.{length, take, drop}
 use lib.Seq.{take-nil, drop-nil}
-use borrow.Author.Tests.{ltb-false, lt-leb, ne_eqb}
+use borrow.Author.Tests.{lt-leb, ne_eqb}
 use Rattle.lemmas.proofs.Tests.{not-false, cond-le}
 use Rattle.sequence.specs.Sequence.{space}
 use Rattle.sequence.specs.declared.Psn.{Psn}
@@ -23,29 +22,13 @@ use Rattle.pmtu.specs.Pieces.{pmtu_fits, pieces, place_at, piece_at, part_at}
 use Rattle.std.specs.declared.ops.Range.{Range}
 use Rattle.pmtu.proofs.Counting.{pmtus}
 use Rattle.pmtu.proofs.Cuts.{parts, parts_within}
-use Rattle.cut_spec.specs.Message.{carries, carried, carried_length, message_length, message_limit, packets_of, length_refusal}
+use Rattle.cut_spec.specs.Message.{carries, carried, carried_length, message_length, message_limit, packets_of}
 use Rattle.cut_spec.specs.Cut.{unserved, cut_unfit, cut_refusal, low_for, extension_for, bth_at, size_at, header_at, payload_at, cut_bytes, cut_answer, cut_written, cut_out}
 use Rattle.cut_spec.specs.Claims.{Fit}
 use Rattle.cut_spec.specs.declared.Connection.{Connection}
 use Rattle.cut_spec.specs.declared.Request.{Request}
-use Rattle.cut_spec.proofs.Bounds.{pieces-bound, index-small, service-small, low-bound}
+use Rattle.cut_spec.proofs.Bounds.{index-small, service-small, low-bound}
 use Rattle.cut_spec.proofs.Fitting.{known, passed}
-
--- a length that is not refused
-pub length-passed : (n pmtu : ℕ) → length_refusal n pmtu ≡ 0 → (pmtu_fits pmtu ≡ true) × (n ≤ message_limit)
-unfolding length_refusal
-length-passed n pmtu e = go (pmtu_fits pmtu) (ltb message_limit n) refl refl e
-  where
-    go : (a b : Bool) → pmtu_fits pmtu ≡ a → ltb message_limit n ≡ b → ◌≡◌ {A = ℕ} (cond (not a) 39 (cond b 34 0)) 0
-        → (pmtu_fits pmtu ≡ true) × (n ≤ message_limit)
-    go false b x y z = absurd (omega arith)
-    go true true x y z = absurd (omega arith)
-    go true false x y z = (x, ltb-false message_limit n y)
-
-pub count-passed : (n pmtu code count : ℕ) → code ≡ length_refusal n pmtu → code ≡ 0 → count ≡ pieces n pmtu → count ≤ 4096
-count-passed n pmtu code count e z p =
-    let L = length-passed n pmtu (sym e ∙ z) in
-    subst (λ k. k ≤ 4096) (sym p) (pieces-bound n pmtu L.0 L.1)
 
 -- the last of the tests on numbers: whether the service has the request
 pub unfit-last : (c : Connection) (bytes : Bool) (psn : ℕ) (u o w : Bool) → u ≡ not (pmtu_fits c.pmtu) → u ≡ false
