@@ -4,10 +4,9 @@ use mathlib.Core.Path.{◌≡◌, refl, sym, ap, subst, ◌∙◌}
 use mathlib.Core.Bool.{Bool, true, false, cond, not}
 use mathlib.Core.List.{List, []}
 use native.Mathlib.Omega.{arith}
-use lib.Dec.{ltb}
 use lib.ListN.{length, take, drop}
 use lib.Seq.{take-nil, drop-nil}
-use borrow.Author.Tests.{ltb-false, lt-leb}
+use borrow.Author.Tests.{lt-leb}
 use Rattle.std.specs.Prelude.{Result, Ok, Err, ⊤}
 use Rattle.lemmas.proofs.Tests.{not-false, cond-le}
 use Rattle.sequence.specs.Sequence.{space}
@@ -28,24 +27,8 @@ use Rattle.cut_spec.specs.Cut.{unserved, cut_unfit, check_cut, low_for, extensio
 use Rattle.cut_spec.specs.Claims.{Fit}
 use Rattle.cut_spec.specs.declared.Connection.{Connection}
 use Rattle.cut_spec.specs.declared.Request.{Request}
-use Rattle.cut_spec.proofs.Bounds.{pieces-bound, index-small, service-small, low-bound}
+use Rattle.cut_spec.proofs.Bounds.{index-small, service-small, low-bound}
 use Rattle.cut_spec.proofs.Fitting.{known, passed}
-
--- a length that is not refused
-pub length-passed : (n pmtu : ℕ) → check_length n pmtu ≡ Ok tt → (pmtu_fits pmtu ≡ true) × (n ≤ message_limit)
-unfolding check_length
-length-passed n pmtu e = go (pmtu_fits pmtu) (ltb message_limit n) refl refl e
-  where
-    go : (a b : Bool) → pmtu_fits pmtu ≡ a → ltb message_limit n ≡ b → ◌≡◌ {A = Result ⊤ Refusal} (cond (not a) (Err BadNumber) (cond b (Err OutOfRange) (Ok tt))) (Ok tt)
-        → (pmtu_fits pmtu ≡ true) × (n ≤ message_limit)
-    go false b x y z = absurd cc
-    go true true x y z = absurd cc
-    go true false x y z = (x, ltb-false message_limit n y)
-
-pub count-passed : (n pmtu count : ℕ) → check_length n pmtu ≡ Ok tt → count ≡ pieces n pmtu → count ≤ 4096
-count-passed n pmtu count e p =
-    let L = length-passed n pmtu e in
-    subst (λ k. k ≤ 4096) (sym p) (pieces-bound n pmtu L.0 L.1)
 
 -- the last of the tests on numbers: whether the service has the request
 pub unfit-last : (c : Connection) (bytes : Bool) (psn : ℕ) (u o w : Bool) → u ≡ not (pmtu_fits c.pmtu) → u ≡ false
