@@ -1,3 +1,4 @@
 pub mod Leaves
 pub mod Rings
 pub mod Regions
+pub mod Search

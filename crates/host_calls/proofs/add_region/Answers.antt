@@ -1,7 +1,7 @@
 use Rattle.std.proofs.Common.{◌≡◌, true, false, ltb, sym, ap, ◌∙◌, is_some, eq-eqb, ne_eqb}
 use borrow.Author.Tests.{le-leb, lt-leb}
 use Rattle.table.specs.Table.{region_capacity, key_row, free_row}
-use Rattle.table.proofs.Leaves.{found-is, found-some, found-none}
+use Rattle.table.proofs.Search.{found-is, found-some, found-none}
 use Rattle.pair.specs.Host.{add_status, add_regions}
 use Rattle.pair.specs.Answer.{executed, status_number}
 use Rattle.pair.specs.declared.Status.TheVariants as status

@@ -1,7 +1,7 @@
 use Rattle.std.proofs.Common.{◌≡◌, sym, ◌∙◌}
 use borrow.Author.Tests.{le-leb, lt-leb}
 use Rattle.table.specs.Table.{key_row}
-use Rattle.table.proofs.Leaves.{found-some, found-none}
+use Rattle.table.proofs.Search.{found-some, found-none}
 use Rattle.pair.specs.Host.{remove_status, remove_regions}
 use Rattle.pair.specs.Answer.{executed, status_number}
 use Rattle.pair.specs.declared.Status.TheVariants as status

@@ -2,7 +2,7 @@ use Rattle.std.proofs.Common.{rules, tests, ◌==◌, slice_index, true, refl, �
 use Rattle.std.proofs.lemmas.Iterator.{YieldsList-from_slice}
 use Rattle.std.proofs.lemmas.Iterator.Search.{position_from_yields_List}
 use Rattle.table.specs.Table.{sought}
-use Rattle.table.proofs.Leaves.{found-position}
+use Rattle.table.proofs.Search.{found-position}
 use Rattle.table.proofs.free_row.Goals as goal
 
 pub returns : goal.returns

@@ -1,7 +1,7 @@
 use Rattle.std.proofs.Common.{rules, tests, false, ◌∙◌}
 use Rattle.std.proofs.lemmas.Iterator.{YieldsList-from_slice}
 use Rattle.std.proofs.lemmas.Iterator.Search.{position_from_yields_List}
-use Rattle.table.proofs.Leaves.{has_key, key-sought, found-position}
+use Rattle.table.proofs.Search.{has_key, key-sought, found-position}
 use Rattle.table.proofs.key_row.Goals as goal
 
 pub returns : goal.returns

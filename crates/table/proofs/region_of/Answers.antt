@@ -1,7 +1,7 @@
 use Rattle.std.proofs.Common.{sym, ◌∙◌, le-ltb, lt-ltb}
 use Rattle.table.specs.Table.{key_row}
 use Rattle.table.specs.View.{region_of}
-use Rattle.table.proofs.Leaves.{found-some, found-none}
+use Rattle.table.proofs.Search.{found-some, found-none}
 use Rattle.table.proofs.region_of.Goals as goal
 
 pub returns-in-Some : goal.returns-in-Some
