@@ -75,9 +75,10 @@ fn read_aeth(p: &[u8]) -> Aeth
     requires { Length.bth + Length.aeth ≤ length p.now }
     ensures { result ≡ aeth_of p.now }
 {
-    let syndrome = p[12];
-    let msn = Msn(be24(p, 13));
-    Aeth { syndrome, msn }
+    Aeth {
+        syndrome: p[12],
+        msn: Msn(be24(p, 13)),
+    }
 }
 
 // The headers after the BTH, of the opcode's class, for which the packet is long enough.
@@ -86,33 +87,15 @@ fn read_extension(p: &[u8], follows: u8) -> Extension
     requires { length_of follows ≤ length p.now }
     ensures { result ≡ extension_of follows p.now }
 {
-    if follows == opcode::RETH {
-        let reth = read_reth(p);
-        return Extension::Remote(reth);
+    match follows {
+        opcode::RETH => Extension::Remote(read_reth(p)),
+        opcode::RETH_IMMEDIATE => Extension::RemoteImmediate(read_reth(p), be32(p, 28)),
+        opcode::IMMEDIATE => Extension::Immediate(be32(p, 12)),
+        opcode::ATOMIC_ETH => Extension::Atomic(read_atomic(p)),
+        opcode::AETH => Extension::Acknowledge(read_aeth(p)),
+        opcode::AETH_ATOMIC_ACK => Extension::AtomicAcknowledge(read_aeth(p), be64(p, 16)),
+        _ => Extension::Bare,
     }
-    if follows == opcode::RETH_IMMEDIATE {
-        let reth = read_reth(p);
-        let immediate = be32(p, 28);
-        return Extension::RemoteImmediate(reth, immediate);
-    }
-    if follows == opcode::IMMEDIATE {
-        let immediate = be32(p, 12);
-        return Extension::Immediate(immediate);
-    }
-    if follows == opcode::ATOMIC_ETH {
-        let atomic = read_atomic(p);
-        return Extension::Atomic(atomic);
-    }
-    if follows == opcode::AETH {
-        let aeth = read_aeth(p);
-        return Extension::Acknowledge(aeth);
-    }
-    if follows == opcode::AETH_ATOMIC_ACK {
-        let aeth = read_aeth(p);
-        let value = be64(p, 16);
-        return Extension::AtomicAcknowledge(aeth, value);
-    }
-    Extension::Bare
 }
 
 #[tactic(auto, unfolding(header::specs::Read::bad_length))]

@@ -58,22 +58,11 @@ pub(crate) fn operands_of(p: &[u8], follows: u8) -> Operands
     requires { length_of follows ≤ length p.now }
     ensures { result ≡ operands_of (extension_of follows p.now) }
 {
-    if follows == opcode::RETH {
-        let reth = read_reth(p);
-        return remote(reth, false, 0);
+    match follows {
+        opcode::RETH => remote(read_reth(p), false, 0),
+        opcode::RETH_IMMEDIATE => remote(read_reth(p), true, be32(p, 28)),
+        opcode::IMMEDIATE => alone(true, be32(p, 12)),
+        opcode::ATOMIC_ETH => exchanging(read_atomic(p)),
+        _ => alone(false, 0),
     }
-    if follows == opcode::RETH_IMMEDIATE {
-        let reth = read_reth(p);
-        let immediate = be32(p, 28);
-        return remote(reth, true, immediate);
-    }
-    if follows == opcode::IMMEDIATE {
-        let immediate = be32(p, 12);
-        return alone(true, immediate);
-    }
-    if follows == opcode::ATOMIC_ETH {
-        let atomic = read_atomic(p);
-        return exchanging(atomic);
-    }
-    alone(false, 0)
 }

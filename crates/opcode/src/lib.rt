@@ -11,6 +11,10 @@ ghost use Rattle.opcode.specs.Opcode.{per_service, kind_of, place_in, place_of, 
 // How many opcodes a service has: those of the low five bits.
 pub const PER_SERVICE: u8 = 32;
 
+// Services, kinds, places and the headers that follow are numbers and no enums: calls take every number and promise what
+// comes of it (decode::admit, decide::decision, starts), the opcode is of the wire, and the headers are a digit of the
+// table below and a word of the C interface.
+//
 // Services, the opcode's bits 7 to 5.
 pub const RC: u8 = 0;
 
@@ -315,10 +319,7 @@ fn row_of(low: u8) -> u8
     ensures value { result ≡ cond (ltb low Kind.reserved) low Kind.reserved }
     ensures upper_bound { result ≤ Kind.reserved }
 {
-    if low < RESERVED {
-        return low;
-    }
-    RESERVED
+    low.min(RESERVED)
 }
 
 fn digit(column: u64, row: u8) -> u8
@@ -369,13 +370,7 @@ pub fn uc_has(low: u8) -> bool
 fn served(service: u8, low: u8) -> bool
     ensures { result ≡ cond (eqb service Service.rc) true (cond (eqb service Service.uc) (uc_has low) false) }
 {
-    if service == RC {
-        return true;
-    }
-    if service != UC {
-        return false;
-    }
-    uc_has(low)
+    service == RC || service == UC && uc_has(low)
 }
 
 // The class of an opcode: the one function that knows what opcodes mean. table_class stands in it once, so that the
@@ -385,7 +380,8 @@ pub fn class(opcode: u8) -> OpcodeClass
 {
     let low = opcode % PER_SERVICE;
     if served(opcode / PER_SERVICE, low) {
-        return table_class(low);
+        table_class(low)
+    } else {
+        reserved_class()
     }
-    reserved_class()
 }

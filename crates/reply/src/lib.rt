@@ -9,7 +9,7 @@ use pair::{ReadAnswer, Status};
 use responder_spec::{Change, Completion, Decision, Progress, Reply};
 use sequence::{Msn, Psn};
 
-// Syndromes. A not-ready NAK's is that plus the timer code.
+// Syndromes, bytes of the wire: acknowledging sends any. A not-ready NAK's is that plus the timer code.
 pub const ACK: u8 = 0x1f;
 
 pub const NOT_READY: u8 = 0x20;

@@ -21,7 +21,7 @@ pub enum RequestCheck {
 }
 
 // What the headers after the BTH say, each number 0 and each flag false where no header has it; swap is also FetchAdd's
-// addend.
+// addend. A flag and no Option: decide::decision promises what comes of every packet, also with a value beside a false one.
 #[derive(Clone, Copy)]
 pub struct Operands {
     pub address: u64,

@@ -5,7 +5,8 @@ use pair::{OpenMessage, Pair, Status};
 use sequence::{Msn, Psn};
 
 // The report to the host of a message that took a receive entry: the entry's number, the message's bytes, and the
-// immediate if there is one. Where nothing completes, every number is 0 and every flag false.
+// immediate if there is one. Where nothing completes, every number is 0 and every flag false. Flags and no Options: it is
+// part of a Decision, of which apply::pair_after promises what each leaves, also one with numbers beside a false flag.
 #[derive(Clone, Copy)]
 pub struct Completion {
     pub some: bool,
@@ -15,7 +16,8 @@ pub struct Completion {
     pub value: u32,
 }
 
-// What is done to memory: nothing, the packet's payload is stored, or an atomic is run.
+// What is done to memory: nothing, the packet's payload is stored, or an atomic is run. Numbers, since apply::change and
+// apply::keep promise what comes of every number.
 pub const NOTHING: u8 = 0;
 
 pub const STORE: u8 = 1;
@@ -47,7 +49,7 @@ pub struct Progress {
     pub ends: bool,
 }
 
-// No packet is sent.
+// No packet is sent. A number like the kinds: of every other kind, too, acknowledge::write_ack promises what it writes.
 pub const NO_PACKET: u8 = 255;
 
 // What is sent: an ACK or NAK, an Atomic Acknowledge, the responses of a READ, or nothing. Its kind, PSN, syndrome and

@@ -106,11 +106,15 @@ pub fn region_outside(address: u64, length: u64, offset: u64, memory: u64) -> bo
 pub fn region_row(r: Region) -> [u64; 7]
     ensures { result ≡ region_row r }
 {
-    let w = u64::from(r.write);
-    let d = u64::from(r.read);
-    let a = u64::from(r.atomic);
-    let k = u64::from(r.key);
-    [k, r.address, r.length, r.offset, w, d, a]
+    [
+        u64::from(r.key),
+        r.address,
+        r.length,
+        r.offset,
+        u64::from(r.write),
+        u64::from(r.read),
+        u64::from(r.atomic),
+    ]
 }
 
 #[tactic(auto, unfolding(crate::specs::Table::entry_row))]

@@ -20,9 +20,9 @@ returns-then-served c =
     ∙ (ap (λ t. cond t (low_class (low_of n)) reserved_class) (sym (sym c.served.ensures ∙ c.if-served.true))
     ∙ once (eqb (service_of n) Service.rc) (eqb (service_of n) Service.uc) (uc_has (low_of n)) (low_class (low_of n)) reserved_class)
 
-pub returns : goal.returns
+pub returns-else-served : goal.returns-else-served
 unfolding class_of
-returns c =
+returns-else-served c =
     let n = c.args.opcode in
     c.reserved_class.ensures
     ∙ (ap (λ t. cond t (low_class (low_of n)) reserved_class) (sym (sym c.served.ensures ∙ c.if-served.false))
