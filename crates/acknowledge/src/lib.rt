@@ -33,16 +33,11 @@ pub(crate) fn reply_bth(s: Setup, opcode: u8, pad: u8, psn: Psn) -> Bth
 {
     Bth {
         opcode,
-        se: false,
-        migreq: false,
         pad,
-        tver: 0,
         pkey: s.pkey,
-        reserved8: 0,
         dest: s.theirs,
-        ackreq: false,
-        reserved7: 0,
         psn,
+        ..Bth::default()
     }
 }
 

@@ -113,6 +113,7 @@ pub(crate) fn extension_for(request: Request, n: u32, place: u8) -> Extension
     }
 }
 
+#[tactic(auto, unfolding(cut_spec::specs::Cut::bth_at))]
 pub(crate) fn bth_at(
     connection: Connection,
     low: u8,
@@ -130,15 +131,11 @@ pub(crate) fn bth_at(
     let psn = first.after(index);
     Bth {
         opcode: connection.service * opcode::PER_SERVICE + low,
-        se: false,
-        migreq: false,
         pad,
-        tver: 0,
         pkey: connection.pkey,
-        reserved8: 0,
         dest: connection.dest,
         ackreq: index + 1 == count,
-        reserved7: 0,
         psn,
+        ..Bth::default()
     }
 }

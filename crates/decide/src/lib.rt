@@ -42,8 +42,8 @@ pub fn decision(pair: Pair, tables: Tables, p: Packet) -> Decision
     }
     let class = class_of(uc, p.psn, pair.expected);
     match class {
-        Class::Expected => execute::decision(uc, pair, tables, p),
+        Class::Expected => execute::decision(uc, pair, tables.regions, tables.entries, p),
         Class::Ahead => reply::ahead(pair.nakmark, pair.expected),
-        Class::Duplicate => duplicate::answer(pair, tables, p),
+        Class::Duplicate => duplicate::answer(pair, tables.regions, tables.saved, p),
     }
 }

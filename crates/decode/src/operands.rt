@@ -16,10 +16,9 @@ fn remote(a: Reth, immediate: bool, value: u32) -> Operands
         address: a.address,
         key: a.key,
         length: a.length as usize,
-        swap: 0,
-        compare: 0,
         immediate,
         value,
+        ..Operands::default()
     }
 }
 
@@ -27,13 +26,9 @@ fn alone(immediate: bool, value: u32) -> Operands
     ensures { result ≡ alone immediate value }
 {
     Operands {
-        address: 0,
-        key: 0,
-        length: 0,
-        swap: 0,
-        compare: 0,
         immediate,
         value,
+        ..Operands::default()
     }
 }
 
@@ -47,8 +42,7 @@ fn exchanging(a: AtomicEth) -> Operands
         length: request_spec::ATOMIC_LENGTH,
         swap: a.swap,
         compare: a.compare,
-        immediate: false,
-        value: 0,
+        ..Operands::default()
     }
 }
 

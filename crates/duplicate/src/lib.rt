@@ -11,7 +11,6 @@ use pair::{OpenMessage, Pair, Setup, Status};
 use request_spec::Packet;
 use responder_spec::Decision;
 use sequence::Psn;
-use table::Tables;
 
 #[tactic(auto, unfolding(responder_spec::specs::Decide::psn_before))]
 fn psn_before(psn: Psn) -> Psn
@@ -90,8 +89,13 @@ fn read(p: Packet, pair: Pair, regions: &[[u64; 7]; table::REGIONS]) -> Decision
 // By the kind of the duplicate. Only a READ's key is looked up, and only an atomic's value. What no header says is the
 // caller's mistake.
 #[tactic(auto, unfolding(responder_spec::specs::Decide::duplicate_decision))]
-pub fn answer(pair: Pair, tables: Tables, p: Packet) -> Decision
-    ensures { result ≡ cond (fragment p) (no_reply Status.OutOfRange) (duplicate_decision p pair.setup pair.expected (current pair.message p) (region_for p.kind (current pair.message p).key tables.entry.regions.now) (newest_saved p.psn.0 tables.entry.saved.now pair.saved)) }
+pub fn answer(
+    pair: Pair,
+    regions: &[[u64; 7]; table::REGIONS],
+    saved: &[[u64; 2]; table::SAVED],
+    p: Packet,
+) -> Decision
+    ensures { result ≡ cond (fragment p) (no_reply Status.OutOfRange) (duplicate_decision p pair.setup pair.expected (current pair.message p) (region_for p.kind (current pair.message p).key regions.now) (newest_saved p.psn.0 saved.now pair.saved)) }
 {
     if request_checks::fragment(p) {
         return reply::no_reply(Status::OutOfRange);
@@ -101,10 +105,10 @@ pub fn answer(pair: Pair, tables: Tables, p: Packet) -> Decision
         return reply::acknowledging(Status::DuplicateAnswered, psn, reply::ACK);
     }
     if p.kind == opcode::READ {
-        return read(p, pair, tables.regions);
+        return read(p, pair, regions);
     }
     if is_atomic(p.kind) {
-        return duplicate_atomic(table::newest(tables.saved, pair.saved, p.psn), p.psn);
+        return duplicate_atomic(table::newest(saved, pair.saved, p.psn), p.psn);
     }
     reply::no_reply(Status::Dropped)
 }

@@ -19,7 +19,6 @@ use pair::{OpenMessage, Pair, Status};
 use request_spec::{Packet, RequestCheck};
 use responder_spec::Decision;
 use sequence::Psn;
-use table::Tables;
 
 // Refused by a check, with its answer: a NAK, or the caller's mistake.
 #[tactic(auto, unfolding(responder_spec::specs::Decide::failed, request_spec::specs::Verdict::check_answer))]
@@ -147,8 +146,14 @@ fn open_kind(uc: bool, place: u8, opened: OpenMessage) -> u8
 // A packet whose PSN is the expected one, as on UC every PSN is: the request checks, then it is executed. Both services
 // pass here, by a flag and not by a type of each, so that the checks and the executing stand once in the compiled code;
 // apart, a SEND takes some 15 ns longer.
-pub fn decision(uc: bool, pair: Pair, tables: Tables, p: Packet) -> Decision
-    ensures { result ≡ cond (unformed p pair.setup.timer) (no_reply Status.OutOfRange) (either uc p pair.setup pair.expected pair.message pair.entries.count (head_entry pair tables.entry.entries.now) (region_for p.kind (current pair.message p).key tables.entry.regions.now)) }
+pub fn decision(
+    uc: bool,
+    pair: Pair,
+    regions: &[[u64; 7]; table::REGIONS],
+    entries: &[[u64; 3]; table::ENTRIES],
+    p: Packet,
+) -> Decision
+    ensures { result ≡ cond (unformed p pair.setup.timer) (no_reply Status.OutOfRange) (either uc p pair.setup pair.expected pair.message pair.entries.count (head_entry pair entries.now) (region_for p.kind (current pair.message p).key regions.now)) }
 {
     let setup = pair.setup;
     if unformed(p, setup.timer) {
@@ -159,8 +164,8 @@ pub fn decision(uc: bool, pair: Pair, tables: Tables, p: Packet) -> Decision
         return reply::no_reply(status);
     }
     let m = request_checks::current(opened, p);
-    let entry = table::entry_at(tables.entries, pair.entries.head);
-    let region = key_region(tables.regions, p.kind, m.key);
+    let entry = table::entry_at(entries, pair.entries.head);
+    let region = key_region(regions, p.kind, m.key);
     let kind = open_kind(uc, p.place, opened);
     let count = pair.entries.count;
     match request_checks::expected_check(setup, kind, m, p, count, entry, region) {

@@ -95,8 +95,7 @@ pub(crate) fn store_payload(
             at: target_offset(p.kind, m, entry, region),
             start: p.start,
             size,
-            swap: 0,
-            compare: 0,
+            ..Change::default()
         },
         progress: Progress {
             message: message_after(p.place, m, stored),

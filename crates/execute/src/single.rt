@@ -47,10 +47,9 @@ pub(crate) fn run_atomic(
         change: Change {
             act: atomic_act(p.kind),
             at: table::memory_offset(region, m.address, m.length),
-            start: 0,
-            size: 0,
             swap: p.operands.swap,
             compare: p.operands.compare,
+            ..Change::default()
         },
         progress: whole_message(opened, 1),
         reply: reply::sending(opcode::ATOMIC_ACKNOWLEDGE, p.psn, reply::ACK, 0),

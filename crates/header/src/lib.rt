@@ -29,7 +29,7 @@ pub const OUTPUT_SHORT: u8 = 35;
 pub const BAD_NUMBER: u8 = 39;
 
 // Base transport header.
-#[derive(Clone, Copy)]
+#[derive(Clone, Copy, Default)]
 pub struct Bth {
     pub opcode: u8,
     pub se: bool,
@@ -104,7 +104,9 @@ pub enum Reason {
 impl From<Reason> for u8 {
     ghost from_gives = { λ reason n. n ≡ check_number reason };
 
-    fn from(reason: Reason) -> u8 {
+    fn from(reason: Reason) -> u8
+        ensures { result ≡ check_number reason }
+    {
         match reason {
             Reason::Length => 1,
             Reason::Version => 2,
@@ -131,7 +133,9 @@ pub enum Refusal {
 impl From<Refusal> for u8 {
     ghost from_gives = { λ refusal number. number ≡ refusal_number refusal };
 
-    fn from(refusal: Refusal) -> u8 {
+    fn from(refusal: Refusal) -> u8
+        ensures { result ≡ refusal_number refusal }
+    {
         match refusal {
             Refusal::OutOfRange => OUT_OF_RANGE,
             Refusal::OutputShort => OUTPUT_SHORT,

@@ -8,7 +8,7 @@ ghost use Rattle.pair.specs.Pair.{fresh_pair, blank_pair};
 ghost use Rattle.pair.specs.Host.{outcome, set_up, set_up_regions, reset_to, reset_regions, made_ready, add_status, add_regions, remove_status, remove_regions, posted, post_entries};
 
 use pair::{HostOutcome, Pair, ReadAnswer, Setup, Status};
-use sequence::{Msn, Psn};
+use sequence::Msn;
 use sound::{setup_unfit, setup_unsound, unsound};
 use table::{Entry, Region, Ring};
 
@@ -21,42 +21,23 @@ fn fresh(setup: Setup) -> Pair
         setup,
         state: pair::INIT,
         expected: setup.start,
-        msn: Msn(0),
+        msn: Msn::default(),
         nakmark: false,
         message: pair::no_message(),
-        entries: Ring { head: 0, count: 0 },
-        read: ReadAnswer {
-            remaining: 0,
-            offset: 0,
-            length: 0,
-            psn: Psn(0),
-            msn: Msn(0),
-        },
-        saved: Ring { head: 0, count: 0 },
+        entries: Ring::default(),
+        read: ReadAnswer::default(),
+        saved: Ring::default(),
     }
 }
 
 // What a refused set-up gives instead of a pair: every call that takes a pair refuses it.
+#[tactic(auto, unfolding(pair::specs::Pair::blank_pair, pair::specs::Pair::fresh_pair))]
 pub fn blank() -> Pair
     ensures { result ≡ blank_pair }
 {
-    let setup = Setup {
-        service: 0,
-        pmtu: 0,
-        ours: 0,
-        theirs: 0,
-        pkey: 0,
-        start: Psn(0),
-        timer: 0,
-        send: false,
-        write: false,
-        read: false,
-        atomic: false,
-        memory: 0,
-    };
     Pair {
         state: pair::ERROR,
-        ..fresh(setup)
+        ..fresh(Setup::default())
     }
 }
 

@@ -30,7 +30,7 @@ pub const TIMER_LIMIT: u8 = 31;
 // What set-up is given, and reset brings back: numbers of the connection, the functions that are enabled, and the
 // length of the memory that will be lent. The timer code goes into not-ready NAKs. Here and in the pair large fields
 // stand before small ones: gaps between fields would be copied with them.
-#[derive(Clone, Copy)]
+#[derive(Clone, Copy, Default)]
 pub struct Setup {
     pub pmtu: usize,
     pub memory: usize,
@@ -59,7 +59,7 @@ pub struct OpenMessage {
 
 // A READ that is being answered: how many responses are still to send, the bytes of memory that it reads, the PSN of
 // its first response, and the MSN that all of them carry.
-#[derive(Clone, Copy)]
+#[derive(Clone, Copy, Default)]
 pub struct ReadAnswer {
     pub remaining: usize,
     pub offset: usize,

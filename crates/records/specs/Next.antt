@@ -13,12 +13,12 @@ record_of p = to_be_bytes w16 (length p) ++ p
 abbrev pub IsCut : ℕ → List ℕ → Type 0
 IsCut room xs = (0 < length xs) × (2 ≤ length xs → from_be_bytes w16 xs ≤ room → length xs < 2 + from_be_bytes w16 xs)
 
--- what was read before an error came off the front
+-- what was read, of a record that is cut or before an error, came off the front
 abbrev pub TakesSome : Option (List ℕ) → Option (List ℕ) → Type 0
 TakesSome old new = (bs : List ℕ) × Consumes old new bs
 
 -- what was left, what is left now, the room for the packet, and what was read
 abbrev pub ReadsNext : Option (List ℕ) → Option (List ℕ) → ℕ → Record → Type 0
 ReadsNext old new room (Packet p) = (length p.now ≤ room) × Consumes old new (record_of p.now)
-ReadsNext old new room Cut = IfSome old (IsCut room) × (65535 ≤ room → IsAtEnd new)
+ReadsNext old new room Cut = IfSome old (IsCut room) × TakesSome old new × (65535 ≤ room → IsAtEnd new)
 ReadsNext old new room End = IsAtEnd old × IsAtEnd new

@@ -7,7 +7,7 @@ ghost use Rattle.responder_spec.specs.Decide.{no_completion, no_change, reply_on
 
 use pair::{ReadAnswer, Status};
 use responder_spec::{Change, Completion, Decision, Progress, Reply};
-use sequence::{Msn, Psn};
+use sequence::Psn;
 
 // Syndromes, bytes of the wire: acknowledging sends any. A not-ready NAK's is that plus the timer code.
 pub const ACK: u8 = 0x1f;
@@ -24,13 +24,7 @@ pub const ACCESS: u8 = 0x62;
 pub fn no_completion() -> Completion
     ensures { result ≡ no_completion }
 {
-    Completion {
-        some: false,
-        number: 0,
-        length: 0,
-        immediate: false,
-        value: 0,
-    }
+    Completion::default()
 }
 
 // One packet of this kind, or none.
@@ -41,11 +35,8 @@ pub fn sending(kind: u8, psn: Psn, syndrome: u8, value: u64) -> Reply
         kind,
         psn,
         syndrome,
-        msn: Msn(0),
         value,
-        offset: 0,
-        length: 0,
-        remaining: 0,
+        ..Reply::default()
     }
 }
 
@@ -58,10 +49,10 @@ pub fn read_reply(a: ReadAnswer) -> Reply
         psn: a.psn,
         syndrome: ACK,
         msn: a.msn,
-        value: 0,
         offset: a.offset,
         length: a.length,
         remaining: a.remaining,
+        ..Reply::default()
     }
 }
 
@@ -74,7 +65,7 @@ pub fn read_begun(offset: usize, length: usize, remaining: usize, psn: Psn) -> R
         offset,
         length,
         psn,
-        msn: Msn(0),
+        ..ReadAnswer::default()
     })
 }
 
@@ -84,11 +75,7 @@ pub fn no_change() -> Change
 {
     Change {
         act: responder_spec::NOTHING,
-        at: 0,
-        start: 0,
-        size: 0,
-        swap: 0,
-        compare: 0,
+        ..Change::default()
     }
 }
 

@@ -22,7 +22,7 @@ pub enum RequestCheck {
 
 // What the headers after the BTH say, each number 0 and each flag false where no header has it; swap is also FetchAdd's
 // addend. A flag and no Option: decide::decision promises what comes of every packet, also with a value beside a false one.
-#[derive(Clone, Copy)]
+#[derive(Clone, Copy, Default)]
 pub struct Operands {
     pub address: u64,
     pub key: u32,

@@ -7,7 +7,7 @@ use sequence::{Msn, Psn};
 // The report to the host of a message that took a receive entry: the entry's number, the message's bytes, and the
 // immediate if there is one. Where nothing completes, every number is 0 and every flag false. Flags and no Options: it is
 // part of a Decision, of which apply::pair_after promises what each leaves, also one with numbers beside a false flag.
-#[derive(Clone, Copy)]
+#[derive(Clone, Copy, Default)]
 pub struct Completion {
     pub some: bool,
     pub number: u64,
@@ -29,7 +29,7 @@ pub const CMP_SWAP: u8 = 3;
 // Here and in a pair large fields come before small ones, so that there are no gaps to copy.
 
 // What happens to memory: the act, and where; the payload's start and size in the packet, or an atomic's operands.
-#[derive(Clone, Copy)]
+#[derive(Clone, Copy, Default)]
 pub struct Change {
     pub at: usize,
     pub start: usize,
@@ -55,7 +55,7 @@ pub const NO_PACKET: u8 = 255;
 // What is sent: an ACK or NAK, an Atomic Acknowledge, the responses of a READ, or nothing. Its kind, PSN, syndrome and
 // MSN; an atomic's value; where in memory a READ reads, how many bytes, and how many of its responses are left. The PSN
 // of a READ is that of its first response.
-#[derive(Clone, Copy)]
+#[derive(Clone, Copy, Default)]
 pub struct Reply {
     pub value: u64,
     pub offset: usize,

@@ -6,11 +6,11 @@ ghost use Rattle.std.specs.Prelude.{◌≡◌};
 ghost use Rattle.sequence.specs.Sequence.{distance, psn_after, msn_next, psn_class};
 
 // The number of a packet.
-#[derive(Clone, Copy)]
+#[derive(Clone, Copy, Default)]
 pub struct Psn(pub u32);
 
 // The number of messages completed.
-#[derive(Clone, Copy)]
+#[derive(Clone, Copy, Default)]
 pub struct Msn(pub u32);
 
 // What a packet's number is beside the expected one.

@@ -72,7 +72,7 @@ pub struct Tables<'a> {
 
 // Which rows are in use: count of them, from row head on, after the last the first. Indices and no slices, since the
 // table is the host's (the C interface, fixed memory).
-#[derive(Clone, Copy)]
+#[derive(Clone, Copy, Default)]
 pub struct Ring {
     pub head: usize,
     pub count: usize,

@@ -47,7 +47,7 @@ returns-in-Ok c =
     c.current-m.result c.current-m.ensures kind.result kind.ensures c.expected_check.result c.expected_check.ensures c.in-Ok.is
     ∙
     (λ i. either A.uc A.p s A.pair.expected opened A.pair.entries.count (entry.ensures i)
-    ((region.ensures ∙ ap (λ x. region_for A.p.kind x.key A.tables.regions.now) c.current-m.ensures) i))))
+    ((region.ensures ∙ ap (λ x. region_for A.p.kind x.key A.regions.now) c.current-m.ensures) i))))
 
 pub returns-in-Err-expected_check : goal.returns-in-Err-expected_check
 returns-in-Err-expected_check c =
@@ -61,4 +61,4 @@ returns-in-Err-expected_check c =
     c.in-Err-expected_check.check c.in-Err-expected_check.is
     ∙
     (λ i. either A.uc A.p s A.pair.expected opened A.pair.entries.count (entry.ensures i)
-    ((region.ensures ∙ ap (λ x. region_for A.p.kind x.key A.tables.regions.now) c.current-m.ensures) i))))
+    ((region.ensures ∙ ap (λ x. region_for A.p.kind x.key A.regions.now) c.current-m.ensures) i))))

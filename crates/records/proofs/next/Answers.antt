@@ -24,3 +24,6 @@ returns-clause-ok g c = (search rules, Consumes-record _ _ _ c.fill.new.buf c.fi
 
 pub returns-in_err-fill-2-clause-err : goal.returns-in_err-fill-2-clause-err
 returns-in_err-fill-2-clause-err g c = on_err _ (TakesSome-after _ _ _ _ c.in_ok-fill.ensures.bytes c.in_err-fill-2.ensures.err)
+
+pub returns-then-branch-packet-clause-ok : goal.returns-then-branch-packet-clause-ok
+returns-then-branch-packet-clause-ok g c = (search rules, TakesSome-after _ _ _ _ c.in_ok-fill.ensures.bytes (_, c.in_ok-fill-2.ensures.bytes), search rules)
