@@ -1,5 +1,5 @@
-// The calls of a host, on words that are lent. C lends a pair as a pointer and a length: each call makes the array of it
-// once, and passes that on.
+// The calls of a host, on words that are lent. C lends a pair as a pointer and a length: a call that reads the pair makes
+// the array of it once, and passes that on.
 ghost use Rattle.std.specs.Prelude.{◌≡◌, cond};
 ghost use Rattle.table.specs.declared.Region.{Region};
 ghost use Rattle.table.specs.declared.Entry.{Entry};
