@@ -1,17 +1,10 @@
 // Pairs with a number out of its range, which no call makes.
 ghost use Rattle.std.specs.Prelude.{◌≡◌, ◌||◌};
-ghost use Rattle.table.specs.Table.{outside};
 ghost use Rattle.host_calls.specs.Halves.{numbers_unsound, work_unsound};
 ghost use Rattle.pair.specs.Sound.{setup_unfit, setup_unsound, ring_unsound, send_unsound, message_unsound, read_unsound, counters_unsound, pair_unsound};
 
 use pair::{Pair, Setup};
 use sequence::{Msn, Psn};
-
-fn outside(offset: usize, length: usize, memory: usize) -> bool
-    ensures { result ≡ outside offset length memory }
-{
-    table::outside(offset as u64, length as u64, memory as u64)
-}
 
 // Whether a number of the set-up is bad.
 #[tactic(auto, unfolding(pair::specs::Sound::setup_unfit))]
@@ -81,7 +74,7 @@ fn read_unsound(
 {
     remaining != 0
         && (pmtu::count(length, pmtu) < remaining
-            || outside(offset, length, memory)
+            || table::outside(offset as u64, length as u64, memory as u64)
             || Psn::SPACE <= psn.0
             || Msn::SPACE <= msn.0)
 }
