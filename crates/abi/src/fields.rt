@@ -109,7 +109,8 @@ pub fn extension_from(w: &[u64; 10]) -> Extension
     }
 }
 
-// Words of a RETH with an immediate, of an AtomicETH, and of an AETH with a value, under the number of their class.
+// Words of a RETH with an immediate, of an AtomicETH, and of an AETH with a value, under the number of their class: each
+// written out in the order in which C has them.
 #[tactic(auto, unfolding(abi_spec::specs::Fields::remote_words))]
 fn remote_words(follows: u64, r: Reth, immediate: u32) -> [u64; 10]
     ensures { result ≡ remote_words follows r immediate }

@@ -173,7 +173,7 @@ pub fn pair_said(stray: bool, w: &[u64]) -> Pair
     }
 }
 
-// The words of a pair.
+// The words of a pair. No From: the trait and the types are of other crates.
 #[tactic(auto, unfolding(abi_spec::specs::Pair::pair_words))]
 pub fn pair_words(q: Pair) -> [u64; PAIR]
     ensures { result ≡ pair_words q }

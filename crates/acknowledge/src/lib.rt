@@ -1,6 +1,6 @@
 // The packets that a responder sends: ACKs and NAKs, Atomic Acknowledges, READ responses. `write` writes any of them;
 // inbound sends no READ response, and calls the part of it that writes the others. The definitions stand in the crate
-// responder_spec.
+// responder_spec. Output, set-up and reply stay three arguments: the first is written, and no fact is of all of them.
 #![tactic(auto)]
 
 mod response;

@@ -42,7 +42,7 @@ pub fn change(mem: &mut [u8], packet: &[u8], c: Change, value: u64) -> u64
     value
 }
 
-// Whether an act is that of an atomic.
+// Whether an act is that of an atomic; an opcode's kind is another number (duplicate::is_atomic).
 #[tactic(auto, unfolding(responder_spec::specs::Apply::acts_atomic))]
 pub fn acts_atomic(act: u8) -> bool
     ensures { result ≡ acts_atomic act }

@@ -117,7 +117,8 @@ fn unfit(connection: Connection, carrying: bool, first: Psn) -> bool
         || unserved(carrying, connection.service)
 }
 
-// Which refusal the cut gets before its output is looked at, if any.
+// Which refusal the cut gets before its output is looked at, if any. The arguments stay apart here and below: they are
+// those of cut, and of the definitions.
 fn check_cut(
     connection: Connection,
     request: Request,

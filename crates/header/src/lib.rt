@@ -18,7 +18,7 @@ pub const PKEY_TOP: u16 = 32768;
 // Bytes of the longest packet.
 pub const PACKET_LIMIT: usize = 4128;
 
-// The answer to a packet whose header does not read: a quiet drop.
+// The number of the answer, also to C, to a packet whose header does not read: a quiet drop.
 pub const QUIET_DROP: u8 = 5;
 
 // The numbers of the refusals.
