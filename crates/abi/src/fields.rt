@@ -7,7 +7,7 @@ use crate::{BYTE, KEYS, PKEYS};
 use header::{Aeth, AtomicEth, Bth, Extension, Reth};
 use sequence::{Msn, Psn};
 
-// The headers that follow the BTH, as words.
+// The headers that follow the BTH, as words: numbers, as C has them.
 const RETH: u64 = opcode::RETH as u64;
 
 const RETH_IMMEDIATE: u64 = opcode::RETH_IMMEDIATE as u64;

@@ -31,7 +31,7 @@ const TIMER_LIMIT: u64 = pair::TIMER_LIMIT as u64;
 
 const TIMERS: u64 = TIMER_LIMIT + 1;
 
-// A timer code that no set-up accepts.
+// A timer code that no set-up accepts; the pair that is said is refused for it (timer_said).
 const NO_TIMER: u8 = 255;
 
 // Whether a number of 24 bits is over its range.

@@ -1,4 +1,5 @@
-// Numbers of 2, 3, 4 and 8 bytes, high byte first: one function for each width, as std has a method for each type.
+// Numbers of 2, 3, 4 and 8 bytes, high byte first: one function for each width, as std has a method for
+// each type, and none for 24 bits.
 ghost use Rattle.std.specs.Prelude.{◌≡◌, ◌+◌, ◌<◌, length};
 ghost use Rattle.header.specs.Bytes.{be2, be3, be4, be8};
 

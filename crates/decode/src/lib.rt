@@ -186,7 +186,8 @@ fn packet_of(b: Bth, class: OpcodeClass, operands: Operands, n: usize) -> Packet
 }
 
 // The packet, if its header passes all header checks of a queue pair with these numbers, or the check that failed
-// first. No header is made: its fields go straight into the numbers of the packet.
+// first. No header is made: its fields go straight into the numbers of the packet. Numbers of the pair and no pair, so that
+// a new field of it changes no proof here.
 #[tactic(auto, using(crate::proofs::Room::rooms))]
 pub fn admit(p: &[u8], service: u8, ours: u32, pkey: u16, ready: bool) -> Result<Packet, Reason>
     ensures value { result ≡ admission (admitted service ours pkey ready p.now) (length p.now) }

@@ -87,7 +87,7 @@ fn read(p: Packet, pair: Pair, regions: &[[u64; 7]; table::REGIONS]) -> Decision
 }
 
 // By the kind of the duplicate. Only a READ's key is looked up, and only an atomic's value. What no header says is the
-// caller's mistake.
+// caller's mistake. It reads two of the three tables, and takes no Tables.
 #[tactic(auto, unfolding(responder_spec::specs::Decide::duplicate_decision))]
 pub fn answer(
     pair: Pair,

@@ -72,7 +72,8 @@ fn psns(uc: bool, psn: Psn, expected: Psn) -> usize
     }
 }
 
-// By the kind of a packet that passed every check, of the message m. UC has no READs and atomics: none comes so far.
+// By the kind of a packet that passed every check, of the message m. UC has no READs and atomics: none comes so far. Packet,
+// message, entry and region stay apart here, in message and in single: definitions and bounds speak of each alone.
 #[tactic(auto, unfolding(responder_spec::specs::Decide::execute, responder_spec::specs::Decide::uc_execute))]
 fn execute(
     uc: bool,
@@ -145,7 +146,7 @@ fn open_kind(uc: bool, place: u8, opened: OpenMessage) -> u8
 
 // A packet whose PSN is the expected one, as on UC every PSN is: the request checks, then it is executed. Both services
 // pass here, by a flag and not by a type of each, so that the checks and the executing stand once in the compiled code;
-// apart, a SEND takes some 15 ns longer.
+// apart, a SEND takes some 15 ns longer. It reads two of the three tables, and takes no Tables.
 pub fn decision(
     uc: bool,
     pair: Pair,

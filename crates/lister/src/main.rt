@@ -9,9 +9,6 @@ mod words;
 use records::Record;
 use std::io::{self, BufReader, BufWriter, Read, Write};
 
-// Room for the longest packet that a record can have, of 65,535 bytes.
-const ROOM: usize = 65536;
-
 // Takes every whole record, and counts them. A proved loop has to end, and nothing says that the
 // input does: the count's last number ends it.
 fn take_records<R: Read, W: Write>(input: &mut R, out: &mut W, buf: &mut [u8]) -> io::Result<u64> {
@@ -34,7 +31,7 @@ fn take_records<R: Read, W: Write>(input: &mut R, out: &mut W, buf: &mut [u8]) -
 fn main(rt: HostRuntime) -> io::Result<()> {
     let mut input = BufReader::new(rt.alloc(), rt.reader())?;
     let mut out = BufWriter::new(rt.alloc(), io::writer(&rt))?;
-    let mut buf = [0; ROOM];
+    let mut buf = [0; records::ROOM];
     let whole = take_records(&mut input, &mut out, &mut buf)?;
     writeln!(out, "end {whole}")?;
     out.flush()

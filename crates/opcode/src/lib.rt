@@ -118,6 +118,7 @@ pub struct OpcodeClass {
     pub length: usize,
 }
 
+// The class by cases, which nothing calls since the table below: taking these functions away is a change of its own.
 fn kind_of(low: u8) -> u8
     ensures { result ≡ kind_of low }
 {

@@ -8,6 +8,9 @@ ghost use Rattle.records.specs.Next.{ReadsNext, TakesSome};
 
 use std::io::{self, Read};
 
+// Room for the longest packet that a record can have, of 65,535 bytes.
+pub const ROOM: usize = 65536;
+
 // What comes next in a stream.
 #[derive(Debug, Clone, Copy, PartialEq, Eq)]
 pub enum Record<'a> {
@@ -47,7 +50,7 @@ fn length_of(two: [u8; 2]) -> usize
 }
 
 // Reads the next record, its packet to the start of buf. The loop over records is each program's own: here it would take
-// a closure, and so a `requires` that it may be called.
+// a closure, and so a `requires` that it may be called, or a trait that is longer than both loops.
 pub fn next<'a, R: Read>(input: &mut R, buf: &'a mut [u8]) -> io::Result<Record<'a>>
     ensures ok { IfOk result (ReadsNext (R.remaining input.old) (R.remaining input.new) (length buf.old)) }
     ensures err { OnErr result (TakesSome (R.remaining input.old) (R.remaining input.new)) }

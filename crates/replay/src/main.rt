@@ -9,9 +9,6 @@ use records::Record;
 use setting::Setting;
 use std::io::{self, BufReader, BufWriter, Read, Write};
 
-// Room for the longest packet that a record can have, of 65,535 bytes.
-const ROOM: usize = 65536;
-
 // Takes every whole record, and counts them. A proved loop has to end, and nothing says that the input does: the
 // count's last number ends it.
 fn replay<R: Read, W: Write>(
@@ -45,7 +42,7 @@ fn main(rt: HostRuntime) -> io::Result<()> {
     let mut input = BufReader::new(rt.alloc(), rt.reader())?;
     let mut output = BufWriter::new(rt.alloc(), io::writer(&rt))?;
     let mut setting = Setting::new();
-    let mut buf = [0; ROOM];
+    let mut buf = [0; records::ROOM];
     let whole = replay(&mut input, &mut output, &mut setting, &mut buf)?;
     print::end(&mut output, whole)
 }

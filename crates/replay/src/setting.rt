@@ -54,7 +54,7 @@ fn pair(
 ) -> Pair {
     let fresh = host_calls::set_up(setup(), regions);
     let added = host_calls::add_region(fresh.pair, regions, region());
-    if u8::from(added) != 0 {
+    if added != Status::Executed {
         return host_calls::blank();
     }
     let posted = post_entries(fresh.pair, entries);

@@ -62,7 +62,8 @@ pub fn decided(pair: Pair, tables: Tables, mem: &[u8], packet: &[u8], out: &[u8]
     decide::decision(pair, tables, p)
 }
 
-// Takes a packet: the decision, and what it does to memory, saved atomics, pair and output.
+// Takes a packet: the decision, and what it does to memory, saved atomics, pair and output. The tables stay apart, since
+// saved is written; udalopek_inbound has the same steps on words in place.
 pub fn inbound(
     pair: Pair,
     regions: &[[u64; 7]; table::REGIONS],

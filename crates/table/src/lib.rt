@@ -140,7 +140,7 @@ pub fn free_row(regions: &[[u64; 7]; REGIONS]) -> Option<usize>
     regions.iter().position(|row| row[REGION_LENGTH] == 0)
 }
 
-// The row of a key's region; an empty row where no region has the key.
+// The row of a key's region; an empty row, which has no right and no bytes, where no region has the key (region_of).
 pub fn region_of(regions: &[[u64; 7]; REGIONS], key: u32) -> [u64; 7]
     ensures { result ≡ region_of key regions.now }
 {
