@@ -1,5 +1,5 @@
--- The library's test of two lists is that of words.
-use Rattle.std.proofs.Common.{◌≡◌, ℕ, Bool, true, false, cond, ◌&&◌, List, [], ◌∷◌, eqb, refl, ap, ◌∙◌}
+-- The test of two lists of words: the library's, and lists of other lengths.
+use Rattle.std.proofs.Common.{◌≡◌, ℕ, suc, Bool, true, false, cond, ◌&&◌, List, [], ◌∷◌, eqb, length, refl, ap, ◌∙◌}
 use Rattle.std.specs.Cmp.Lexicographic.{pointwise}
 use Rattle.abi_spec.specs.Words.{eq_words}
 
@@ -13,3 +13,15 @@ pointwise_words (x ∷ xs) (y ∷ ys) = go (eqb x y) ∙ ap (λ t. cond (eqb x y
     go : (b : Bool) → (b && pointwise eqb xs ys) ≡ cond b (pointwise eqb xs ys) false
     go true = refl
     go false = refl
+
+-- lists of other lengths are not the same
+pub other_length_lem : (a b : List ℕ) → (length a ≡ length b → ⊥) → eq_words a b ≡ false
+unfolding eq_words
+other_length_lem [] [] n = absurd (n refl)
+other_length_lem [] (y ∷ ys) n = refl
+other_length_lem (x ∷ xs) [] n = refl
+other_length_lem (x ∷ xs) (y ∷ ys) n = ap (λ b. cond (eqb x y) b false) (other_length_lem xs ys (λ e. n (ap suc e))) ∙ either (eqb x y)
+  where
+    either : (b : Bool) → cond b false false ≡ false
+    either true = refl
+    either false = refl

@@ -17,7 +17,7 @@ use Rattle.memory.proofs.Overwrite.{store-overwrite, store-twice, overwrite-star
 use Rattle.packet.specs.Packet.{pad_of, payload_out, packet_bytes}
 use Rattle.packet.proofs.Pads.{pad-least}
 use Rattle.pmtu.specs.Pieces.{pmtu_fits, pieces, place_at, part_at}
-use Rattle.std.specs.declared.ops.Range.{Range}
+use Rattle.pmtu.specs.declared.Range.{Range}
 use Rattle.pmtu.proofs.Cuts.{parts_within, part_of, at_most}
 use Rattle.pmtu.proofs.Counting.{pmtus, bounds}
 use Rattle.pair.specs.declared.Setup.{Setup}
@@ -129,7 +129,7 @@ sendable s r memory room e = go (pmtu_fits s.pmtu) (ltb room (16 + s.pmtu)) (ltb
 
 -- the next response, from what each function answered
 module _ (s : Setup) (r : Reply) (m out : List ℕ) (S : Sendable s r (length m) (length out)) (i : ℕ) (at : i ≡ index_of r s.pmtu)
-    (x : Range ℕ) (part : x ≡ part_at r.length s.pmtu i) where
+    (x : Range) (part : x ≡ part_at r.length s.pmtu i) where
   pub inside : (x.start ≤ x.end) × (r.offset + x.end ≤ length m)
   inside =
       let P = subst (λ y. (y.start ≤ y.end) × (y.end ≤ r.length)) (sym part) (parts_within r.length s.pmtu i) in

@@ -178,5 +178,5 @@ pub fn cut(
     let h = header_at(connection, request, message.len(), first, index);
     let carried = carried_length(request, message.len());
     let part = pmtu::part(carried, connection.pmtu, index);
-    packet::write(h, &message[part], out)
+    packet::write(h, &message[part.start..part.end], out)
 }

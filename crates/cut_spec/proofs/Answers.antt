@@ -1,6 +1,6 @@
 -- What the counts and the next PSN answer.
 use Prim.Native.Nat.{ℕ, ◌≤◌, ◌<◌}
-use mathlib.Core.Path.{◌≡◌, refl}
+use mathlib.Core.Path.{◌≡◌, refl, ◌∙◌}
 use mathlib.Core.Bool.{Bool, true, false, cond, not}
 use lib.Dec.{leb, ltb}
 use borrow.Author.Tests.{lt-ltb, le-ltb, lt-leb, leb-false, ltb-true, ltb-false}
@@ -84,10 +84,31 @@ unfolding answer_number
 same_number (Ok y) x = refl
 same_number (Err r) x = refl
 
+length-number : (n pmtu : ℕ) → answer_number (check_length n pmtu) ≡ length_refusal n pmtu
+unfolding check_length length_refusal answer_number
+length-number n pmtu = go (pmtu_fits pmtu) (ltb message_limit n)
+  where
+    go : (fits long : Bool) → answer_number {A = ⊤} (cond (not fits) (Err BadNumber) (cond long (Err OutOfRange) (Ok tt)))
+        ≡ cond (not fits) 39 (cond long 34 0)
+    go false long = refl
+    go true true = refl
+    go true false = refl
+
+next-number : (n pmtu psn : ℕ) → answer_number (check_next n pmtu psn) ≡ next_refusal n pmtu psn
+unfolding check_next next_refusal answer_number
+next-number n pmtu psn = go (leb space psn)
+  where
+    go : (over : Bool) → answer_number (cond over (Err BadNumber) (check_length n pmtu)) ≡ cond over 39 (length_refusal n pmtu)
+    go true = refl
+    go false = length-number n pmtu
+
 pub count-numbers : CountNumbers
-unfolding packets_answer responses_answer length_refusal
-count-numbers r n pmtu = (same_number (check_length (message_length r n) pmtu) _, same_number (check_length n pmtu) _)
+unfolding packets_answer responses_answer
+count-numbers r n pmtu =
+    let whole = check_length (message_length r n) pmtu in
+    (same_number whole _ ∙ length-number (message_length r n) pmtu, same_number (check_length n pmtu) _ ∙ length-number n pmtu)
 
 pub next-numbers : NextNumbers
-unfolding next_answer next_refusal
-next-numbers r n pmtu first = same_number (check_next (message_length r n) pmtu first.0) _
+unfolding next_answer
+next-numbers r n pmtu first =
+    same_number (check_next (message_length r n) pmtu first.0) _ ∙ next-number (message_length r n) pmtu first.0

@@ -19,7 +19,7 @@ use Rattle.header.specs.declared.Refusal.{Refusal}
 use Rattle.header.specs.declared.Refusal.TheVariants.{OutOfRange, BadNumber}
 use Rattle.packet.specs.Packet.{packet_written, packet_out}
 use Rattle.pmtu.specs.Pieces.{pmtu_fits, pieces, place_at, piece_at, part_at}
-use Rattle.std.specs.declared.ops.Range.{Range}
+use Rattle.pmtu.specs.declared.Range.{Range}
 use Rattle.pmtu.proofs.Counting.{pmtus}
 use Rattle.pmtu.proofs.Cuts.{parts, parts_within}
 use Rattle.cut_spec.specs.Message.{carries, carried, carried_length, message_length, message_limit, packets_of, check_length}
@@ -52,7 +52,7 @@ module _ (c : Connection) (r : Request) (n : ℕ) (first : Psn) (i : ℕ) (e : c
   pub length-small : (whole : ℕ) → whole ≡ message_length r n → whole ≤ message_limit
   length-small whole q = subst (λ x. x ≤ message_limit) (sym q) P.1
 
-pub header_is : (c : Connection) (r : Request) (n : ℕ) (first : Psn) (i bytes count place low whole : ℕ) (part : Range ℕ) (bth : Bth) (x : Extension)
+pub header_is : (c : Connection) (r : Request) (n : ℕ) (first : Psn) (i bytes count place low whole : ℕ) (part : Range) (bth : Bth) (x : Extension)
     → bytes ≡ carried_length r n → count ≡ pieces bytes c.pmtu → place ≡ place_at count i → part ≡ part_at bytes c.pmtu i
     → low ≡ low_for r place → bth ≡ bth_at c low first i count (part.end - part.start) → whole ≡ message_length r n
     → x ≡ extension_for r whole place
@@ -77,7 +77,7 @@ length-carried r d = go (carries r)
     go false = refl
 
 -- the part of the lent bytes is the piece of what is carried
-abbrev part_of : List ℕ → Range ℕ → List ℕ
+abbrev part_of : List ℕ → Range → List ℕ
 part_of d s = take (s.end - s.start) (drop s.start d)
 
 none : (d : List ℕ) (pmtu i : ℕ) → part_of d (part_at 0 pmtu i) ≡ piece_at [] pmtu i
@@ -95,7 +95,7 @@ part-carried r d pmtu i = go (carries r)
     go true = parts d pmtu i
     go false = none d pmtu i
 
-pub range_inside : (r : Request) (n carried pmtu i : ℕ) (part : Range ℕ) → carried ≡ carried_length r n → part ≡ part_at carried pmtu i
+pub range_inside : (r : Request) (n carried pmtu i : ℕ) (part : Range) → carried ≡ carried_length r n → part ≡ part_at carried pmtu i
     → (part.start ≤ part.end) × (part.end ≤ n)
 unfolding carried_length
 range_inside r n carried pmtu i part o s =
@@ -105,7 +105,7 @@ range_inside r n carried pmtu i part o s =
       subst (λ x. x.end ≤ n) (sym s) (omega (arith, W.1)),
     )
 
-pub whole : (c : Connection) (r : Request) (d out : List ℕ) (first : Psn) (i bytes : ℕ) (h : Header) (part : Range ℕ)
+pub whole : (c : Connection) (r : Request) (d out : List ℕ) (first : Psn) (i bytes : ℕ) (h : Header) (part : Range)
     (a : Result ℕ Refusal) (w : List ℕ) → check_cut c r (length d) first.0 i ≡ Ok tt → h ≡ header_at c r (length d) first i
     → bytes ≡ carried_length r (length d)
     → part ≡ part_at bytes c.pmtu i

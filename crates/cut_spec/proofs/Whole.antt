@@ -5,25 +5,27 @@ use mathlib.Core.Bool.{Bool, true, false, cond}
 use mathlib.Core.List.{List, [], ◌∷◌, ◌++◌}
 use mathlib.Core.Logic.{◌⊎◌, inl, inr}
 use native.Mathlib.Omega.{arith}
+use lib.Dec.{leb, ltb, eqb}
 use lib.ListN.{length, take, drop}
-use Rattle.std.specs.Prelude.{Ok, Err}
+use Rattle.std.specs.Prelude.{Result, Ok, Err, ⊤}
+use Rattle.std.specs.Result.{result_and}
 use Rattle.sequence.specs.declared.Psn.{Psn}
 use Rattle.opcode.specs.Opcode.{low_of}
-use Rattle.header.specs.Write.{header_fits}
+use Rattle.header.specs.Write.{header_fits, answer_number}
 use Rattle.header.specs.declared.Header.{Header}
 use Rattle.header.specs.declared.Refusal.{Refusal}
 use Rattle.header.specs.declared.Refusal.TheVariants.{OutOfRange, OutputShort, BadNumber}
 use Rattle.header.proofs.Checks.{admits}
-use Rattle.packet.specs.Packet.{pad_of, packet_length, packet_written, payload_of}
+use Rattle.packet.specs.Packet.{pad_of, packet_length, packet_written, packet_answer, payload_of}
 use Rattle.packet.specs.Claims.{Found}
 use Rattle.packet.proofs.Bytes.{length-packet}
 use Rattle.packet.proofs.ReadBack.{found, none}
-use Rattle.packet.proofs.Refusals.{lacking}
+use Rattle.packet.proofs.Refusals.{lacking, packet-numbers}
 use Rattle.pmtu.specs.Pieces.{pieces, place_at, piece_at, joined}
 use Rattle.pmtu.proofs.Counting.{pmtus, pmtu-bounds}
 use Rattle.pmtu.proofs.Cuts.{joins, full, rest, at_most}
-use Rattle.cut_spec.specs.Message.{carries, carried, carried_length, packets_of}
-use Rattle.cut_spec.specs.Cut.{low_for, bth_at, header_at, payload_at, cut_bytes, check_cut, cut_answer, cut_written, cut_out}
+use Rattle.cut_spec.specs.Message.{carries, carried, carried_length, message_length, message_limit, packets_of}
+use Rattle.cut_spec.specs.Cut.{low_for, bth_at, header_at, payload_at, cut_bytes, cut_unfit, check_cut, cut_written, cut_refusal, cut_answer, cut_out}
 use Rattle.cut_spec.specs.Claims.{Carrier, Fit, Cuttable, Refuses, CutUnfit, CutOver, CutShort, Cuts}
 use Rattle.cut_spec.specs.Claims.{CutNumbers, CutReads, CutAdmitted, CutPayload, CutPad, CutJoins, CutFull}
 use Rattle.cut_spec.specs.Claims.{CutLast, CutEmpty}
@@ -102,8 +104,25 @@ cuts c r d first i out S l room =
     (e ∙ ap Ok (sym s), rw (e, s))
 
 pub cut-numbers : CutNumbers
-unfolding cut_answer
-cut-numbers c r d first i room = refl
+unfolding cut_written cut_answer check_cut cut_refusal answer_number
+cut-numbers c r d first i room =
+    go (cut_unfit c (carries r) first.0) (ltb message_limit (message_length r (length d))) (leb (packets_of r (length d) c.pmtu) i)
+  where
+    answer : Result ℕ Refusal
+    answer = packet_written (header_at c r (length d) first i) (length (payload_at c r d i)) room
+
+    number : ℕ
+    number = packet_answer (header_at c r (length d) first i) (length (payload_at c r d i)) room
+
+    check : (x y z : Bool) → Result ⊤ Refusal
+    check x y z = cond x (Err BadNumber) (cond y (Err OutOfRange) (cond z (Err OutOfRange) (Ok tt)))
+
+    go : (x y z : Bool) → answer_number (result_and (check x y z) answer)
+        ≡ cond (eqb (cond x 39 (cond y 34 (cond z 34 0))) 0) number (cond x 39 (cond y 34 (cond z 34 0)))
+    go true y z = refl
+    go false true z = refl
+    go false false true = refl
+    go false false false = packet-numbers (header_at c r (length d) first i) (length (payload_at c r d i)) room
 
 pub cut-reads : CutReads
 cut-reads c r d first i S l = reads c r d first i S

@@ -7,7 +7,8 @@ use Rattle.opcode.specs.Opcode.{per_service}
 use Rattle.opcode.specs.Kind as Kind
 use Rattle.opcode.specs.Service as Service
 use Rattle.header.specs.Read.{other_service}
-use Rattle.header.specs.Write.{qpn_space, answer_number}
+use Rattle.header.specs.Refusal.{out_of_range, bad_number}
+use Rattle.header.specs.Write.{qpn_space}
 use Rattle.header.specs.declared.Bth.{Bth}
 use Rattle.header.specs.declared.Reth.{Reth}
 use Rattle.header.specs.declared.AtomicEth.{AtomicEth}
@@ -16,7 +17,7 @@ use Rattle.header.specs.declared.Extension.TheVariants.{Bare, Remote, RemoteImme
 use Rattle.header.specs.declared.Header.{Header}
 use Rattle.header.specs.declared.Refusal.{Refusal}
 use Rattle.header.specs.declared.Refusal.TheVariants.{OutOfRange, BadNumber}
-use Rattle.packet.specs.Packet.{pad_of, packet_bytes, packet_length, packet_written}
+use Rattle.packet.specs.Packet.{pad_of, packet_bytes, packet_length, packet_written, packet_answer}
 use Rattle.opcode.specs.Place.{starts, ends}
 use Rattle.pmtu.specs.Pieces.{pmtu_fits, place_at, piece_at, part_at}
 use Rattle.cut_spec.specs.Message.{carries, carried, carried_length, message_length, message_limit, packets_of}
@@ -132,9 +133,19 @@ cut_written c r d first i room =
     result_and (check_cut c r (length d) first.0 i)
     (packet_written (header_at c r (length d) first i) (length (payload_at c r d i)) room)
 
--- and its number
+-- the number of the refusal before the output is looked at, by the rules, or 0
+unfoldable pub cut_refusal : Connection → Request → ℕ → ℕ → ℕ → ℕ
+cut_refusal c r n psn i =
+    cond (cut_unfit c (carries r) psn) bad_number
+    (cond (ltb message_limit (message_length r n)) out_of_range
+    (cond (leb (packets_of r n c.pmtu) i) out_of_range 0))
+
+-- the answer's number: that, or the packet writer's
 unfoldable pub cut_answer : Connection → Request → List ℕ → Psn → ℕ → ℕ → ℕ
-cut_answer c r d first i room = answer_number (cut_written c r d first i room)
+cut_answer c r d first i room =
+    cond (eqb (cut_refusal c r (length d) first.0 i) 0)
+    (packet_answer (header_at c r (length d) first i) (length (payload_at c r d i)) room)
+    (cut_refusal c r (length d) first.0 i)
 
 -- the output: packet i and what stood behind it, or, refused, as it was
 unfoldable pub cut_out : Connection → Request → List ℕ → Psn → ℕ → List ℕ → List ℕ

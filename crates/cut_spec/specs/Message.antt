@@ -1,7 +1,7 @@
 -- Messages: what a request carries, how long it is, and how many packets and responses it has.
 use Rattle.std.specs.Prelude.{ℕ, Bool, true, false, cond, not, List, [], Result, Ok, Err, ltb, ⊤}
 use Rattle.std.specs.Result.{result_and}
-use Rattle.header.specs.Write.{answer_number}
+use Rattle.header.specs.Refusal.{out_of_range, bad_number}
 use Rattle.header.specs.declared.Refusal.{Refusal}
 use Rattle.header.specs.declared.Refusal.TheVariants.{OutOfRange, BadNumber}
 use Rattle.pmtu.specs.Pieces.{pmtu_fits, pieces}
@@ -47,9 +47,9 @@ packets_of r n pmtu = pieces (carried_length r n) pmtu
 unfoldable pub check_length : ℕ → ℕ → Result ⊤ Refusal
 check_length n pmtu = cond (not (pmtu_fits pmtu)) (Err BadNumber) (cond (ltb message_limit n) (Err OutOfRange) (Ok tt))
 
--- the number of the one that applies, or 0
+-- the number of the one that applies, by the rules, or 0
 unfoldable pub length_refusal : ℕ → ℕ → ℕ
-length_refusal n pmtu = answer_number (check_length n pmtu)
+length_refusal n pmtu = cond (not (pmtu_fits pmtu)) bad_number (cond (ltb message_limit n) out_of_range 0)
 
 -- the answers: how many packets a message has, and how many responses a READ of n bytes
 unfoldable pub packets_answer : Request → ℕ → ℕ → Result ℕ Refusal

@@ -3,11 +3,11 @@ use Rattle.std.specs.Prelude.{ℕ, cond, Result, Ok, Err, leb, ⊤}
 use Rattle.std.specs.Result.{result_and}
 use Rattle.sequence.specs.Sequence.{space, psn_after}
 use Rattle.sequence.specs.declared.Psn.{Psn}
-use Rattle.header.specs.Write.{answer_number}
+use Rattle.header.specs.Refusal.{bad_number}
 use Rattle.header.specs.declared.Refusal.{Refusal}
 use Rattle.header.specs.declared.Refusal.TheVariants.{BadNumber}
 use Rattle.pmtu.specs.Pieces.{pieces}
-use Rattle.cut_spec.specs.Message.{message_length, check_length}
+use Rattle.cut_spec.specs.Message.{message_length, check_length, length_refusal}
 use Rattle.cut_spec.specs.declared.Request.{Request}
 
 -- how many PSNs a message takes: one for each packet, but a READ as many as it has responses
@@ -22,9 +22,9 @@ next_psn r n pmtu first = psn_after first (psns_of r n pmtu)
 unfoldable pub check_next : ℕ → ℕ → ℕ → Result ⊤ Refusal
 check_next n pmtu psn = cond (leb space psn) (Err BadNumber) (check_length n pmtu)
 
--- the number of the one that applies, or 0
+-- the number of the one that applies, by the rules, or 0
 unfoldable pub next_refusal : ℕ → ℕ → ℕ → ℕ
-next_refusal n pmtu psn = answer_number (check_next n pmtu psn)
+next_refusal n pmtu psn = cond (leb space psn) bad_number (length_refusal n pmtu)
 
 -- the answer
 unfoldable pub next_answer : Request → ℕ → ℕ → Psn → Result Psn Refusal

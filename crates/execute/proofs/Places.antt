@@ -1,6 +1,6 @@
 -- What a packet that passed the checks says of the sums made for it.
-use Prim.Native.Nat.{ℕ, ◌+◌, ◌^◌, ◌≤◌, ◌<◌}
-use mathlib.Core.Path.{◌≡◌, refl, ap}
+use Prim.Native.Nat.{ℕ, ◌+◌, ◌-◌, ◌%◌, ◌^◌, ◌≤◌, ◌<◌}
+use mathlib.Core.Path.{◌≡◌, refl, sym, ap, subst, ◌∙◌}
 use mathlib.Core.Bool.{Bool, true, false, cond}
 use mathlib.Core.List.{List}
 use native.Mathlib.Omega.{arith}
@@ -19,6 +19,24 @@ use Rattle.responder_spec.specs.Decide.{target_offset}
 use Rattle.decision_laws.proofs.Codes.{Passed}
 use Rattle.decision_laws.proofs.Inside.{key-inside, own-inside, total, write-total, target-inside}
 use Rattle.execute.specs.Fits.{OffsetFits, TargetFits, Storable, Executable, unformed}
+
+-- where bytes of a kind that goes to a region go, by the remainder that the table's leaf answers
+module _ (kind : ℕ) (m : OpenMessage) (entry region : List ℕ) (k : kind ≡ 0 → ⊥) (needed : ℕ) (s : needed ≡ m.length - m.stored) where
+  elsewhere : target_offset kind m entry region ≡ memory_offset region (m.address + m.stored) needed
+  unfolding target_offset bytes_to_come
+  elsewhere =
+      ap (λ b. cond b (get_or entry 1 0 + m.stored) (memory_offset region (m.address + m.stored) (m.length - m.stored))) (ne_eqb kind 0 k)
+      ∙ ap (memory_offset region (m.address + m.stored)) (sym s)
+
+  pub at_offset : (stored : ℕ) → stored ≡ m.stored → (r : ℕ) → r ≡ memory_offset region (m.address + stored) needed % 2 ^ 64
+      → OffsetFits region (m.address + m.stored) (bytes_to_come m.length m.stored)
+      → r ≡ target_offset kind m entry region
+  unfolding bytes_to_come
+  at_offset stored p r e f =
+      let small : memory_offset region (m.address + m.stored) needed < 2 ^ 64 =
+      subst (λ n. memory_offset region (m.address + m.stored) n < 2 ^ 64) (sym s) f in
+      let own : memory_offset region (m.address + m.stored) needed % 2 ^ 64 ≡ memory_offset region (m.address + m.stored) needed = omega (arith, small) in
+      e ∙ (ap (λ x. memory_offset region (m.address + x) needed % 2 ^ 64) p ∙ (own ∙ sym elsewhere))
 
 -- bytes that a region holds end below 2^64
 held_below : (region : List ℕ) (right memory address n : ℕ) → lacks region right memory address n ≡ false → address + n < addresses

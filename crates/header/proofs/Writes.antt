@@ -1,7 +1,7 @@
 -- What writing answers and leaves, by what it tests.
 use Prim.Native.Nat.{ℕ, ◌+◌, ◌≤◌, ◌<◌}
 use mathlib.Core.Path.{◌≡◌, refl, sym, ap, subst, ◌∙◌}
-use mathlib.Core.Bool.{Bool, true, false}
+use mathlib.Core.Bool.{Bool, true, false, cond}
 use mathlib.Core.List.{List, ◌++◌}
 use native.Mathlib.Omega.{arith}
 use lib.Dec.{ltb}
@@ -92,12 +92,21 @@ pub refusal-numbers : RefusalNumbers
 refusal-numbers = (refl, refl, refl)
 
 pub write-numbers : WriteNumbers
-unfolding write_answer
-write-numbers h n = refl
+unfolding written write_answer answer_number
+write-numbers h n = go (header_fits h) (ltb n (header_length h))
+  where
+    go : (fits short : Bool) → answer_number (cond fits (cond short (Err OutputShort) (Ok (header_length h))) (Err BadNumber))
+        ≡ cond fits (cond short 35 0) 39
+    go false short = refl
+    go true true = refl
+    go true false = refl
 
--- an answer r that is a has the number k of a
-pub told : {A : Type 0} (r a : Result A Refusal) (k : ℕ) → answer_number a ≡ k → r ≡ a → (r ≡ a) × (answer_number r ≡ k)
-told r a k n e = (e, ap answer_number e ∙ n)
+-- an answer r that is a has the number k of a; and what else is promised with it
+pub told : {A : Type 0} (number : A → ℕ) (r a : A) (k : ℕ) → number a ≡ k → r ≡ a → (r ≡ a) × (number r ≡ k)
+told number r a k n e = (e, ap number e ∙ n)
+
+pub numbered : {A B : Type 0} (r a : Result A Refusal) (k : ℕ) → answer_number a ≡ k → (r ≡ a) × B → (r ≡ a) × ((answer_number r ≡ k) × B)
+numbered r a k n e = (e.0, (ap answer_number e.0 ∙ n, e.1))
 
 -- what a `?` hands on is the refusal that it met
 pub handed-on : {A : Type 0} (answer : Result A Refusal) (refusal : Refusal) → IsErrAnd answer (λ r. r ≡ refusal) → answer ≡ Err refusal

@@ -4,7 +4,7 @@ use Rattle.sequence.specs.Sequence.{space, msn_space}
 use Rattle.opcode.specs.Opcode.{class_of, service_of}
 use Rattle.opcode.specs.Follows as Follows
 use Rattle.std.specs.Result.{result_unwrap_or}
-use Rattle.header.specs.Refusal.{refusal_number}
+use Rattle.header.specs.Refusal.{output_short, bad_number, refusal_number}
 use Rattle.header.specs.Bytes.{two, three, four, eight, bit}
 use Rattle.header.specs.Read.{other_service}
 use Rattle.header.specs.declared.Bth.{Bth}
@@ -123,8 +123,9 @@ unfoldable pub answer_number : {A : Type 0} → Result A Refusal → ℕ
 answer_number (Ok x) = 0
 answer_number (Err refusal) = refusal_number refusal
 
+-- the number that writing has by the rules, from its tests alone: the refusal's, or 0
 unfoldable pub write_answer : Header → ℕ → ℕ
-write_answer h n = answer_number (written h n)
+write_answer h n = cond (header_fits h) (cond (ltb n (header_length h)) output_short 0) bad_number
 
 -- how many bytes an answer counts, 0 where it is refused
 abbrev pub done_bytes : Result ℕ Refusal → ℕ

@@ -1,4 +1,6 @@
 // One packet: its header's fields and what writing the header gives back, or why it is dropped.
+ghost use Rattle.std.specs.Prelude.{◌≡◌, true, length, take};
+
 use crate::fields;
 use crate::words::{self, Size};
 use header::{Extension, Header, Reason};
@@ -33,8 +35,14 @@ fn list_payload<W: Write>(out: &mut W, n: usize, pad: u8) -> io::Result<()> {
 }
 
 // Whether as many bytes were written as the headers have, and the packet begins with them.
+fn is_same(written: &[u8], headers: usize, p: &[u8]) -> bool
+    ensures { result ≡ true → (length written.now ≡ headers) × (take headers p.now ≡ written.now) }
+{
+    written.len() == headers && p.starts_with(written)
+}
+
 fn list_written<W: Write>(out: &mut W, written: &[u8], headers: usize, p: &[u8]) -> io::Result<()> {
-    if written.len() == headers && p.starts_with(written) {
+    if is_same(written, headers, p) {
         writeln!(out, "same")
     } else {
         writeln!(out, "DIFFERENT")

@@ -15,6 +15,12 @@ use Rattle.memory.proofs.Overwrite.{store-overwrite, store-past, length-store, s
 pub part_length : (m : List ℕ) (at n : ℕ) → at + n ≤ length m → length (take n (drop at m)) ≡ n
 part_length m at n h = simp (length-take, length-drop) (omega arith)
 
+-- a number of two parts, the low one first
+number_append : (d e : List ℕ) → low_number (d ++ e) ≡ low_number d + 256 ^ length d * low_number e
+unfolding low_number
+number_append [] e = omega arith
+number_append (b ∷ d) e = rw pow-suc (omega (arith, number_append d e))
+
 -- eight bytes are the number that the library reads in them
 pub from_bytes : (d : List ℕ) → length d ≡ 8 → from_le_bytes w64 d ≡ low_number d
 unfolding low_number elements

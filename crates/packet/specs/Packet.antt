@@ -2,7 +2,8 @@
 use Rattle.std.specs.Prelude.{ℕ, ◌+◌, ◌-◌, ◌%◌, Bool, cond, not, List, ◌++◌, Result, Ok, Err, is_ok, ltb, eqb, length, take, drop, replicate}
 use Rattle.memory.specs.Memory.{store}
 use Rattle.header.specs.Read.{header_of, packet_limit}
-use Rattle.header.specs.Write.{header_bytes, header_fits, header_length, answer_number}
+use Rattle.header.specs.Refusal.{out_of_range, output_short, bad_number}
+use Rattle.header.specs.Write.{header_bytes, header_fits, header_length}
 use Rattle.header.specs.declared.Header.{Header}
 use Rattle.header.specs.declared.Refusal.{Refusal}
 use Rattle.header.specs.declared.Refusal.TheVariants.{OutOfRange, OutputShort, BadNumber}
@@ -36,9 +37,17 @@ checked_size unfit padcnt headers n room =
 unfoldable pub packet_written : Header → ℕ → ℕ → Result ℕ Refusal
 packet_written h n room = checked_size (not (header_fits h)) h.bth.pad (header_length h) n room
 
--- and its number
+-- the number of the refusal that applies, by the rules, or 0
+unfoldable pub refusal_by : Bool → ℕ → ℕ → ℕ → ℕ → ℕ
+refusal_by unfit padcnt headers n room =
+    cond unfit bad_number
+    (cond (not (eqb padcnt (pad_of n))) bad_number
+    (cond (ltb packet_limit (headers + (n + pad_of n))) out_of_range
+    (cond (ltb room (headers + (n + pad_of n))) output_short 0)))
+
+-- the same of a header: the answer's number
 unfoldable pub packet_answer : Header → ℕ → ℕ → ℕ
-packet_answer h n room = answer_number (packet_written h n room)
+packet_answer h n room = refusal_by (not (header_fits h)) h.bth.pad (header_length h) n room
 
 -- the output: the packet and what stood behind it, or, refused, as it was
 unfoldable pub packet_out : Header → List ℕ → List ℕ → List ℕ

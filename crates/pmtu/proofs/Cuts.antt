@@ -9,7 +9,7 @@ use lib.ListN.{length, take, drop, length-take, length-drop, take-append-drop, d
 use lib.Seq.{drop-drop, take_all, take-nil, take-take}
 use borrow.Author.Tests.{leb-true, leb-false, eq-eqb, ne_eqb}
 use Rattle.lemmas.proofs.Tests.{cond-le}
-use Rattle.std.specs.declared.ops.Range.{Range}
+use Rattle.pmtu.specs.declared.Range.{Range}
 use Rattle.pmtu.specs.Pieces.{pieces, place_at, piece_at, part_at, joined}
 use Rattle.pmtu.specs.Claims.{Joins, Full, Rest, AtMost, Parts, PartsWithin, Places}
 use Rattle.pmtu.proofs.Counting.{counts, more, begins, begins-inside}
@@ -120,7 +120,7 @@ part-first (suc s) k zero (x ∷ l) h = absurd (omega arith)
 part-first (suc s) k (suc n) (x ∷ l) h = part-first s k n l (omega arith)
 
 -- piece i of the n bytes from o on, by where it begins and ends in all of them
-pub part_of : (l : List ℕ) (o n p i : ℕ) → o + n ≤ length l → (x : Range ℕ) → x ≡ part_at n p i
+pub part_of : (l : List ℕ) (o n p i : ℕ) → o + n ≤ length l → (x : Range) → x ≡ part_at n p i
     → take (o + x.end - (o + x.start)) (drop (o + x.start) l) ≡ piece_at (take n (drop o l)) p i
 unfolding part_at
 part_of l o n p i h x e =

@@ -1,7 +1,7 @@
 -- Bytes cut at the PMTU.
 use Rattle.std.specs.Prelude.{ℕ, zero, suc, ◌+◌, ◌*◌, ◌/◌, ◌%◌, min, Bool, cond, ◌||◌, List, [], ◌++◌, eqb, take, drop}
 use Rattle.opcode.specs.Place as Place
-use Rattle.std.specs.declared.ops.Range.{Range}
+use Rattle.pmtu.specs.declared.Range.{Range}
 
 -- the PMTUs
 unfoldable pub pmtu_fits : ℕ → Bool
@@ -21,7 +21,7 @@ unfoldable pub piece_at : List ℕ → ℕ → ℕ → List ℕ
 piece_at d pmtu i = take pmtu (drop (i * pmtu) d)
 
 -- the same by numbers: from where to where it goes in n bytes
-unfoldable pub part_at : ℕ → ℕ → ℕ → Range ℕ
+unfoldable pub part_at : ℕ → ℕ → ℕ → Range
 part_at n pmtu i = record { start = min (i * pmtu) n; end = min (i * pmtu + pmtu) n }
 
 -- k pieces from i on, put together

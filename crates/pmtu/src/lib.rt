@@ -5,7 +5,12 @@
 ghost use Rattle.std.specs.Prelude.{◌≡◌, not};
 ghost use Rattle.pmtu.specs.Pieces.{pmtu_fits, pieces, place_at, part_at};
 
-use std::ops::Range;
+// A part of the bytes, from start up to, and without, end. The library's Range is not Copy.
+#[derive(Clone, Copy)]
+pub struct Range {
+    pub start: usize,
+    pub end: usize,
+}
 
 // Whether there is no such PMTU.
 #[tactic(auto, unfolding(crate::specs::Pieces::pmtu_fits))]
@@ -45,10 +50,10 @@ pub fn place(count: usize, i: usize) -> u8
 
 // Where piece i of n bytes stands; past the last one, an empty part at the end, and without a PMTU at the start.
 #[tactic(auto, unfolding(crate::specs::Pieces::part_at))]
-pub fn part(n: usize, pmtu: usize, i: usize) -> Range<usize>
+pub fn part(n: usize, pmtu: usize, i: usize) -> Range
     ensures { result ≡ part_at n pmtu i }
 {
     let start = i.saturating_mul(pmtu).min(n);
     let end = start.saturating_add(pmtu).min(n);
-    start..end
+    Range { start, end }
 }

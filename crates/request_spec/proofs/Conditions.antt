@@ -1,6 +1,6 @@
 -- Each request check says its condition.
 use Prim.Native.Nat.{ℕ, ◌+◌, ◌-◌, ◌≤◌, ◌<◌}
-use mathlib.Core.Path.{◌≡◌}
+use mathlib.Core.Path.{◌≡◌, sym, subst}
 use mathlib.Core.Bool.{true, false, cond}
 use mathlib.Core.List.{List}
 use mathlib.Core.Logic.{inl, inr}
@@ -19,15 +19,26 @@ use Rattle.request_spec.specs.Verdict.{entries_waiting, none_waiting, uses_entry
 use Rattle.request_spec.specs.Verdict.{bytes_to_come, key_lacking, key_fails, size_off, total_off, bare_off}
 use Rattle.request_spec.specs.Verdict.{payload_size, lengths_off, current}
 use Rattle.request_spec.specs.Claims.{Carries, Begins, HasMore, Ends, Place, Served}
-use Rattle.request_spec.specs.Claims.{Gives, GivesRest, KeyGood}
+use Rattle.request_spec.specs.Claims.{Waits, Gives, GivesRest, KeyGood}
 use Rattle.request_spec.specs.Claims.{LengthsGood, Tells, CurrentTested, SequenceTested}
 use Rattle.request_spec.specs.Claims.{EnabledTested, PadTested, LimitTested, EntryTested, InsideTested}
 use Rattle.request_spec.specs.Claims.{KeyTested, LengthsTested}
+
+-- a fact at each place
+pub by_place : (P : ℕ → Type 0) → P 0 → P 1 → P 2 → P 4 → (place : ℕ) → Place place → P place
+by_place P a b c d place (inl (inl e)) = subst P (sym e) a
+by_place P a b c d place (inl (inr e)) = subst P (sym e) d
+by_place P a b c d place (inr (inl e)) = subst P (sym e) b
+by_place P a b c d place (inr (inr e)) = subst P (sym e) c
 
 -- first and only
 pub begins-starts : (place : ℕ) → Begins place → starts place ≡ true
 unfolding starts
 begins-starts place b = grind (arith, nat_tests)
+
+pub starts-begins : (place : ℕ) → starts place ≡ true → Begins place
+unfolding starts
+starts-begins place h = grind (arith, nat_tests)
 
 pub current-tested : CurrentTested
 unfolding current starts
@@ -48,6 +59,11 @@ pad-tested place pad P = (λ h m. grind (arith, nat_tests), λ f. grind (arith, 
 pub limit-tested : LimitTested
 unfolding over_limit
 limit-tested length = (ltb-false memory_limit length, le-ltb memory_limit length)
+
+waits-tested : (opened count : ℕ) → Tells (eqb (entries_waiting opened count) 0) (Waits opened count)
+unfolding entries_waiting
+waits-tested opened count =
+    (λ h. record { held = λ u. grind (arith, nat_tests); free = λ u. grind (arith, nat_tests) }, λ W. grind (arith, nat_tests))
 
 pub entry-tested : EntryTested
 unfolding none_waiting needs_entry entries_waiting starts

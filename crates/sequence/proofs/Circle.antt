@@ -10,6 +10,10 @@ use Rattle.sequence.specs.Claims.{order, msn_of, ClassIsOrder, TooFarBehind, Dis
 use Rattle.sequence.specs.declared.Msn.{Msn}
 use Rattle.sequence.specs.declared.Class.TheVariants.{Expected, Ahead, Duplicate}
 
+-- summing remainders, which no machine word overflows, is going on
+pub reduced : (number n : ℕ) → (number % 16777216 + n % 16777216) % 16777216 ≡ after number n
+reduced number n = omega arith
+
 pub after-below : AfterBelow
 after-below psn n = omega arith
 
