@@ -7,7 +7,7 @@ use native.Mathlib.Omega.{arith}
 use lib.ListN.{length, take, drop}
 use lib.Seq.{take-nil, drop-nil}
 use borrow.Author.Tests.{lt-leb}
-use Rattle.std.specs.Prelude.{Result, Ok, Err, ⊤}
+use Rattle.std.specs.Prelude.{Result, Ok, Err}
 use Rattle.lemmas.proofs.Tests.{not-false, cond-le}
 use Rattle.sequence.specs.Sequence.{space}
 use Rattle.sequence.specs.declared.Psn.{Psn}
@@ -16,13 +16,12 @@ use Rattle.header.specs.declared.Bth.{Bth}
 use Rattle.header.specs.declared.Extension.{Extension}
 use Rattle.header.specs.declared.Header.{Header}
 use Rattle.header.specs.declared.Refusal.{Refusal}
-use Rattle.header.specs.declared.Refusal.TheVariants.{OutOfRange, BadNumber}
 use Rattle.packet.specs.Packet.{packet_written, packet_out}
 use Rattle.pmtu.specs.Pieces.{pmtu_fits, pieces, place_at, piece_at, part_at}
 use Rattle.pmtu.specs.declared.Range.{Range}
 use Rattle.pmtu.proofs.Counting.{pmtus}
 use Rattle.pmtu.proofs.Cuts.{parts, parts_within}
-use Rattle.cut_spec.specs.Message.{carries, carried, carried_length, message_length, message_limit, packets_of, check_length}
+use Rattle.cut_spec.specs.Message.{carries, carried, carried_length, message_length, message_limit, packets_of}
 use Rattle.cut_spec.specs.Cut.{unserved, cut_unfit, check_cut, low_for, extension_for, bth_at, size_at, header_at, payload_at, cut_bytes, cut_written, cut_out}
 use Rattle.cut_spec.specs.Claims.{Fit}
 use Rattle.cut_spec.specs.declared.Connection.{Connection}

@@ -88,6 +88,18 @@ was-written h out n e = go (header_fits h) (ltb (length out) (header_length h)) 
         record { good = p; size = cc; room = room }
 
 -- the numbers
+over : (h : Header) (n : ℕ) → header_fits h ≡ false → write_answer h n ≡ 39
+unfolding write_answer
+over h n e = rw e
+
+lacking : (h : Header) (n : ℕ) → header_fits h ≡ true → n < header_length h → write_answer h n ≡ 35
+unfolding write_answer
+lacking h n e l = rw (e, lt-ltb n (header_length h) l)
+
+pub fine : (h : Header) (n : ℕ) → header_fits h ≡ true → header_length h ≤ n → write_answer h n ≡ 0
+unfolding write_answer
+fine h n e l = rw (e, le-ltb n (header_length h) l)
+
 pub refusal-numbers : RefusalNumbers
 refusal-numbers = (refl, refl, refl)
 
