@@ -107,5 +107,5 @@ read-by p h o e = (read-outcome (read_checks p) p 0 o).0 refl ∙ ap Ok e
 
 pub read-numbers : ReadNumbers
 unfolding read_by read_number read_check
-read-numbers (Ok x) p = (refl, refl)
-read-numbers (Err why) p = (sym (ap (λ b. cond b 0 5) (some-number why)), refl)
+read-numbers (Ok x) p = (refl, refl, refl, λ why. refl)
+read-numbers (Err why) p = (sym (ap (λ b. cond b 0 5) (some-number why)), refl, refl, λ why. refl)

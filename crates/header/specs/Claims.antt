@@ -2,7 +2,7 @@
 use Rattle.std.specs.Prelude.{ℕ, ◌+◌, ◌%◌, ◌^◌, ◌≤◌, ◌<◌, Bool, true, cond, ◌≡◌, List, ◌++◌, ◌⊎◌, Result, Ok, eqb, length, get_or, take, drop, Err}
 use Rattle.opcode.specs.Opcode.{class_of, service_of, low_of}
 use Rattle.header.specs.Bytes.{Bytes}
-use Rattle.header.specs.Read.{header_of, read_by, read_number, read_check, read_header}
+use Rattle.header.specs.Read.{header_of, check_number, read_by, read_number, read_check, read_header}
 use Rattle.header.specs.Write.{header_fits, header_length, header_bytes, write_answer, written, answer_number, written_out}
 use Rattle.header.specs.Check.{pkeys_match, admitted}
 use Rattle.header.specs.Layout.{whole_length, after_in, after_opcode}
@@ -106,7 +106,10 @@ ReadsWritable = (p : List ℕ) → Bytes p → (h : Header) → read_header p �
 abbrev pub ReadNumbers : Type 0
 ReadNumbers =
     (found : Result (Unit {0}) Reason) (p : List ℕ)
-    → (read_number (read_by found p) ≡ cond (eqb (read_check found) 0) 0 5) × (read_check (read_by found p) ≡ read_check found)
+    → (read_number (read_by found p) ≡ cond (eqb (read_check found) 0) 0 5)
+    × (read_check (read_by found p) ≡ read_check found)
+    × (read_check (read_by (Ok tt) p) ≡ 0)
+    × ((why : Reason) → read_check (read_by (Err why) p) ≡ check_number why)
 
 -- Each refusal has the number of the rules.
 abbrev pub RefusalNumbers : Type 0
